@@ -1,0 +1,40 @@
+// The units of document 01, "Units": each quantity is a type of its own, and a product is made only here.
+ghost use mathlib.Core.Path.{_≡_};
+ghost use Prim.Native.Nat.{_*_, _≤_};
+ghost use Rattle.units.specs.Units.{ticks};
+ghost use Rattle.units.specs.Limits.{maxPrice, maxTierRate, maxHalfKwh};
+
+// Whole kWh: a number of the year sheet, or a sum of such numbers over at most twelve months.
+pub struct Kwh(pub u32);
+
+// Whole kWh of any size that a caller brings: an estimate, and a half as the amount of an advance takes it.
+pub struct WideKwh(pub u64);
+
+// A price or a rate, in hundred-thousandths of a euro per kWh.
+pub struct Rate(pub u64);
+
+// Hundred-thousandths of a euro (document 01's tick).
+pub struct Ticks(pub u64);
+
+// The number by which callers name a user.
+pub struct UserNumber(pub u32);
+
+// The place of a record in the book.
+pub struct RecordIndex(pub u32);
+
+// Energy of the sheet, times a price or a tier rate.
+pub fn priced(energy: Kwh, price: Rate) -> Ticks
+    requires { ⌜ price .0 ≤ maxTierRate ⌝ }
+    ensures { λ r. ⌜ r ≡ ticks (energy .0 * price .0) ⌝ }
+{
+    Ticks((energy.0 as u64) * price.0)
+}
+
+// The energy of a half year, times the rate of an advance.
+pub fn priced_half(energy: WideKwh, price: Rate) -> Ticks
+    requires { ⌜ energy .0 ≤ maxHalfKwh ⌝ }
+    requires { ⌜ price .0 ≤ maxPrice ⌝ }
+    ensures { λ r. ⌜ r ≡ ticks (energy .0 * price .0) ⌝ }
+{
+    Ticks(energy.0 * price.0)
+}
