@@ -61,6 +61,16 @@ pub any-step : (n : ℕ) (p : ℕ → Bool) → anyBelow (n + 1) p ≡ (anyBelow
 unfolding anyBelow
 any-step n p = rw add-one refl
 
+-- a running sum or test, taken one step further
+pub sum-next : (n : ℕ) (f : ℕ → ℕ) {acc t : ℕ} → acc ≡ sumBelow n f → t ≡ f n → acc + t ≡ sumBelow (n + 1) f
+sum-next n f p q = ap₂ _+_ p q ∙ sym (sum-step n f)
+
+pub all-next : (n : ℕ) (p : ℕ → Bool) {acc t : Bool} → acc ≡ allBelow n p → t ≡ p n → (acc && t) ≡ allBelow (n + 1) p
+all-next n p a b = ap₂ _&&_ a b ∙ sym (all-step n p)
+
+pub any-next : (n : ℕ) (p : ℕ → Bool) {acc t : Bool} → acc ≡ anyBelow n p → t ≡ p n → (acc || t) ≡ anyBelow (n + 1) p
+any-next n p a b = ap₂ _||_ a b ∙ sym (any-step n p)
+
 -- what holds below n and at n holds below suc n
 pub below-suc : (P : ℕ → Type 0) (n : ℕ) → ((i : ℕ) → i < n → P i) → P n → (i : ℕ) → i < suc n → P i
 below-suc P n h l i b = either (decLt i n)

@@ -22,6 +22,10 @@ pub struct UserNumber(pub u32);
 // The place of a record in the book.
 pub struct RecordIndex(pub u32);
 
+// The limits of a year sheet's numbers (document 01, "Year sheet").
+pub const MAX_KWH: u32 = 20_000_000;
+pub const MAX_PRICE: u64 = 500_000;
+
 // Energy of the sheet, times a price or a tier rate.
 pub fn priced(energy: Kwh, price: Rate) -> Ticks
     requires { ⌜ price .0 ≤ maxTierRate ⌝ }

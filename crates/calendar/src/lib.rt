@@ -1,0 +1,4 @@
+pub struct Halves {
+    pub first: bool,
+    pub second: bool,
+}

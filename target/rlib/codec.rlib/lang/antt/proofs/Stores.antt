@@ -1,0 +1,62 @@
+-- Laws of a store: the bytes stored are read back, and bytes before and after it stay.
+use Prim.Native.Nat.{ℕ, zero, suc, _+_, _-_, _^_, _≤_, _<_}
+use mathlib.Core.Path.{_≡_, refl, sym, ap, _∙_}
+use mathlib.Core.List.{List, [], _∷_, _++_, append-assoc}
+use native.Mathlib.Nat.{sub-zero}
+use native.Mathlib.Omega.{arith}
+use lib.ListN.{length, getD, take, drop, length-append, length-take, length-drop}
+use lib.Seq.{take-append-le, drop-append-le, take-at, drop-at, length-take-le, sets, sets-eq, take-take, drop-append-add, drop-drop, take-nil, drop-nil}
+use Rattle.codec.specs.Bytes.{littleEndian, bytesOf, part, number, stored}
+use Rattle.codec.proofs.Numbers.{length-bytes, bytes-value}
+
+pub length-stored : (at : ℕ) (bs s : List ℕ) → at + length bs ≤ length s → length (stored at bs s) ≡ length s
+unfolding stored
+length-stored at bs s h = simp (length-append, length-take, length-drop) (omega arith)
+
+-- what straight stores of the bytes one after the other leave
+pub sets-stored : (at : ℕ) (bs s : List ℕ) → at + length bs ≤ length s → sets s at bs ≡ stored at bs s
+unfolding stored
+sets-stored at bs s h = sets-eq bs s at h ∙ append-assoc (take at s) bs (drop (at + length bs) s)
+
+pub part-stored : (at : ℕ) (bs s : List ℕ) → at ≤ length s → part (length bs) at (stored at bs s) ≡ bs
+unfolding part stored
+part-stored at bs s h =
+    ap (take (length bs)) (drop-at (take at s) (bs ++ drop (at + length bs) s) at (length-take-le at s h))
+    ∙ take-at bs (drop (at + length bs) s) (length bs) refl
+
+drop-take : (o at : ℕ) (s : List ℕ) → drop o (take at s) ≡ take (at - o) (drop o s)
+drop-take zero at s = rw sub-zero
+drop-take (suc o) zero s = let none : 0 - suc o ≡ 0 = omega arith in rw none
+drop-take (suc o) (suc at) [] = sym (take-nil (suc at - suc o))
+drop-take (suc o) (suc at) (x ∷ s) = let less : suc at - suc o ≡ at - o = omega arith in rw less (drop-take o at s)
+
+-- a part that ends before the store, and one that begins after it
+pub part-before : (w o at : ℕ) (bs s : List ℕ) → o + w ≤ at → at ≤ length s → part w o (stored at bs s) ≡ part w o s
+unfolding part stored
+part-before w o at bs s h l =
+    let reach : o ≤ length (take at s) = rw length-take (omega arith) in
+    ap (take w) (drop-append-le o (take at s) (bs ++ drop (at + length bs) s) reach)
+    ∙ take-append-le w (drop o (take at s)) (bs ++ drop (at + length bs) s) (simp (length-drop, length-take) (omega arith))
+    ∙ ap (take w) (drop-take o at s)
+    ∙ take-take w (at - o) (drop o s) (omega arith)
+
+pub part-after : (w o at : ℕ) (bs s : List ℕ) → at + length bs ≤ o → at ≤ length s → part w o (stored at bs s) ≡ part w o s
+unfolding part stored
+part-after w o at bs s h l =
+    let end : length (take at s ++ bs) ≡ at + length bs = simp (length-append, length-take) (omega arith) in
+    let reach : o ≡ length (take at s ++ bs) + (o - (at + length bs)) = rw end (omega arith) in
+    let rest : (at + length bs) + (o - (at + length bs)) ≡ o = omega arith in
+    ap (take w)
+    (ap (drop o) (sym (append-assoc (take at s) bs (drop (at + length bs) s)))
+    ∙ ap (λ (k : ℕ). drop k ((take at s ++ bs) ++ drop (at + length bs) s)) reach
+    ∙ drop-append-add (take at s ++ bs) (drop (at + length bs) s) (o - (at + length bs))
+    ∙ drop-drop (o - (at + length bs)) (at + length bs) s
+    ∙ ap (λ (k : ℕ). drop k s) rest)
+
+-- the number written is the number read
+pub number-stored : (w at n : ℕ) (s : List ℕ) → n < 256 ^ w → at ≤ length s → number w at (stored at (bytesOf w n) s) ≡ n
+unfolding number
+number-stored w at n s h l =
+    ap (λ (k : ℕ). littleEndian (part k at (stored at (bytesOf w n) s))) (sym (length-bytes w n))
+    ∙ ap littleEndian (part-stored at (bytesOf w n) s l)
+    ∙ bytes-value w n h

@@ -1,0 +1,3 @@
+pub mod Products
+pub mod Bools
+pub mod Folds
