@@ -1,11 +1,11 @@
 -- Laws of numbers in bytes: a number is worked from the bytes one by one, and writing and reading give it back.
-use Prim.Native.Nat.{ℕ, zero, suc, _+_, _*_, _/_, _%_, _^_, _≤_, _<_}
+use Prim.Native.Nat.{ℕ, zero, suc, _+_, _-_, _*_, _/_, _%_, _^_, _≤_, _<_}
 use mathlib.Core.Path.{_≡_, refl, sym, ap, ap₂, _∙_}
 use mathlib.Core.List.{List, [], _∷_, _++_}
-use native.Mathlib.Nat.{add-zero, add-assoc, pow-suc}
+use native.Mathlib.Nat.{add-zero, add-assoc, pow-suc, sub-zero}
 use native.Mathlib.Omega.{arith}
 use lib.ListN.{length, getD, take, drop}
-use lib.Seq.{getD-drop, take-nil}
+use lib.Seq.{getD-drop, take-nil, take-take, drop-drop}
 use Rattle.codec.specs.Bytes.{littleEndian, bytesOf, part, number}
 
 -- f 0, f 1, .. f (n − 1)
@@ -65,3 +65,17 @@ number-four at s = rw (number-bytes 4 at s, add-zero at) (omega arith)
 pub number-eight : (at : ℕ) (s : List ℕ) → number 8 at s ≡ number 4 at s + number 4 (at + 4) s * 4294967296
 unfolding littleEndian
 number-eight at s = simp (number-bytes, add-assoc) (omega arith)
+
+pub drop-take : (o at : ℕ) (s : List ℕ) → drop o (take at s) ≡ take (at - o) (drop o s)
+drop-take zero at s = rw sub-zero
+drop-take (suc o) zero s = let none : 0 - suc o ≡ 0 = omega arith in rw none
+drop-take (suc o) (suc at) [] = sym (take-nil (suc at - suc o))
+drop-take (suc o) (suc at) (x ∷ s) = let less : suc at - suc o ≡ at - o = omega arith in rw less (drop-take o at s)
+
+-- a number within a part is a number of the whole
+pub number-part : (w o n at : ℕ) (s : List ℕ) → o + w ≤ n → number w o (part n at s) ≡ number w (at + o) s
+unfolding number part
+number-part w o n at s h =
+    ap littleEndian
+    (ap (take w) (drop-take o n (drop at s) ∙ ap (take (n - o)) (drop-drop o at s))
+    ∙ take-take w (n - o) (drop (at + o) s) (omega arith))

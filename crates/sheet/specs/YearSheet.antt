@@ -124,3 +124,8 @@ pub record FaultAt (s : List ℕ) (month place : ℕ) : Type 0 where
 abbrev pub FirstFault : List ℕ → Fault → Type 0
 FirstFault s Nowhere = (m : ℕ) → m < 12 → (p : ℕ) → p < 23 → atFault s m p ≡ false
 FirstFault s (At month place) = FaultAt s month place
+
+-- a sheet that has passed 11 and 13
+pub record Passed (s : List ℕ) : Type 0 where
+  pub past11 : refused11 s ≡ false
+  pub past13 : refused13 s ≡ false

@@ -1,3 +1,4 @@
 pub mod Products
 pub mod Bools
 pub mod Folds
+pub mod Filled

@@ -1,1 +1,2 @@
 pub mod YearsValues
+pub mod Arrays

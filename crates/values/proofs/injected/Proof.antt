@@ -1,0 +1,24 @@
+-- The rows of the sheet, month by month.
+use mathlib.Core.Path.{_∙_, ap}
+use denote.Ref.{now}
+use lib.Dec.{lit≤}
+use Rattle.units.specs.Units.{kwh}
+use Rattle.values.specs.YearsValues.{monthInjected}
+use Rattle.values.specs.Arrays.{rowTotal}
+use Rattle.values.proofs.SheetRows.{energies-fit}
+use borrow.Author.Needs.{needs}
+use Rattle.values.proofs.injected.Statement.{statement}
+use Rattle.values.proofs.injected.Tie as tie
+
+energies-requires : tie.Need-energies-requires
+energies-requires c κs = search needs
+
+month-totals-requires : tie.Need-month-totals-requires
+month-totals-requires c κs = energies-fit (now (c .before .before .args .s)) (c .before .before .pre) 3 (lit≤ tt) (c .energies .result) (c .energies .ensures)
+
+returns : tie.Need-returns
+unfolding monthInjected rowTotal
+returns c = λ m l. c .month-totals .ensures m l ∙ rw (c .before .energies .ensures m l)
+
+pub injected-spec : {M : Type 1} → statement M
+injected-spec = tie.close (tie.spec energies-requires month-totals-requires returns)

@@ -1,0 +1,10 @@
+pub struct Kwh ( pub u32 ) ;
+pub struct WideKwh ( pub u64 ) ;
+pub struct Rate ( pub u64 ) ;
+pub struct Ticks ( pub u64 ) ;
+pub struct UserNumber ( pub u32 ) ;
+pub struct RecordIndex ( pub u32 ) ;
+pub const MAX_KWH : u32 = 20_000_000 ;
+pub const MAX_PRICE : u64 = 500_000 ;
+pub fn priced ( energy : Kwh , price : Rate ) -> Ticks ;
+pub fn priced_half ( energy : WideKwh , price : Rate ) -> Ticks ;

@@ -1,0 +1,131 @@
+-- "Year sheet" of document 01: the sheet's fields as numbers of its bytes, and what refusals 11, 13 and 14 look at.
+-- Months are counted from 0, bands F1 F2 F3 and tiers 1–4 from 0. A number past the end of the bytes is 0.
+use Prim.Native.Nat.{ℕ, _+_, _-_, _*_, _≤_, _<_}
+use mathlib.Core.Path.{_≡_}
+use mathlib.Core.Bool.{Bool, true, false, cond, not, _&&_, _||_}
+use mathlib.Core.List.{List}
+use lib.Dec.{leb, ltb, eqb}
+use lib.ListN.{length, getD}
+use Rattle.units.specs.Limits.{maxKwh, maxPrice}
+use Rattle.units.specs.Folds.{allBelow, anyBelow}
+use Rattle.codec.specs.Bytes.{number}
+use Rattle.tariff.specs.Tariff.{domestic, monthlyThreshold}
+use Rattle.sheet.specs.declared.Fault.{Fault}
+use Rattle.sheet.specs.declared.Fault.the-variants.{Nowhere, At}
+
+-- "1,184 bytes. Header of 32 .. Then twelve months of 24 numbers of 32 bits"
+abbrev pub sheetLength : ℕ
+sheetLength = 1184
+
+-- "0–3 user number, 4–5 year, 6 withdrawn reading, 7 injected reading (0 single, 1 by bands)"
+abbrev pub sheetUser : List ℕ → ℕ
+sheetUser s = number 4 0 s
+
+abbrev pub sheetYear : List ℕ → ℕ
+sheetYear s = number 2 4 s
+
+unfoldable pub withdrawnReading : List ℕ → ℕ
+withdrawnReading s = number 1 6 s
+
+unfoldable pub injectedReading : List ℕ → ℕ
+injectedReading s = number 1 7 s
+
+abbrev pub byBands : ℕ → Bool
+byBands reading = eqb reading 1
+
+-- the number at a place of a month
+unfoldable pub word : List ℕ → ℕ → ℕ → ℕ
+word s month place = number 4 (32 + 96 * month + 4 * place) s
+
+-- "withdrawn F1 F2 F3, injected F1 F2 F3, PUN F1 F2 F3, PUN mean, zone F1 F2 F3, zone mean, zone mean of hours 8–20,
+-- net rate of tiers 1–4, system rate of tiers 1–4, zero"
+abbrev pub withdrawn : List ℕ → ℕ → ℕ → ℕ
+withdrawn s m band = word s m band
+
+abbrev pub injected : List ℕ → ℕ → ℕ → ℕ
+injected s m band = word s m (3 + band)
+
+abbrev pub pun : List ℕ → ℕ → ℕ → ℕ
+pun s m band = word s m (6 + band)
+
+abbrev pub punMean : List ℕ → ℕ → ℕ
+punMean s m = word s m 9
+
+abbrev pub zone : List ℕ → ℕ → ℕ → ℕ
+zone s m band = word s m (10 + band)
+
+abbrev pub zoneMean : List ℕ → ℕ → ℕ
+zoneMean s m = word s m 13
+
+-- the zone's mean of hours 8–20
+abbrev pub zoneDayMean : List ℕ → ℕ → ℕ
+zoneDayMean s m = word s m 14
+
+abbrev pub net : List ℕ → ℕ → ℕ → ℕ
+net s m tier = word s m (15 + tier)
+
+abbrev pub system : List ℕ → ℕ → ℕ → ℕ
+system s m tier = word s m (19 + tier)
+
+abbrev pub lastWord : List ℕ → ℕ → ℕ
+lastWord s m = word s m 23
+
+-- 11: "sheet length, header or zero word wrong"
+unfoldable pub headerFits : List ℕ → Bool
+headerFits s =
+    (leb (withdrawnReading s) 1 && leb (injectedReading s) 1) && allBelow 24 (λ i. eqb (getD s (8 + i) 0) 0)
+
+unfoldable pub lastWordsFit : List ℕ → Bool
+lastWordsFit s = allBelow 12 (λ m. eqb (lastWord s m) 0)
+
+unfoldable pub refused11 : List ℕ → Bool
+refused11 s = not (eqb (length s) sheetLength && (headerFits s && lastWordsFit s))
+
+-- 13: "number above its limit, or a single reading's kWh F2 or F3 not zero". Places 0–5 of a month are kWh, 6–22 prices
+-- and rates.
+unfoldable pub limitAt : ℕ → ℕ
+limitAt place = cond (ltb place 6) maxKwh maxPrice
+
+unfoldable pub aboveLimit : List ℕ → ℕ → ℕ → Bool
+aboveLimit s m place = ltb (limitAt place) (word s m place)
+
+unfoldable pub unusedBand : List ℕ → ℕ → Bool
+unusedBand s place =
+    (not (byBands (withdrawnReading s)) && (eqb place 1 || eqb place 2))
+    || (not (byBands (injectedReading s)) && (eqb place 4 || eqb place 5))
+
+unfoldable pub strayBand : List ℕ → ℕ → ℕ → Bool
+strayBand s m place = unusedBand s place && not (eqb (word s m place) 0)
+
+unfoldable pub atFault : List ℕ → ℕ → ℕ → Bool
+atFault s m place = aboveLimit s m place || strayBand s m place
+
+unfoldable pub refused13 : List ℕ → Bool
+refused13 s = anyBelow 12 (λ m. anyBelow 23 (λ place. atFault s m place))
+
+-- 14: "class 1 or 2 with a month above 4,000,000 withdrawn"
+unfoldable pub monthWithdrawn : List ℕ → ℕ → ℕ
+monthWithdrawn s m = withdrawn s m 0 + withdrawn s m 1 + withdrawn s m 2
+
+unfoldable pub refused14 : ℕ → List ℕ → Bool
+refused14 class s = domestic class && anyBelow 12 (λ m. ltb monthlyThreshold (monthWithdrawn s m))
+
+-- The first number at fault, months and places counted from 1: it is at fault, and none before it is, in its month or in
+-- a month before
+pub record FaultAt (s : List ℕ) (month place : ℕ) : Type 0 where
+  pub monthFrom1 : 1 ≤ month
+  pub monthTo12 : month ≤ 12
+  pub placeFrom1 : 1 ≤ place
+  pub placeTo23 : place ≤ 23
+  pub here : atFault s (month - 1) (place - 1) ≡ true
+  pub notBefore : (p : ℕ) → p < place - 1 → atFault s (month - 1) p ≡ false
+  pub noMonthBefore : (m : ℕ) → m < month - 1 → (p : ℕ) → p < 23 → atFault s m p ≡ false
+
+abbrev pub FirstFault : List ℕ → Fault → Type 0
+FirstFault s Nowhere = (m : ℕ) → m < 12 → (p : ℕ) → p < 23 → atFault s m p ≡ false
+FirstFault s (At month place) = FaultAt s month place
+
+-- a sheet that has passed 11 and 13
+pub record Passed (s : List ℕ) : Type 0 where
+  pub past11 : refused11 s ≡ false
+  pub past13 : refused13 s ≡ false
