@@ -1,10 +1,11 @@
 -- An account by value, and what an election, an advance and a closing make of it ("Closing", "Election and advances").
-use Prim.Native.Nat.{ℕ, _+_}
-use mathlib.Core.Bool.{Bool, true, false, cond}
+use Prim.Native.Nat.{ℕ, _+_, _-_, _*_, _≤_, _<_}
+use mathlib.Core.Bool.{cond}
 use lib.IntN.{ℤ}
 use mir.Syntax.{w64}
 use mir.Val.{ofZ}
-use Rattle.units.specs.Units.{ticks, kwh}
+use Rattle.units.specs.Units.{ticks}
+use Rattle.units.specs.Limits.{maxYearTicks, maxFlatRate, firstActivation, lastOpenYear}
 use Rattle.values.specs.declared.YearValues.{YearValues}
 use Rattle.account.specs.declared.Account.{Account}
 use Rattle.account.specs.declared.Balance.{Balance}
@@ -42,7 +43,7 @@ settlementOf option k a c o f =
     record {
       contribution = ticks (contributionOf option k c o f);
       balance = balanceBits (balanceOf (contributionOf option k c o f) a);
-      outcome = outcomeOf option k c o
+      outcome = outcomeOf option k c o;
     }
 
 -- "An election sets the option of the open year a and those after it."
@@ -57,7 +58,7 @@ accountElected option a =
       credit = a .credit;
       advances = a .advances;
       half1 = a .half1;
-      half2 = a .half2
+      half2 = a .half2;
     }
 
 -- "Each run adds one entry, joins the advances field and sets its bit." The bit is not set before.
@@ -72,7 +73,7 @@ accountAdvanced run paid a =
       credit = a .credit;
       advances = ticks (a .advances .0 + paid);
       half1 = a .half1;
-      half2 = a .half2
+      half2 = a .half2;
     }
 
 -- "Then A and the runs become 0, the halves become the sums of the months' exchanged kWh, and the open year rises by
@@ -88,7 +89,7 @@ accountClosed v a =
       credit = ticks (creditAfter (a .option) (a .credit .0) (v .value .0) (v .cost .0));
       advances = ticks 0;
       half1 = v .half1;
-      half2 = v .half2
+      half2 = v .half2;
     }
 
 unfoldable pub closedOf : YearValues → Account → Closed
@@ -96,5 +97,17 @@ closedOf v a =
     record {
       account = accountClosed v a;
       settlement =
-      settlementOf (a .option) (a .credit .0) (a .advances .0) (v .value .0) (v .cost .0) (v .«flat_rate» .0)
+          settlementOf (a .option) (a .credit .0) (a .advances .0) (v .value .0) (v .cost .0) (v .«flat_rate» .0);
     }
+
+-- the ranges of "Book" in which every sum of a closing fits, k the credit before it, ..
+pub record SumsInRange (k : ℕ) (v : YearValues) : Type 0 where
+  pub value : v .value .0 ≤ maxYearTicks
+  pub cost : v .cost .0 ≤ maxYearTicks
+  pub flatRate : v .«flat_rate» .0 ≤ maxFlatRate
+  pub credit : k ≤ maxYearTicks * (lastOpenYear - firstActivation)
+
+-- .. and a year after the open one
+pub record InRange (v : YearValues) (a : Account) : Type 0 where
+  pub sums : SumsInRange (a .credit .0) v
+  pub year : a .«open_year» < lastOpenYear

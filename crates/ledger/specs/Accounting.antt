@@ -1,8 +1,8 @@
 -- What the accounts of one user come to (the mission's third demand, (b) to (d)), over every history of its elections,
 -- advances and closings.
-use Prim.Native.Nat.{ℕ, suc, _+_, _-_, _≤_, max}
+use Prim.Native.Nat.{ℕ, _+_, _≤_}
 use mathlib.Core.Path.{_≡_}
-use mathlib.Core.Bool.{Bool, true, false, cond, _||_}
+use mathlib.Core.Bool.{Bool, false, cond, _||_}
 use mathlib.Core.List.{List, [], _∷_}
 use mathlib.Core.Logic.{_⊎_}
 use lib.ListN.{length, take}
@@ -10,7 +10,7 @@ use lib.IntN.{ℤ, pos, _+ℤ_, _-ℤ_}
 use Rattle.values.specs.declared.Details.{Details}
 use Rattle.account.specs.Closing.{liquidates}
 use Rattle.sheet.specs.YearSheet.{sheetYear}
-use Rattle.ledger.specs.Ledger.{Item, Ledger, Statement, openYear, sumItems, elected, advanced, closed, sheetValue}
+use Rattle.ledger.specs.Ledger.{Item, Ledger, Statement, yearAfter, openYear, sumItems, elected, advanced, closed, sheetValue, statementOf}
 
 -- an accepted call for one user after its enrolment
 pub data Booking : Type 0 where
@@ -78,3 +78,15 @@ pub record Standing (items : List Item) (k : ℕ) : Type 0 where
 unfoldable pub lapsedOver : (List Item → ℕ) → List Item → ℕ
 lapsedOver figure [] = 0
 lapsedOver figure (i ∷ is) = cond (liquidates (i .option)) (figure is) 0 + lapsedOver figure is
+
+-- items stand a year each, from the activation year on: each is of the year after the older ones
+unfoldable pub Consecutive : ℕ → List Item → Type 0
+Consecutive activation [] = Unit {0}
+Consecutive activation (i ∷ is) = (i .year ≡ yearAfter activation is) × Consecutive activation is
+
+-- (b), (c) and (d) of a user that enrolled with the details d and had the bookings bs accepted since
+pub record Accounts (d : Details) (bs : List Booking) (l : Ledger) : Type 0 where
+  pub conservedSum : conserved (statementOf l) ≡ pos (injectedValue d bs)
+  pub standingCredit : Standing (l .items) (l .credit)
+  pub lapsedCredit : (figure : List Item → ℕ) → ((is : List Item) → Standing is (figure is)) → statementOf l .lapsed ≡ lapsedOver figure (l .items)
+  pub consecutive : Consecutive (d .year) (l .items)

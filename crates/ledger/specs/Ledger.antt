@@ -74,7 +74,7 @@ elected o l =
       half1 = l .half1;
       half2 = l .half2;
       items = l .items;
-      advances = l .advances
+      advances = l .advances;
     }
 
 -- "The amount is the rate times the last closed year's half, or times that half's estimate if no year is closed"
@@ -94,7 +94,7 @@ advanced year run rate estimate1 estimate2 l =
       half1 = l .half1;
       half2 = l .half2;
       items = l .items;
-      advances = record { year = year; ticks = advanceAmount year run rate estimate1 estimate2 l } ∷ l .advances
+      advances = record { year = year; ticks = advanceAmount year run rate estimate1 estimate2 l } ∷ l .advances;
     }
 
 -- "Close works C, O and F from sheet and details, takes K, A and the option from the ledger, and posts one item .. New
@@ -110,7 +110,7 @@ itemOf year option k a c o f =
       contribution = contributionOf option k c o f;
       liquidation = liquidationOf option c o;
       lapsed = lapsedOf option k;
-      balance = balanceOf (contributionOf option k c o f) a
+      balance = balanceOf (contributionOf option k c o f) a;
     }
 
 unfoldable pub sheetValue : Details → List ℕ → ℕ
@@ -128,10 +128,10 @@ closed s l =
       half1 = halfOf s 0;
       half2 = halfOf s 1;
       items =
-      itemOf (sheetYear s) (l .option) (l .credit) (sumAdvances (eqb (sheetYear s)) (l .advances))
-      (sheetValue (l .details) s) (costOf s) (sheetFlatRate (l .details) s)
-      ∷ l .items;
-      advances = l .advances
+          itemOf (sheetYear s) (l .option) (l .credit) (sumAdvances (eqb (sheetYear s)) (l .advances))
+          (sheetValue (l .details) s) (costOf s) (sheetFlatRate (l .details) s)
+          ∷ l .items;
+      advances = l .advances;
     }
 
 -- "Statement: open year, credit, and the sums over the chain of C, O, F, contribution, liquidation, lapsed, balance, all
@@ -162,5 +162,5 @@ statementOf l =
       lapsed = sumItems (λ i. i .lapsed) (l .items);
       balance = sumBalances (l .items);
       advances = sumAdvances (λ y. true) (l .advances);
-      closedAdvances = sumAdvances (λ y. ltb y (yearAfter (l .details .year) (l .items))) (l .advances)
+      closedAdvances = sumAdvances (λ y. ltb y (yearAfter (l .details .year) (l .items))) (l .advances);
     }

@@ -2,10 +2,12 @@
 -- Energies are in kWh, prices and rates in hundred-thousandths of a euro per kWh, powers in watts.
 use Prim.Native.Nat.{ℕ, _+_, _-_, _*_, _/_, min, max}
 use mathlib.Core.Bool.{Bool, cond, _&&_, _||_}
-use mathlib.Core.List.{List, [], _∷_}
+use mathlib.Core.List.{List, [], _∷_, map}
 use lib.Dec.{leb, eqb}
 use lib.ListN.{getD}
+use Rattle.units.specs.declared.Kwh.{Kwh}
 use Rattle.units.specs.Units.{unitsPerEuroMwh}
+use Rattle.units.specs.Limits.{maxKwh}
 use Rattle.units.specs.Folds.{sumBelow}
 use Rattle.tariff.specs.Table1.{tableEuroPerMwh}
 
@@ -33,6 +35,13 @@ unfoldable pub tiers : ℕ → ℕ → ℕ → ℕ → ℕ → List ℕ
 tiers b₁ b₂ b₃ w e =
     between (w - e) w 0 b₁ ∷ between (w - e) w b₁ b₂ ∷ between (w - e) w b₂ b₃ ∷ above (w - e) w b₃ ∷ []
 
+-- the numbers of the program's energies, and their sum over the four tiers
+abbrev pub numbers : List Kwh → List ℕ
+numbers energies = map (λ k. k .0) energies
+
+unfoldable pub tierSum : List ℕ → ℕ
+tierSum energies = sumBelow 4 (λ t. getD energies t 0)
+
 -- "Bounds: 1,800, 2,640, 4,440 per year for classes 1 and 2; 4, 8, 12 million per month in the monthly method.
 -- Other users have tier 1 only."
 unfoldable pub annualTiers : ℕ → ℕ → ℕ → List ℕ
@@ -59,6 +68,10 @@ limit plant power net = unitsPerEuroMwh * tableEuroPerMwh plant power - net
 unfoldable pub tierRate : ℕ → ℕ → ℕ → ℕ → ℕ
 tierRate plant power net system =
     cond (eqb plant cogeneration) net (cond (leb power smallPower) (net + system) (net + min system (limit plant power net)))
+
+-- the most that a year's energy can be, in kWh: three bands of twelve months ("Year sheet")
+abbrev pub maxYearKwh : ℕ
+maxYearKwh = 36 * maxKwh
 
 -- "F, the flat-rate part: the sum of tier energy times tier rate."
 unfoldable pub flatRateOf : List ℕ → (ℕ → ℕ) → ℕ

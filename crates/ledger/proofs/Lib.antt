@@ -1,0 +1,5 @@
+pub mod Standing
+pub mod Advances
+pub mod Integers
+pub mod Kept
+pub mod Accounting

@@ -1,0 +1,4 @@
+pub mod Tiers
+pub mod Rates
+pub mod Rows
+pub mod FlatRate

@@ -1,0 +1,43 @@
+-- The parts of a stretch that is cut at three rising bounds sum to it, since what lies between two bounds and what lies above
+-- the second make what lies above the first.
+use Prim.Native.Nat.{ℕ, zero-le, _+_, _-_, _≤_}
+use mathlib.Core.Path.{_≡_, refl, ap, ap₂, _∙_}
+use mathlib.Core.List.{List, [], _∷_, map}
+use native.Mathlib.Omega.{arith}
+use Rattle.units.specs.declared.Kwh.{Kwh}
+use Rattle.units.specs.Units.{kwh}
+use Rattle.units.specs.Folds.{sumBelow}
+use Rattle.tariff.specs.Tariff.{between, above, tiers, numbers, tierSum}
+
+between-above : (low high : ℕ) {a b : ℕ} → a ≤ b → between low high a b + above low high b ≡ above low high a
+unfolding between above
+between-above low high {a} {b} h = omega arith
+
+above-none : (w e : ℕ) → e ≤ w → above (w - e) w 0 ≡ e
+unfolding above
+above-none w e h = omega arith
+
+pub tiers-sum : {b₁ b₂ b₃ w e : ℕ} → b₁ ≤ b₂ → b₂ ≤ b₃ → e ≤ w → tierSum (tiers b₁ b₂ b₃ w e) ≡ e
+unfolding tierSum tiers sumBelow
+tiers-sum {b₁} {b₂} {b₃} {w} {e} h₁ h₂ h =
+    let first = between-above (w - e) w {a = 0} {b = b₁} zero-le in
+    let second = between-above (w - e) w h₁ in
+    let third = between-above (w - e) w h₂ in
+    omega (arith, above-none w e h)
+
+pub first-tier-sum : (e : ℕ) → tierSum (e ∷ 0 ∷ 0 ∷ 0 ∷ []) ≡ e
+unfolding tierSum sumBelow
+first-tier-sum e = omega arith
+
+pub numbers-kwh : (parts : List ℕ) → numbers (map kwh parts) ≡ parts
+numbers-kwh [] = refl
+numbers-kwh (p ∷ parts) = ap (λ (ps : List ℕ). p ∷ ps) (numbers-kwh parts)
+
+-- the energies that the program holds for some parts have the parts' sum
+pub sum-of-parts : {energies : List Kwh} (parts : List ℕ) → energies ≡ map kwh parts → tierSum (numbers energies) ≡ tierSum parts
+sum-of-parts parts q = ap (λ (es : List Kwh). tierSum (numbers es)) q ∙ ap tierSum (numbers-kwh parts)
+
+pub parts-and-sum :
+    {energies : List Kwh} (parts : List ℕ) {e : ℕ} → tierSum parts ≡ e → energies ≡ map kwh parts →
+    (energies ≡ map kwh parts) × (tierSum (numbers energies) ≡ e)
+parts-and-sum parts s q = (q, sum-of-parts parts q ∙ s)

@@ -1,0 +1,57 @@
+-- The three cases of a tier rate, each at most a net rate and a system rate.
+use mathlib.Core.Path.{sym, ap}
+use native.Mathlib.Omega.{arith}
+use borrow.Author.Needs.{needs}
+use Rattle.units.specs.Units.{rate}
+use Rattle.tariff.proofs.Rates.{rate-of-cogeneration, rate-of-small, rate-of-large}
+use Rattle.tariff.proofs.tier_rate.Statement.{statement}
+use Rattle.tariff.proofs.tier_rate.Tie as tie
+use Rattle.tariff.proofs.tier_rate.Reads as reads
+use Rattle.tariff.proofs.tier_rate.Lts as lts
+use Rattle.tariff.proofs.limit_of.Reads as limit-of-reads
+use Rattle.tariff.proofs.smaller_rate.Reads as smaller-rate-reads
+use Rattle.tariff.proofs.table_price.Reads as table-price-reads
+
+returns : tie.Need-returns
+returns c = (ap rate (sym (rate-of-cogeneration _ _ _ (c .if1 .taken))), omega arith)
+
+add-t7 : tie.Need-add-t7
+add-t7 c = search needs
+
+returns-2 : tie.Need-returns-2
+returns-2 c =
+    let large = c .before .before in
+    (ap rate (sym (rate-of-small _ _ (large .before .if1 .left) (large .if2 .taken))), omega arith)
+
+table-price-requires : tie.Need-table-price-requires
+table-price-requires c κs = search needs
+
+limit-of-requires : tie.Need-limit-of-requires
+limit-of-requires c κs = search needs
+
+smaller-rate-requires : tie.Need-smaller-rate-requires
+smaller-rate-requires c κs = search needs
+
+add-t9 : tie.Need-add-t9
+add-t9 c = omega arith
+
+returns-3 : tie.Need-returns-3
+returns-3 c =
+    let called = c .before .before in
+    let large = called .before .before .before in (
+      ap rate (sym (rate-of-large _ _ (large .before .if1 .left) (large .if2 .left) (ap (λ r. r .0) (called .before .before .table-price .ensures)) (called .before .limit-of .ensures) (called .smaller-rate .ensures))),
+      omega (arith, c .before .before .smaller-rate .ensures),
+    )
+
+pub tier-rate-spec : {M : Type 1} → statement M
+tier-rate-spec =
+    tie.close
+    (tie.spec
+    returns
+    add-t7
+    returns-2
+    table-price-requires
+    limit-of-requires
+    smaller-rate-requires
+    add-t9
+    returns-3)

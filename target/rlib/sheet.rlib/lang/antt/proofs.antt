@@ -1,2 +1,0 @@
-pub mod Faults
-pub mod Limits

@@ -1,2 +1,0 @@
-pub mod Table1
-pub mod Tariff

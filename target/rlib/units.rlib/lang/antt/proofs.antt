@@ -1,4 +1,0 @@
-pub mod Products
-pub mod Bools
-pub mod Folds
-pub mod Filled

@@ -1,3 +1,0 @@
-pub mod Units
-pub mod Limits
-pub mod Folds
