@@ -22,14 +22,14 @@ fn wide(b: u8) -> u64
 }
 
 pub fn read_u16(s: &[u8], at: usize) -> u16
-    requires { ⌜ at < 2 ^ 32 ⌝ }
+    requires { ⌜ at < 2 ^ 40 ⌝ }
     ensures { λ r. ⌜ r ≡ number 2 at (now (s .entry)) ⌝ }
 {
     (wide(byte_at(s, at)) + wide(byte_at(s, at + 1)) * 256) as u16
 }
 
 pub fn read_u32(s: &[u8], at: usize) -> u32
-    requires { ⌜ at < 2 ^ 32 ⌝ }
+    requires { ⌜ at < 2 ^ 40 ⌝ }
     ensures { λ r. ⌜ r ≡ number 4 at (now (s .entry)) ⌝ }
 {
     let low = wide(byte_at(s, at)) + wide(byte_at(s, at + 1)) * 256;
@@ -38,7 +38,7 @@ pub fn read_u32(s: &[u8], at: usize) -> u32
 }
 
 pub fn read_u64(s: &[u8], at: usize) -> u64
-    requires { ⌜ at < 2 ^ 31 ⌝ }
+    requires { ⌜ at + 4 < 2 ^ 40 ⌝ }
     ensures { λ r. ⌜ r ≡ number 8 at (now (s .entry)) ⌝ }
 {
     (read_u32(s, at) as u64) + (read_u32(s, at + 4) as u64) * 4294967296

@@ -7,11 +7,10 @@ use native.Mathlib.Decide.{decLt}
 use native.Mathlib.Numerals.{add-one}
 use native.Mathlib.Omega.{arith}
 use borrow.Author.Tests.{le-leb, lt-leb, ne-eqb}
-use lib.Dec.{leb, eqb}
+use lib.Dec.{leb}
 use lib.ListN.{length, getD, List·getD-map}
 use lib.Seq.{slice, slice-cons, slice-empty}
 use Rattle.units.proofs.Bools.{and-left, and-right}
-use Rattle.tariff.specs.declared.table1.Row as Program
 use Rattle.tariff.specs.Table1.{Power, Row, noRow, table1, rowsOfKind, reaches, firstReaching, firstRow}
 
 pub all-rows : length table1 ≡ 52
@@ -61,36 +60,46 @@ in-no-block kind o =
     let none : 0 + 0 * (kind - 0) ≡ 0 = omega arith in
     rw none (sym (no-rows kind table1 o refl))
 
--- the program's row for a row of the table
-abbrev watts : Power → ℕ
-watts (Power.upTo k) = 1000 * k
-watts Power.beyond = 4294967295
+-- the program's numbers for a row: the power that it reaches, in watts, and its price
+abbrev wattsOf : Power → ℕ
+wattsOf (Power.upTo k) = 1000 * k
+wattsOf Power.beyond = 4294967295
 
-abbrev pub programRow : Row → Program.Row
-programRow r = record { 0 = watts (r .power); 1 = r .euroPerMwh }
+abbrev pub bounds : List ℕ
+bounds = map (λ (r : Row). wattsOf (r .power)) table1
 
-pub reaches-watts : (p : Power) (w : ℕ) → w < 2 ^ 32 → reaches p w ≡ leb w (watts p)
+abbrev pub prices : List ℕ
+prices = map (λ (r : Row). r .euroPerMwh) table1
+
+reaches-watts : (p : Power) (w : ℕ) → w < 2 ^ 32 → reaches p w ≡ leb w (wattsOf p)
 unfolding reaches
 reaches-watts (Power.upTo k) w h = refl
 reaches-watts Power.beyond w h = sym (le-leb w 4294967295 (omega arith))
 
 -- a turn of the search at row i: the row reaches the power and answers, or the search goes on past it
 turn :
-    (w i end : ℕ) → i < end → end ≤ length table1 →
+    (w i end : ℕ) → w < 2 ^ 32 → i < end → end ≤ length table1 →
     firstReaching w (slice i end table1)
-    ≡ cond (reaches (getD table1 i noRow .power) w) (getD table1 i noRow .euroPerMwh) (firstReaching w (slice (i + 1) end table1))
+    ≡ cond (leb w (getD bounds i 0)) (getD prices i 0) (firstReaching w (slice (i + 1) end table1))
 unfolding firstReaching
-turn w i end h l = rw (slice-cons i end table1 noRow h l, add-one)
+turn w i end f h l =
+    rw (
+      slice-cons i end table1 noRow h l,
+      add-one,
+      reaches-watts (getD table1 i noRow .power) w f,
+      ← List·getD-map (λ (r : Row). wattsOf (r .power)) table1 i noRow,
+      ← List·getD-map (λ (r : Row). r .euroPerMwh) table1 i noRow,
+    )
 
 pub reached :
-    {w i end bound limit : ℕ} → i < end → end ≤ length table1 → reaches (getD table1 i noRow .power) w ≡ leb w bound →
-    firstReaching w (slice i end table1) ≡ limit → w ≤ bound → getD table1 i noRow .euroPerMwh ≡ limit
-reached {w} {i} {end} {bound} h l q s k = rw (turn w i end h l, q, le-leb w bound k) at s
+    {w i end limit : ℕ} → w < 2 ^ 32 → i < end → end ≤ length table1 → firstReaching w (slice i end table1) ≡ limit →
+    w ≤ getD bounds i 0 → getD prices i 0 ≡ limit
+reached {w} {i} {end} f h l s k = rw (turn w i end f h l, le-leb w (getD bounds i 0) k) at s
 
 pub passed :
-    {w i end bound limit : ℕ} → i < end → end ≤ length table1 → reaches (getD table1 i noRow .power) w ≡ leb w bound →
-    firstReaching w (slice i end table1) ≡ limit → bound < w → firstReaching w (slice (i + 1) end table1) ≡ limit
-passed {w} {i} {end} {bound} h l q s k = rw (turn w i end h l, q, lt-leb w bound k) at s
+    {w i end limit : ℕ} → w < 2 ^ 32 → i < end → end ≤ length table1 → firstReaching w (slice i end table1) ≡ limit →
+    getD bounds i 0 < w → firstReaching w (slice (i + 1) end table1) ≡ limit
+passed {w} {i} {end} f h l s k = rw (turn w i end f h l, lt-leb w (getD bounds i 0) k) at s
 
 pub none-left : (w : ℕ) {i end limit : ℕ} → i ≤ end → end ≤ i → firstReaching w (slice i end table1) ≡ limit → 0 ≡ limit
 unfolding firstReaching

@@ -1,7 +1,7 @@
 -- The parts of a stretch that is cut at three rising bounds sum to it, since what lies between two bounds and what lies above
 -- the second make what lies above the first.
 use Prim.Native.Nat.{ℕ, zero-le, _+_, _-_, _≤_}
-use mathlib.Core.Path.{_≡_, refl, ap, ap₂, _∙_}
+use mathlib.Core.Path.{_≡_, refl, ap, _∙_}
 use mathlib.Core.List.{List, [], _∷_, map}
 use native.Mathlib.Omega.{arith}
 use Rattle.units.specs.declared.Kwh.{Kwh}

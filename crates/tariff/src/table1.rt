@@ -1,95 +1,156 @@
 // Table 1 of source document 000: document 01's kinds 1 to 16, in printed order.
 ghost use mathlib.Core.Path.{_≡_};
-ghost use Prim.Native.Nat.{ℕ, _+_, _^_, _≤_, _<_};
-ghost use lib.Dec.{leb};
-ghost use lib.ListN.{length, getD};
+ghost use Prim.Native.Nat.{_+_, _≤_};
+ghost use lib.ListN.{length};
 ghost use lib.Seq.{slice};
-ghost use Rattle.tariff.specs.Table1.{table1, noRow, reaches, rowsOfKind, firstRow, tableEuroPerMwh};
-
-// A row: the power that it reaches, in watts, and its €/MWh.
-struct Row(u32, u16);
+ghost use Rattle.tariff.specs.Table1.{table1, rowsOfKind, firstRow, tableEuroPerMwh};
 
 // No power is above it.
 const BEYOND: u32 = 4_294_967_295;
 
-const TABLE: [Row; 52] = [
-    // 1 solar: photovoltaic
-    Row(200_000, 76),
-    Row(1_000_000, 48),
-    Row(5_000_000, 36),
-    Row(BEYOND, 30),
-    // 2 wind: on shore
-    Row(200_000, 186),
-    Row(1_000_000, 67),
-    Row(5_000_000, 53),
-    Row(BEYOND, 45),
-    // 3 wind: off shore
-    Row(5_000_000, 94),
-    Row(BEYOND, 83),
-    // 4 hydro: run of river
-    Row(500_000, 137),
-    Row(1_000_000, 73),
-    Row(10_000_000, 47),
-    Row(BEYOND, 37),
-    // 5 hydro: basin or reservoir
-    Row(10_000_000, 19),
-    Row(BEYOND, 14),
+// The power that a row reaches, in watts.
+const UP_TO: [u32; 52] = [
+    // 1 photovoltaic
+    200_000,
+    1_000_000,
+    5_000_000,
+    BEYOND,
+    // 2 wind on shore
+    200_000,
+    1_000_000,
+    5_000_000,
+    BEYOND,
+    // 3 wind off shore
+    5_000_000,
+    BEYOND,
+    // 4 hydro, run of river
+    500_000,
+    1_000_000,
+    10_000_000,
+    BEYOND,
+    // 5 hydro, basin or reservoir
+    10_000_000,
+    BEYOND,
     // 6 ocean
-    Row(5_000_000, 218),
-    Row(BEYOND, 112),
+    5_000_000,
+    BEYOND,
     // 7 geothermal
-    Row(1_000_000, 53),
-    Row(20_000_000, 17),
-    Row(BEYOND, 3),
+    1_000_000,
+    20_000_000,
+    BEYOND,
     // 8 landfill gas
-    Row(1_000_000, 17),
-    Row(5_000_000, 12),
-    Row(BEYOND, 8),
+    1_000_000,
+    5_000_000,
+    BEYOND,
     // 9 sewage gas
-    Row(1_000_000, 29),
-    Row(5_000_000, 6),
-    Row(BEYOND, 3),
+    1_000_000,
+    5_000_000,
+    BEYOND,
     // 10 biogas a)
-    Row(300_000, 98),
-    Row(600_000, 78),
-    Row(1_000_000, 58),
-    Row(5_000_000, 22),
-    Row(BEYOND, 9),
+    300_000,
+    600_000,
+    1_000_000,
+    5_000_000,
+    BEYOND,
     // 11 biogas b) and d)
-    Row(300_000, 154),
-    Row(600_000, 124),
-    Row(1_000_000, 96),
-    Row(5_000_000, 43),
-    Row(BEYOND, 19),
+    300_000,
+    600_000,
+    1_000_000,
+    5_000_000,
+    BEYOND,
     // 12 biogas c)
-    Row(1_000_000, 134),
-    Row(5_000_000, 27),
-    Row(BEYOND, 3),
+    1_000_000,
+    5_000_000,
+    BEYOND,
     // 13 biomass a)
-    Row(300_000, 147),
-    Row(1_000_000, 98),
-    Row(5_000_000, 51),
-    Row(BEYOND, 40),
+    300_000,
+    1_000_000,
+    5_000_000,
+    BEYOND,
     // 14 biomass b) and d)
-    Row(300_000, 175),
-    Row(1_000_000, 127),
-    Row(5_000_000, 79),
-    Row(BEYOND, 63),
+    300_000,
+    1_000_000,
+    5_000_000,
+    BEYOND,
     // 15 biomass c)
-    Row(5_000_000, 92),
-    Row(BEYOND, 43),
+    5_000_000,
+    BEYOND,
     // 16 bioliquids
-    Row(5_000_000, 39),
-    Row(BEYOND, 28),
+    5_000_000,
+    BEYOND,
 ];
 
-fn row_at(i: usize) -> Row
-    requires { ⌜ i < length table1 ⌝ }
-    ensures { λ r. ⌜ ((w : ℕ) → w < 2 ^ 32 → reaches (getD table1 i noRow .power) w ≡ leb w (r .0)) ⌝ }
-    ensures { λ r. ⌜ r .1 ≡ getD table1 i noRow .euroPerMwh ⌝ }
-{
-    TABLE[i]
-}
+// The row's €/MWh.
+const EURO_PER_MWH: [u16; 52] = [
+    // 1 photovoltaic
+    76,
+    48,
+    36,
+    30,
+    // 2 wind on shore
+    186,
+    67,
+    53,
+    45,
+    // 3 wind off shore
+    94,
+    83,
+    // 4 hydro, run of river
+    137,
+    73,
+    47,
+    37,
+    // 5 hydro, basin or reservoir
+    19,
+    14,
+    // 6 ocean
+    218,
+    112,
+    // 7 geothermal
+    53,
+    17,
+    3,
+    // 8 landfill gas
+    17,
+    12,
+    8,
+    // 9 sewage gas
+    29,
+    6,
+    3,
+    // 10 biogas a)
+    98,
+    78,
+    58,
+    22,
+    9,
+    // 11 biogas b) and d)
+    154,
+    124,
+    96,
+    43,
+    19,
+    // 12 biogas c)
+    134,
+    27,
+    3,
+    // 13 biomass a)
+    147,
+    98,
+    51,
+    40,
+    // 14 biomass b) and d)
+    175,
+    127,
+    79,
+    63,
+    // 15 biomass c)
+    92,
+    43,
+    // 16 bioliquids
+    39,
+    28,
+];
 
 // Neighbouring kinds that have as many rows: the first kind, its first row, the rows of each kind.
 struct Block(u8, usize, usize);
@@ -134,9 +195,8 @@ pub fn euro_per_mwh(plant: u8, power: u32) -> u16
     let end = rows.1;
     let mut i = rows.0;
     while i < end {
-        let row = row_at(i);
-        if power <= row.0 {
-            return row.1;
+        if power <= UP_TO[i] {
+            return EURO_PER_MWH[i];
         }
         i += 1;
     }

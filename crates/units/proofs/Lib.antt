@@ -1,4 +1,5 @@
 pub mod Products
 pub mod Bools
+pub mod Ranges
 pub mod Folds
 pub mod Filled

@@ -1,3 +1,1 @@
-pub mod PriceParts
-pub mod Rows
-pub mod SheetRows
+pub mod SheetRates

@@ -1,17 +1,19 @@
 // The year's values of document 01, "Year's values": C, O, F and the halves of a sheet that has passed 11, 13 and 14.
 ghost use mathlib.Core.Path.{_≡_};
-ghost use mathlib.Core.Bool.{false, cond};
-ghost use mathlib.Core.List.{_∷_, []};
-ghost use Prim.Native.Nat.{ℕ, _+_, _*_, _≤_, _<_, _^_, min};
-ghost use lib.ListN.{length, getD};
+ghost use mathlib.Core.List.{[]};
+ghost use Prim.Native.Nat.{ℕ, _+_, _*_, _≤_, _<_, min};
+ghost use lib.Dec.{ltb};
+ghost use lib.ListN.{getD};
 ghost use Rattle.units.specs.Units.{kwh, rate, ticks};
-ghost use Rattle.units.specs.Limits.{maxKwh, maxPrice, maxYearTicks};
+ghost use Rattle.units.specs.Limits.{maxKwh, maxPrice, maxTierRate, maxFlatRate};
 ghost use Rattle.units.specs.Folds.{sumBelow, anyBelow};
-ghost use Rattle.codec.specs.Bytes.{part, number};
-ghost use Rattle.sheet.specs.YearSheet.{sheetLength, Passed, monthWithdrawn};
-ghost use Rattle.values.specs.YearsValues.{costOf, valueOf, monthInjected};
-ghost use Rattle.values.specs.Arrays.{energyRow, EnergyRows, priceRow, PriceRows, RowFits, rowValue, rowTotal, energyAt, Months};
+ghost use Rattle.tariff.specs.Tariff.{monthlyThreshold, monthlyTiers, annualTiers, meanRate, flatRateOf};
+ghost use Rattle.sheet.specs.YearSheet.{Passed, monthWithdrawn, word};
+ghost use Rattle.prices.specs.Arrays.{energyAt, rowTotal};
+ghost use Rattle.values.specs.YearsValues.{monthInjected, monthRate, annualRate, flatRateOver, yearValues};
+ghost use Rattle.values.specs.Arrays.{Months, Rates};
 
+use tariff::MONTHLY_THRESHOLD;
 use units::{Kwh, Rate, Ticks};
 
 // What enrolment notes of a user: class and plant by document 01's numbers, power in watts, year and month of
@@ -32,117 +34,6 @@ pub struct YearValues {
     pub flat_rate: Ticks,
     pub half1: Kwh,
     pub half2: Kwh,
-}
-
-fn energy_row(s: &[u8], place: usize, month: usize) -> [Kwh; 3]
-    requires { ⌜ (place < 22) × (month < 12) ⌝ }
-    ensures { λ r. ⌜ r ≡ energyRow (now (s .entry)) place month ⌝ }
-{
-    [
-        Kwh(sheet::word_at(s, month, place)),
-        Kwh(sheet::word_at(s, month, place + 1)),
-        Kwh(sheet::word_at(s, month, place + 2)),
-    ]
-}
-
-// The energies of the year, by month and band, from a place of the month on.
-fn energies(s: &[u8], place: usize) -> [[Kwh; 3]; 12]
-    requires { ⌜ place < 22 ⌝ }
-    ensures { λ r. ⌜ EnergyRows (energyRow (now (s .entry)) place) r ⌝ }
-{
-    let mut rows = [[Kwh(0), Kwh(0), Kwh(0)]; 12];
-    for month in 0..12 {
-        rows[month] = energy_row(s, place, month);
-    }
-    rows
-}
-
-// The three-band part of the series that applies, of a month's PUN series (bands, mean) and zone series (bands, mean, mean
-// of hours 8–20).
-fn band_part<'a>(zone: &'a [u8], pun: &'a [u8], island: bool) -> &'a [u8]
-    requires { ⌜ (length (now zone) ≡ 20) × (length (now pun) ≡ 16) ⌝ }
-    ensures { λ r. ⌜ now r ≡ cond island (part 12 0 (now (pun .entry))) (part 12 0 (now (zone .entry))) ⌝ }
-{
-    if island {
-        return &pun[0..12];
-    }
-    &zone[0..12]
-}
-
-// The price of a single reading, of the same two series.
-fn single_part<'a>(zone: &'a [u8], pun: &'a [u8], island: bool, photovoltaic: bool) -> &'a [u8]
-    requires { ⌜ (length (now zone) ≡ 20) × (length (now pun) ≡ 16) ⌝ }
-    ensures { λ r. ⌜ now r ≡ cond island (part 4 12 (now (pun .entry))) (cond photovoltaic (part 4 16 (now (zone .entry))) (part 4 12 (now (zone .entry)))) ⌝ }
-{
-    if island {
-        return &pun[12..16];
-    }
-    if photovoltaic {
-        return &zone[16..20];
-    }
-    &zone[12..16]
-}
-
-fn rate_at(s: &[u8], at: usize) -> Rate
-    requires { ⌜ at < 2 ^ 31 ⌝ }
-    ensures { λ r. ⌜ r ≡ rate (number 4 at (now (s .entry))) ⌝ }
-{
-    Rate(codec::read_u32(s, at) as u64)
-}
-
-// The prices of a month, by band; the price of a single reading stands at F1.
-fn price_row(s: &[u8], bands: bool, island: bool, photovoltaic: bool, month: usize) -> [Rate; 3]
-    requires { ⌜ (length (now s) ≡ sheetLength) × (month < 12) ⌝ }
-    ensures { λ r. ⌜ r ≡ priceRow (now (s .entry)) bands island photovoltaic month ⌝ }
-{
-    let from = 32 + 96 * month + 24;
-    let middle = from + 16;
-    let to = middle + 20;
-    let pun = &s[from..middle];
-    let zone = &s[middle..to];
-    if bands {
-        let prices = band_part(zone, pun, island);
-        [rate_at(prices, 0), rate_at(prices, 4), rate_at(prices, 8)]
-    } else {
-        let price = single_part(zone, pun, island, photovoltaic);
-        [rate_at(price, 0), Rate(0), Rate(0)]
-    }
-}
-
-// The prices of the year, by month and band.
-fn prices(s: &[u8], bands: bool, island: bool, photovoltaic: bool) -> [[Rate; 3]; 12]
-    requires { ⌜ length (now s) ≡ sheetLength ⌝ }
-    ensures { λ r. ⌜ PriceRows (priceRow (now (s .entry)) bands island photovoltaic) r ⌝ }
-{
-    let mut rows = [[Rate(0), Rate(0), Rate(0)]; 12];
-    for month in 0..12 {
-        rows[month] = price_row(s, bands, island, photovoltaic, month);
-    }
-    rows
-}
-
-// Energy times price over the bands of a month.
-fn row_value(energy: [Kwh; 3], prices: [Rate; 3]) -> Ticks
-    requires { ⌜ RowFits energy prices ⌝ }
-    ensures { λ r. ⌜ (r ≡ ticks (rowValue energy prices)) × (r .0 ≤ 3 * (maxKwh * maxPrice)) ⌝ }
-{
-    let f1 = units::priced(energy[0], prices[0]);
-    let f2 = units::priced(energy[1], prices[1]);
-    let f3 = units::priced(energy[2], prices[2]);
-    Ticks(f1.0 + f2.0 + f3.0)
-}
-
-// The same over the year.
-fn year_value(energy: [[Kwh; 3]; 12], prices: [[Rate; 3]; 12]) -> Ticks
-    requires { ⌜ ((m : ℕ) → m < 12 → RowFits (getD energy m []) (getD prices m [])) ⌝ }
-    ensures { λ r. ⌜ (r ≡ ticks (sumBelow 12 (λ m. rowValue (getD energy m []) (getD prices m [])))) × (r .0 ≤ maxYearTicks) ⌝ }
-{
-    let mut sum: u64 = 0;
-    for month in 0..12 {
-        let value = row_value(energy[month], prices[month]);
-        sum = sum + value.0;
-    }
-    Ticks(sum)
 }
 
 fn row_total(energy: [Kwh; 3]) -> Kwh
@@ -194,30 +85,12 @@ fn energy_over(months: [Kwh; 12], from: usize, count: usize) -> Kwh
     Kwh(sum)
 }
 
-// "O: withdrawn times PUN, by band or by mean, summed over the months."
-pub fn cost(s: &[u8]) -> Ticks
-    requires { ⌜ Passed (now s) ⌝ }
-    ensures { λ r. ⌜ (r ≡ ticks (costOf (now (s .entry)))) × (r .0 ≤ maxYearTicks) ⌝ }
-{
-    let bands = sheet::withdrawn_reading(s) == 1;
-    year_value(energies(s, 0), prices(s, bands, true, false))
-}
-
-// "C: injected times zone price by band", or its PUN price on an island.
-pub fn value(s: &[u8], island: bool, photovoltaic: bool) -> Ticks
-    requires { ⌜ Passed (now s) ⌝ }
-    ensures { λ r. ⌜ (r ≡ ticks (valueOf (now (s .entry)) island photovoltaic)) × (r .0 ≤ maxYearTicks) ⌝ }
-{
-    let bands = sheet::injected_reading(s) == 1;
-    year_value(energies(s, 3), prices(s, bands, island, photovoltaic))
-}
-
 // The energy withdrawn in each month.
 fn withdrawn(s: &[u8]) -> [Kwh; 12]
     requires { ⌜ Passed (now s) ⌝ }
     ensures { λ r. ⌜ Months (monthWithdrawn (now (s .entry))) r ⌝ }
 {
-    month_totals(energies(s, 0))
+    month_totals(prices::energies(s, 0))
 }
 
 // The energy injected in each month.
@@ -225,5 +98,104 @@ fn injected(s: &[u8]) -> [Kwh; 12]
     requires { ⌜ Passed (now s) ⌝ }
     ensures { λ r. ⌜ Months (monthInjected (now (s .entry))) r ⌝ }
 {
-    month_totals(energies(s, 3))
+    month_totals(prices::energies(s, 3))
+}
+
+// "some month's withdrawal is above 4,000,000", in a stretch of months.
+fn some_month_above(months: [Kwh; 12], from: usize, count: usize) -> bool
+    requires { ⌜ from + count ≤ 12 ⌝ }
+    ensures { λ r. ⌜ r ≡ anyBelow count (λ i. ltb monthlyThreshold (energyAt (from + i) months)) ⌝ }
+{
+    let mut above = false;
+    for i in 0..count {
+        let month = months[from + i];
+        above = above | (MONTHLY_THRESHOLD < month.0 as u64);
+    }
+    above
+}
+
+// A rate of the sheet, at a place of a month.
+fn rate_at(s: &[u8], month: usize, place: usize) -> Rate
+    requires { ⌜ Passed (now s) ⌝ }
+    requires { ⌜ (month < 12) × ((6 ≤ place) × (place < 23)) ⌝ }
+    ensures { λ r. ⌜ (r ≡ rate (word (now (s .entry)) month place)) × (r .0 ≤ maxPrice) ⌝ }
+{
+    Rate(sheet::word_at(s, month, place) as u64)
+}
+
+// The tier rates of a month.
+fn month_rates(s: &[u8], month: usize, plant: u8, power: u32) -> [Rate; 4]
+    requires { ⌜ Passed (now s) ⌝ }
+    requires { ⌜ month < 12 ⌝ }
+    ensures { λ r. ⌜ Rates (monthRate (now (s .entry)) plant power month) r ⌝ }
+{
+    let mut rates = [Rate(0); 4];
+    for tier in 0..4 {
+        let net = rate_at(s, month, 15 + tier);
+        let system = rate_at(s, month, 19 + tier);
+        rates[tier] = tariff::tier_rate(plant, power, net, system);
+    }
+    rates
+}
+
+// A rate of the sheet, summed over a stretch of months.
+fn rate_over(s: &[u8], place: usize, from: usize, count: usize) -> Rate
+    requires { ⌜ Passed (now s) ⌝ }
+    requires { ⌜ (6 ≤ place) × (place < 23) ⌝ }
+    requires { ⌜ from + count ≤ 12 ⌝ }
+    ensures { λ r. ⌜ (r ≡ rate (sumBelow count (λ i. word (now (s .entry)) (from + i) place))) × (r .0 ≤ maxPrice * count) ⌝ }
+{
+    let mut sum: u64 = 0;
+    for i in 0..count {
+        let month = rate_at(s, from + i, place);
+        sum = sum + month.0;
+    }
+    Rate(sum)
+}
+
+// "each annual rate .. is the sum of twelve divided by 12, halves up".
+fn mean_over(s: &[u8], place: usize, from: usize, count: usize) -> Rate
+    requires { ⌜ Passed (now s) ⌝ }
+    requires { ⌜ (6 ≤ place) × (place < 23) ⌝ }
+    requires { ⌜ (0 < count) × (from + count ≤ 12) ⌝ }
+    ensures { λ r. ⌜ (r ≡ rate (meanRate count (sumBelow count (λ i. word (now (s .entry)) (from + i) place)))) × (r .0 ≤ maxPrice) ⌝ }
+{
+    tariff::mean_rate(rate_over(s, place, from, count), count as u64)
+}
+
+// The tier rates of the annual method, "net and system apart".
+fn annual_rates(s: &[u8], from: usize, count: usize, plant: u8, power: u32) -> [Rate; 4]
+    requires { ⌜ Passed (now s) ⌝ }
+    requires { ⌜ (0 < count) × (from + count ≤ 12) ⌝ }
+    ensures { λ r. ⌜ Rates (annualRate (now (s .entry)) plant power from count) r ⌝ }
+{
+    let mut rates = [Rate(0); 4];
+    for tier in 0..4 {
+        let net = mean_over(s, 15 + tier, from, count);
+        let system = mean_over(s, 19 + tier, from, count);
+        rates[tier] = tariff::tier_rate(plant, power, net, system);
+    }
+    rates
+}
+
+// "It uses each month's rates": the flat-rate part of a month in the monthly method.
+fn month_flat_rate(s: &[u8], month: usize, withdrawn: Kwh, exchanged: Kwh, plant: u8, power: u32) -> Ticks
+    requires { ⌜ Passed (now s) ⌝ }
+    requires { ⌜ month < 12 ⌝ }
+    requires { ⌜ (exchanged .0 ≤ withdrawn .0) × (withdrawn .0 ≤ 3 * maxKwh) ⌝ }
+    ensures { λ r. ⌜ (r .0 ≡ flatRateOf (monthlyTiers (withdrawn .0) (exchanged .0)) (monthRate (now (s .entry)) plant power month)) × (r .0 ≤ maxTierRate * exchanged .0) ⌝ }
+{
+    let energies = tariff::monthly_tiers(withdrawn, exchanged);
+    tariff::flat_rate_of(energies, month_rates(s, month, plant, power))
+}
+
+// The flat-rate part of a stretch of months in the annual method.
+fn annual_flat_rate(s: &[u8], from: usize, count: usize, withdrawn: Kwh, exchanged: Kwh, class: u8, plant: u8, power: u32) -> Ticks
+    requires { ⌜ Passed (now s) ⌝ }
+    requires { ⌜ (0 < count) × (from + count ≤ 12) ⌝ }
+    requires { ⌜ (exchanged .0 ≤ withdrawn .0) × (withdrawn .0 ≤ 36 * maxKwh) ⌝ }
+    ensures { λ r. ⌜ (r .0 ≡ flatRateOf (annualTiers class (withdrawn .0) (exchanged .0)) (annualRate (now (s .entry)) plant power from count)) × (r .0 ≤ maxTierRate * exchanged .0) ⌝ }
+{
+    let energies = tariff::annual_tiers(class, withdrawn, exchanged);
+    tariff::flat_rate_of(energies, annual_rates(s, from, count, plant, power))
 }

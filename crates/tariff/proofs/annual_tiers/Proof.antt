@@ -1,5 +1,5 @@
 -- The cut at the annual bounds for classes 1 and 2, and the first tier alone for the others.
-use mathlib.Core.Path.{_≡_, refl}
+use mathlib.Core.Path.{_≡_}
 use mathlib.Core.Bool.{false}
 use mathlib.Core.Logic.{⊎-elim}
 use borrow.Author.Needs.{needs}

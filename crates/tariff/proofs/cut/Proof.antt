@@ -1,39 +1,25 @@
 -- The four parts are those of the definition, one by one, and so is their sum.
-use mathlib.Core.Path.{_≡_, _∙_}
-use mathlib.Core.List.{List, map}
 use borrow.Author.Needs.{needs}
-use Rattle.units.specs.declared.Kwh.{Kwh}
-use Rattle.units.specs.Units.{kwh}
 use Rattle.tariff.specs.Tariff.{tiers}
 use Rattle.tariff.proofs.Tiers.{tiers-sum, parts-and-sum}
 use Rattle.tariff.proofs.cut.Statement.{statement}
 use Rattle.tariff.proofs.cut.Tie as tie
-use Rattle.tariff.proofs.cut.Reads as reads
-use Rattle.tariff.proofs.cut.Lts as lts
-use Rattle.tariff.proofs.above.Reads as above-reads
-use Rattle.tariff.proofs.between.Reads as between-reads
 
--- src/lib.rt:77:15
 sub-low : tie.Need-sub-low
 sub-low c = search needs
 
--- src/lib.rt:80:13
 between-requires : tie.Need-between-requires
 between-requires c κs = search needs
 
--- src/lib.rt:81:13
 between-requires-2 : tie.Need-between-requires-2
 between-requires-2 c κs = search needs
 
--- src/lib.rt:82:13
 between-requires-3 : tie.Need-between-requires-3
 between-requires-3 c κs = search needs
 
--- src/lib.rt:83:13
 above-requires : tie.Need-above-requires
 above-requires c κs = search needs
 
--- src/lib.rt:71:1
 returns : tie.Need-returns
 unfolding tiers
 returns c =

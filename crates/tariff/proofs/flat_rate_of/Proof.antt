@@ -1,15 +1,11 @@
 -- After t turns the sum is that of the tiers below t.
 use Prim.Native.Nat.{_≤_, _-_}
-use mathlib.Core.Path.{_≡_, ap}
+use mathlib.Core.Path.{ap}
 use native.Mathlib.Omega.{arith}
-use borrow.Author.Needs.{needs}
 use Rattle.units.specs.declared.Ticks.{Ticks}
 use Rattle.tariff.proofs.FlatRate.{Summed, none-summed, one-more, sum-fits, all-summed}
 use Rattle.tariff.proofs.flat_rate_of.Statement.{statement}
 use Rattle.tariff.proofs.flat_rate_of.Tie as tie
-use Rattle.tariff.proofs.flat_rate_of.Reads as reads
-use Rattle.tariff.proofs.flat_rate_of.Lts as lts
-use Rattle.units.proofs.priced.Reads as priced-reads
 
 abbrev Inv-loop : tie.InvT-loop
 Inv-loop energies rates sum₀ t₀ sum t = (t ≤ 4) × Summed energies rates t sum
@@ -38,8 +34,8 @@ priced-requires c κs = c .before .before .before .before .pre .0 (c .before .be
 add-sum : tie.Need-add-sum Inv-loop μ-loop
 add-sum c =
     let head = c .before .before .before .before .before in
-    let more =
-    one-more (head .loop .inv .1) (head .before .pre .0 (head .loop .t) (omega arith)) (ap (λ (p : Ticks). p .0) (c .before .priced .ensures)) in
+    let low = head .before .pre .0 (head .loop .t) (omega arith) in
+    let more = one-more (head .loop .inv .1) low (ap (λ (p : Ticks). p .0) (c .before .priced .ensures)) in
     record { fits = sum-fits more (omega arith) (head .before .pre .1) }
 
 add-t : tie.Need-add-t Inv-loop μ-loop
@@ -50,10 +46,9 @@ loop-less c = omega arith
 
 loop-again : tie.Need-loop-again Inv-loop μ-loop
 loop-again c =
-    let head = c .before .before .before .before .before in (
-      omega arith,
-      one-more (head .loop .inv .1) (head .before .pre .0 (head .loop .t) (omega arith)) (ap (λ (p : Ticks). p .0) (c .before .priced .ensures)),
-    )
+    let head = c .before .before .before .before .before in
+    let low = head .before .pre .0 (head .loop .t) (omega arith) in
+    (omega arith, one-more (head .loop .inv .1) low (ap (λ (p : Ticks). p .0) (c .before .priced .ensures)))
 
 returns : tie.Need-returns Inv-loop μ-loop
 returns c = all-summed (c .before .loop .inv .1) (omega arith)

@@ -1,5 +1,4 @@
 -- The arms' tests are those of the ranges 3 to 8 and 9 to 11.
-use Prim.Native.Nat.{_≤_, _<_}
 use native.Mathlib.Omega.{arith}
 use Rattle.units.proofs.Ranges.{within, under, over}
 use Rattle.tariff.specs.Tariff.{monthlyMethod}

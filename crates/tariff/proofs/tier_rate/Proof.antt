@@ -6,11 +6,6 @@ use Rattle.units.specs.Units.{rate}
 use Rattle.tariff.proofs.Rates.{rate-of-cogeneration, rate-of-small, rate-of-large}
 use Rattle.tariff.proofs.tier_rate.Statement.{statement}
 use Rattle.tariff.proofs.tier_rate.Tie as tie
-use Rattle.tariff.proofs.tier_rate.Reads as reads
-use Rattle.tariff.proofs.tier_rate.Lts as lts
-use Rattle.tariff.proofs.limit_of.Reads as limit-of-reads
-use Rattle.tariff.proofs.smaller_rate.Reads as smaller-rate-reads
-use Rattle.tariff.proofs.table_price.Reads as table-price-reads
 
 returns : tie.Need-returns
 returns c = (ap rate (sym (rate-of-cogeneration _ _ _ (c .if1 .taken))), omega arith)
@@ -38,10 +33,11 @@ add-t9 c = omega arith
 returns-3 : tie.Need-returns-3
 returns-3 c =
     let called = c .before .before in
-    let large = called .before .before .before in (
-      ap rate (sym (rate-of-large _ _ (large .before .if1 .left) (large .if2 .left) (ap (λ r. r .0) (called .before .before .table-price .ensures)) (called .before .limit-of .ensures) (called .smaller-rate .ensures))),
-      omega (arith, c .before .before .smaller-rate .ensures),
-    )
+    let large = called .before .before .before in
+    let table = ap (λ r. r .0) (called .before .before .table-price .ensures) in
+    let cap = called .before .limit-of .ensures in
+    let exact = rate-of-large _ _ (large .before .if1 .left) (large .if2 .left) table cap (called .smaller-rate .ensures) in
+    (ap rate (sym exact), omega (arith, called .smaller-rate .ensures))
 
 pub tier-rate-spec : {M : Type 1} → statement M
 tier-rate-spec =

@@ -9,7 +9,7 @@ use Rattle.units.specs.Units.{kwh, ticks}
 use Rattle.units.specs.Limits.{maxKwh}
 use Rattle.units.specs.Folds.{sumBelow}
 use Rattle.units.proofs.Folds.{sum-zero, sum-next}
-use Rattle.values.specs.Arrays.{energyAt}
+use Rattle.prices.specs.Arrays.{energyAt}
 use borrow.Author.Needs.{needs}
 use Rattle.values.proofs.energy_over.Statement.{statement}
 use Rattle.values.proofs.energy_over.Tie as tie

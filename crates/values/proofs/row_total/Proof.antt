@@ -1,5 +1,5 @@
 -- The three bands.
-use Rattle.values.specs.Arrays.{rowTotal}
+use Rattle.prices.specs.Arrays.{rowTotal}
 use mathlib.Core.Path.{refl}
 use borrow.Author.Needs.{needs}
 use Rattle.values.proofs.row_total.Statement.{statement}

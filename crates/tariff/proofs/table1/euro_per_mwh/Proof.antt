@@ -1,6 +1,7 @@
--- The search from row i on finds what the search in all rows of the kind finds.
+-- The search from row i on finds what the search in all rows of the kind finds. The checker computes that the program's lists
+-- are those of `table1`.
 use Prim.Native.Nat.{_≤_, _-_}
-use mathlib.Core.Path.{_≡_, ap, _∙_}
+use mathlib.Core.Path.{_≡_, ap}
 use native.Mathlib.Omega.{arith}
 use borrow.Author.Needs.{needs}
 use lib.ListN.{length}
@@ -9,10 +10,6 @@ use Rattle.tariff.specs.Table1.{table1, firstReaching, tableEuroPerMwh}
 use Rattle.tariff.proofs.Rows.{reached, passed, none-left}
 use Rattle.tariff.proofs.table1.euro_per_mwh.Statement.{statement}
 use Rattle.tariff.proofs.table1.euro_per_mwh.Tie as tie
-use Rattle.tariff.proofs.table1.euro_per_mwh.Reads as reads
-use Rattle.tariff.proofs.table1.euro_per_mwh.Lts as lts
-use Rattle.tariff.proofs.table1.row_at.Reads as row-at-reads
-use Rattle.tariff.proofs.table1.rows_of.Reads as rows-of-reads
 
 abbrev Inv-loop : tie.InvT-loop
 Inv-loop plant power end i₀ i =
@@ -28,17 +25,28 @@ loop-holds : tie.Need-loop-holds Inv-loop μ-loop
 unfolding tableEuroPerMwh
 loop-holds c = (omega arith, ap (firstReaching (c .before .args .power)) (c .rows-of .ensures .1))
 
-row-at-requires : tie.Need-row-at-requires Inv-loop μ-loop
-row-at-requires c κs = omega arith
+mul-if1 : tie.Need-mul-if1 Inv-loop μ-loop
+unfolding table1
+mul-if1 c = omega arith
+
+array-read-if1 : tie.Need-array-read-if1 Inv-loop μ-loop
+unfolding table1
+array-read-if1 c = omega arith
+
+mul-result : tie.Need-mul-result Inv-loop μ-loop
+unfolding table1
+mul-result c = omega arith
+
+array-read-result : tie.Need-array-read-result Inv-loop μ-loop
+unfolding table1
+array-read-result c = omega arith
 
 returns : tie.Need-returns Inv-loop μ-loop
+unfolding table1
 returns c =
-    let turn = c .before .before .before in
-    let row = c .before .before .row-at .ensures in
-    let start = turn .before .before .before in
-    row .1
-    ∙ reached (turn .loop-test .taken) (turn .before .loop .inv .0 .1) (row .0 (start .args .power) (start .fits .power .fits))
-    (turn .before .loop .inv .1) (c .if1 .taken)
+    let head = c .before .before in
+    let fits = head .before .before .fits .power .fits in
+    reached fits (c .before .loop-test .taken) (head .loop .inv .0 .1) (head .loop .inv .1) (c .if1 .taken)
 
 add-i : tie.Need-add-i Inv-loop μ-loop
 unfolding table1
@@ -48,14 +56,11 @@ loop-less : tie.Need-loop-less Inv-loop μ-loop
 loop-less c = omega arith
 
 loop-again : tie.Need-loop-again Inv-loop μ-loop
+unfolding table1
 loop-again c =
-    let turn = c .before .before .before in
-    let row = c .before .before .row-at .ensures in
-    let start = turn .before .before .before in (
-      omega arith,
-      passed (turn .loop-test .taken) (turn .before .loop .inv .0 .1) (row .0 (start .args .power) (start .fits .power .fits))
-          (turn .before .loop .inv .1) (c .if1 .left),
-    )
+    let head = c .before .before in
+    let fits = head .before .before .fits .power .fits in
+    (omega arith, passed fits (c .before .loop-test .taken) (head .loop .inv .0 .1) (head .loop .inv .1) (c .if1 .left))
 
 returns-2 : tie.Need-returns-2 Inv-loop μ-loop
 returns-2 c = let loop = c .before .loop in none-left _ (loop .inv .0 .0) (c .loop-test .left) (loop .inv .1)
@@ -68,7 +73,10 @@ euro-per-mwh-spec =
     μ-loop
     rows-of-requires
     loop-holds
-    row-at-requires
+    mul-if1
+    array-read-if1
+    mul-result
+    array-read-result
     returns
     add-i
     loop-less

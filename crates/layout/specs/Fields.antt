@@ -1,0 +1,169 @@
+-- "Book" of document 01: the fields of each record, once. Reading and writing both go by these.
+use Prim.Native.Nat.{ℕ, _+_, _*_, _/_}
+use mathlib.Core.Bool.{Bool}
+use mathlib.Core.List.{List, [], _∷_}
+use lib.Dec.{eqb}
+use lib.ListN.{length, getD, replicate}
+use Rattle.units.specs.Folds.{allBelow}
+use Rattle.codec.specs.Bytes.{bytesOf, part, number, stored}
+
+infix 5 _holds_
+
+-- "Records of 80 bytes"
+abbrev pub recordLength : ℕ
+recordLength = 80
+
+-- `size` bytes from `from` on
+pub record Field : Type 0 where
+  pub from : ℕ
+  pub size : ℕ
+
+abbrev pub bytes : ℕ → ℕ → Field
+bytes from size = record { from = from; size = size }
+
+-- the number that stands in a field of a record
+unfoldable pub get : Field → List ℕ → ℕ
+get f r = number (f .size) (f .from) r
+
+-- "Record 0 is the head: 0–3 records used u (head included, 1 to capacity), 4–7 first user, rest zero."
+abbrev pub usedField : Field
+usedField = bytes 0 4
+
+abbrev pub firstUserField : Field
+firstUserField = bytes 4 4
+
+-- "0–3 next, 4 kind", of users and entries
+abbrev pub nextField : Field
+nextField = bytes 0 4
+
+abbrev pub kindField : Field
+kindField = bytes 4 1
+
+-- "User: 0–3 next, 4 kind 1, 5 class, 6 plant, 7 option (0 credit, 1 liquidation), 8–11 number (not 0), 12–15 first entry,
+-- 16–19 power in watts, 20–21 activation year, 22 activation month, 23 island (1 = network not interconnected, else 0),
+-- 24–25 open year, 26 runs made (bits: 1 June, 2 October, 4 January), 32–39 credit, 40–47 advances of the open year,
+-- 48–51 and 52–55 exchanged kWh of the last closed year's halves."
+abbrev pub userKind : ℕ
+userKind = 1
+
+abbrev pub classField : Field
+classField = bytes 5 1
+
+abbrev pub plantField : Field
+plantField = bytes 6 1
+
+abbrev pub optionField : Field
+optionField = bytes 7 1
+
+abbrev pub numberField : Field
+numberField = bytes 8 4
+
+abbrev pub firstEntryField : Field
+firstEntryField = bytes 12 4
+
+abbrev pub powerField : Field
+powerField = bytes 16 4
+
+abbrev pub activationYearField : Field
+activationYearField = bytes 20 2
+
+abbrev pub activationMonthField : Field
+activationMonthField = bytes 22 1
+
+abbrev pub islandField : Field
+islandField = bytes 23 1
+
+abbrev pub openYearField : Field
+openYearField = bytes 24 2
+
+abbrev pub runsField : Field
+runsField = bytes 26 1
+
+abbrev pub creditField : Field
+creditField = bytes 32 8
+
+abbrev pub advancesField : Field
+advancesField = bytes 40 8
+
+abbrev pub half1Field : Field
+half1Field = bytes 48 4
+
+abbrev pub half2Field : Field
+half2Field = bytes 52 4
+
+-- "Entry: 0–3 next, 4 kind (2 advance, 3 closing), 6–7 year (from the owner's activation to its open year), 64–67 owner
+-- (the user's record index)."
+abbrev pub advanceKind : ℕ
+advanceKind = 2
+
+abbrev pub closingKind : ℕ
+closingKind = 3
+
+abbrev pub yearField : Field
+yearField = bytes 6 2
+
+abbrev pub ownerField : Field
+ownerField = bytes 64 4
+
+-- "Advance: 5 run bit, 8–15 ticks."
+abbrev pub runField : Field
+runField = bytes 5 1
+
+abbrev pub ticksField : Field
+ticksField = bytes 8 8
+
+-- "Closing: 5 option, 8–15 C, 16–23 O, 24–31 F, 32–39 contribution, 40–47 liquidation, 48–55 lapsed credit, 56–63 balance
+-- (signed, two's complement)."
+abbrev pub closingOptionField : Field
+closingOptionField = bytes 5 1
+
+abbrev pub valueField : Field
+valueField = bytes 8 8
+
+abbrev pub costField : Field
+costField = bytes 16 8
+
+abbrev pub flatRateField : Field
+flatRateField = bytes 24 8
+
+abbrev pub contributionField : Field
+contributionField = bytes 32 8
+
+abbrev pub liquidationField : Field
+liquidationField = bytes 40 8
+
+abbrev pub lapsedField : Field
+lapsedField = bytes 48 8
+
+abbrev pub balanceField : Field
+balanceField = bytes 56 8
+
+-- n bytes of a record from a place on are zero
+unfoldable pub zeros : ℕ → ℕ → List ℕ → Bool
+zeros from n r = allBelow n (λ i. eqb (getD r (from + i) 0) 0)
+
+-- the record at an index of the book, empty past the end; and the book with a record in its place
+unfoldable pub recordAt : List ℕ → ℕ → List ℕ
+recordAt b i = part recordLength (recordLength * i) b
+
+unfoldable pub putRecord : ℕ → List ℕ → List ℕ → List ℕ
+putRecord i r b = stored (recordLength * i) r b
+
+abbrev pub capacity : List ℕ → ℕ
+capacity b = length b / recordLength
+
+-- a number for a field of an image
+pub record Cell : Type 0 where
+  pub field : Field
+  pub value : ℕ
+
+abbrev pub _holds_ : Field → ℕ → Cell
+f holds n = record { field = f; value = n }
+
+-- "A record image starts as [0; 80], is filled": the cells are written one after the other
+unfoldable pub written : List Cell → List ℕ → List ℕ
+written [] r = r
+written (c ∷ cs) r = written cs (stored (c .field .from) (bytesOf (c .field .size) (c .value)) r)
+
+abbrev pub image : List Cell → List ℕ
+image cs = written cs (replicate recordLength 0)

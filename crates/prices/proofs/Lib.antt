@@ -1,0 +1,3 @@
+pub mod PriceParts
+pub mod Rows
+pub mod SheetRows
