@@ -1,1 +1,2 @@
 pub mod SheetRates
+pub mod SheetEnergies

@@ -1,10 +1,11 @@
 -- "Year's values" of document 01: exchanged energy, F and the halves of a year sheet, and all its values by a user's
 -- details.
-use Prim.Native.Nat.{ℕ, _+_, _*_, min}
+use Prim.Native.Nat.{ℕ, _+_, _*_, _≤_, min}
 use mathlib.Core.Bool.{Bool, true, false, cond}
 use mathlib.Core.List.{List}
 use lib.Dec.{ltb, eqb}
 use Rattle.units.specs.Units.{ticks, kwh}
+use Rattle.units.specs.Limits.{maxYearTicks, maxFlatRate, maxHalfKwh}
 use Rattle.units.specs.Folds.{sumBelow, anyBelow}
 use Rattle.tariff.specs.Tariff.{monthlyThreshold, monthlyMethod, annualTiers, monthlyTiers, meanRate, tierRate, flatRateOf}
 use Rattle.sheet.specs.YearSheet.{injected, net, system, monthWithdrawn}
@@ -76,3 +77,11 @@ yearValues s d =
       half1 = kwh (halfOf s 0);
       half2 = kwh (halfOf s 1)
     }
+
+-- "Book", ranges: "C, O .. are at most 3.6·10^14, F 7.2·10^14 .. a half 360,000,000"
+pub record ValuesFit (v : YearValues) : Type 0 where
+  pub value : v .value .0 ≤ maxYearTicks
+  pub cost : v .cost .0 ≤ maxYearTicks
+  pub flatRate : v .«flat_rate» .0 ≤ maxFlatRate
+  pub half1 : v .half1 .0 ≤ maxHalfKwh
+  pub half2 : v .half2 .0 ≤ maxHalfKwh

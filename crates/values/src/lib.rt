@@ -10,7 +10,7 @@ ghost use Rattle.units.specs.Folds.{sumBelow, anyBelow};
 ghost use Rattle.tariff.specs.Tariff.{monthlyThreshold, monthlyTiers, annualTiers, meanRate, flatRateOf};
 ghost use Rattle.sheet.specs.YearSheet.{Passed, monthWithdrawn, word};
 ghost use Rattle.prices.specs.Arrays.{energyAt, rowTotal};
-ghost use Rattle.values.specs.YearsValues.{monthInjected, monthRate, annualRate, flatRateOver, yearValues};
+ghost use Rattle.values.specs.YearsValues.{monthInjected, monthExchanged, monthRate, annualRate, monthFlatRate, flatRateOver, yearValues, ValuesFit};
 ghost use Rattle.values.specs.Arrays.{Months, Rates};
 
 use tariff::MONTHLY_THRESHOLD;
@@ -198,4 +198,52 @@ fn annual_flat_rate(s: &[u8], from: usize, count: usize, withdrawn: Kwh, exchang
 {
     let energies = tariff::annual_tiers(class, withdrawn, exchanged);
     tariff::flat_rate_of(energies, annual_rates(s, from, count, plant, power))
+}
+
+// The flat-rate part of a stretch of months in the monthly method.
+fn monthly_flat_rate(s: &[u8], from: usize, count: usize, withdrawn: [Kwh; 12], exchanged: [Kwh; 12], plant: u8, power: u32) -> Ticks
+    requires { ⌜ Passed (now s) ⌝ }
+    requires { ⌜ from + count ≤ 12 ⌝ }
+    requires { ⌜ Months (monthWithdrawn (now s)) withdrawn × Months (monthExchanged (now s)) exchanged ⌝ }
+    ensures { λ r. ⌜ (r .0 ≡ sumBelow count (λ i. monthFlatRate (now (s .entry)) plant power (from + i))) × (r .0 ≤ maxTierRate * (3 * maxKwh * count)) ⌝ }
+{
+    let mut sum: u64 = 0;
+    for i in 0..count {
+        let month = from + i;
+        let part = month_flat_rate(s, month, withdrawn[month], exchanged[month], plant, power);
+        sum = sum + part.0;
+    }
+    Ticks(sum)
+}
+
+// F, the flat-rate part, of a stretch of months for a class, a plant and its power in watts.
+pub fn flat_rate(s: &[u8], from: usize, count: usize, class: u8, plant: u8, power: u32) -> Ticks
+    requires { ⌜ Passed (now s) ⌝ }
+    requires { ⌜ (0 < count) × (from + count ≤ 12) ⌝ }
+    ensures { λ r. ⌜ (r ≡ ticks (flatRateOver (now (s .entry)) from count class plant power)) × (r .0 ≤ maxFlatRate) ⌝ }
+{
+    let withdrawn = withdrawn(s);
+    let injected = injected(s);
+    if tariff::monthly_method(class, some_month_above(withdrawn, from, count)) {
+        monthly_flat_rate(s, from, count, withdrawn, exchanged(withdrawn, injected), plant, power)
+    } else {
+        let total = energy_over(withdrawn, from, count);
+        let shared = smaller(total, energy_over(injected, from, count));
+        annual_flat_rate(s, from, count, total, shared, class, plant, power)
+    }
+}
+
+// All values of a sheet that has passed 11, 13 and 14, for a user with these details.
+pub fn year_values(s: &[u8], details: Details) -> YearValues
+    requires { ⌜ Passed (now s) ⌝ }
+    ensures { λ r. ⌜ (r ≡ yearValues (now (s .entry)) details) × ValuesFit r ⌝ }
+{
+    let months = exchanged(withdrawn(s), injected(s));
+    YearValues {
+        value: prices::value(s, details.island == 1, details.plant == 1),
+        cost: prices::cost(s),
+        flat_rate: flat_rate(s, 0, 12, details.class, details.plant, details.power),
+        half1: energy_over(months, 0, 6),
+        half2: energy_over(months, 6, 6),
+    }
 }
