@@ -1,6 +1,6 @@
 -- "Election and advances" of document 01: the day of an election, the runs due in a year, the amount of a run.
 use Prim.Native.Nat.{ℕ, _+_, _*_, _%_}
-use mathlib.Core.Bool.{Bool, true, false, cond, not, _&&_, _||_}
+use mathlib.Core.Bool.{Bool, false, cond, not, _&&_, _||_}
 use lib.Dec.{leb, ltb, eqb}
 use Rattle.calendar.specs.declared.Halves.{Halves}
 

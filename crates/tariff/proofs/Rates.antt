@@ -46,7 +46,8 @@ cond-capped : (t : Bool) {x y cap : ℕ} → x ≤ cap → y ≤ cap → cond t 
 cond-capped true h k = h
 cond-capped false h k = k
 
-pub tier-rate-capped : (plant power cap : ℕ) {net system : ℕ} → net ≤ cap → system ≤ cap → tierRate plant power net system ≤ cap + cap
+pub tier-rate-capped :
+    (plant power cap : ℕ) {net system : ℕ} → net ≤ cap → system ≤ cap → tierRate plant power net system ≤ cap + cap
 unfolding tierRate
 tier-rate-capped plant power cap {net} {system} h k =
     cond-capped (eqb plant cogeneration) (omega arith) (cond-capped (leb power smallPower) (omega arith) (omega arith))

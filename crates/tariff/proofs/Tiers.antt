@@ -37,7 +37,10 @@ numbers-kwh (p ∷ parts) = ap (λ (ps : List ℕ). p ∷ ps) (numbers-kwh parts
 pub sum-of-parts : {energies : List Kwh} (parts : List ℕ) → energies ≡ map kwh parts → tierSum (numbers energies) ≡ tierSum parts
 sum-of-parts parts q = ap (λ (es : List Kwh). tierSum (numbers es)) q ∙ ap tierSum (numbers-kwh parts)
 
-pub parts-and-sum :
-    {energies : List Kwh} (parts : List ℕ) {e : ℕ} → tierSum parts ≡ e → energies ≡ map kwh parts →
-    (energies ≡ map kwh parts) × (tierSum (numbers energies) ≡ e)
-parts-and-sum parts s q = (q, sum-of-parts parts q ∙ s)
+-- the program's four parts, each as the definition has it
+pub cut-parts :
+    (b₁ b₂ b₃ w e : ℕ) {p₁ p₂ p₃ p₄ : ℕ} → (b₁ ≤ b₂) × (b₂ ≤ b₃) → e ≤ w → p₁ ≡ between (w - e) w 0 b₁ →
+    p₂ ≡ between (w - e) w b₁ b₂ → p₃ ≡ between (w - e) w b₂ b₃ → p₄ ≡ above (w - e) w b₃ →
+    ((kwh p₁ ∷ kwh p₂ ∷ kwh p₃ ∷ kwh p₄ ∷ []) ≡ map kwh (tiers b₁ b₂ b₃ w e)) × (tierSum (p₁ ∷ p₂ ∷ p₃ ∷ p₄ ∷ []) ≡ e)
+unfolding tiers
+cut-parts b₁ b₂ b₃ w e b h q₁ q₂ q₃ q₄ = (rw (q₁, q₂, q₃, q₄), rw (q₁, q₂, q₃, q₄) (tiers-sum (b .0) (b .1) h))

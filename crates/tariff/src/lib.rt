@@ -52,32 +52,20 @@ const MONTHLY_SECOND: u32 = 8_000_000;
 
 const MONTHLY_THIRD: u32 = 12_000_000;
 
-fn smaller(a: u32, b: u32) -> u32
-    ensures { λ r. ⌜ r ≡ min a b ⌝ }
-{
-    if a <= b { a } else { b }
-}
-
-fn larger(a: u32, b: u32) -> u32
-    ensures { λ r. ⌜ r ≡ max a b ⌝ }
-{
-    if a <= b { b } else { a }
-}
-
 // What the stretch from `low` to `high` has between two bounds.
-fn between(low: u32, high: u32, a: u32, b: u32) -> u32
-    ensures { λ r. ⌜ r ≡ between low high a b ⌝ }
+fn between(low: Kwh, high: Kwh, a: Kwh, b: Kwh) -> Kwh
+    ensures { λ r. ⌜ r .0 ≡ between (low .0) (high .0) (a .0) (b .0) ⌝ }
 {
-    let start = larger(low, a);
-    larger(smaller(high, b), start) - start
+    let start = units::larger(low, a);
+    Kwh(units::larger(units::smaller(high, b), start).0 - start.0)
 }
 
 // What it has above the last bound.
-fn above(low: u32, high: u32, a: u32) -> u32
-    ensures { λ r. ⌜ r ≡ above low high a ⌝ }
+fn above(low: Kwh, high: Kwh, a: Kwh) -> Kwh
+    ensures { λ r. ⌜ r .0 ≡ above (low .0) (high .0) (a .0) ⌝ }
 {
-    let start = larger(low, a);
-    larger(high, start) - start
+    let start = units::larger(low, a);
+    Kwh(units::larger(high, start).0 - start.0)
 }
 
 // The exchanged energy cut at three rising bounds: "Withdrawal beyond E fills the lowest tiers, so E lies from W − E to W
@@ -88,13 +76,13 @@ pub fn cut(withdrawn: Kwh, exchanged: Kwh, first: Kwh, second: Kwh, third: Kwh) 
     ensures { λ r. ⌜ r ≡ map kwh (tiers (first .0) (second .0) (third .0) (withdrawn .0) (exchanged .0)) ⌝ }
     ensures { λ r. ⌜ tierSum (numbers r) ≡ exchanged .0 ⌝ }
 {
-    let low = withdrawn.0 - exchanged.0;
-    let high = withdrawn.0;
+    let low = Kwh(withdrawn.0 - exchanged.0);
+    let high = Kwh(withdrawn.0);
     [
-        Kwh(between(low, high, 0, first.0)),
-        Kwh(between(low, high, first.0, second.0)),
-        Kwh(between(low, high, second.0, third.0)),
-        Kwh(above(low, high, third.0)),
+        between(low, high, Kwh(0), first),
+        between(low, high, first, second),
+        between(low, high, second, third),
+        above(low, high, third),
     ]
 }
 
@@ -156,21 +144,23 @@ pub fn table_price(plant: u8, power: u32) -> Rate
     Rate(UNITS_PER_EURO_MWH * table1::euro_per_mwh(plant, power) as u64)
 }
 
-// "the limit, which is Table 1 less that tier's net (house), not below zero."
-fn limit_of(table: Rate, net: Rate) -> Rate
-    ensures { λ r. ⌜ r .0 ≡ table .0 - net .0 ⌝ }
-{
-    if net.0 <= table.0 {
-        Rate(table.0 - net.0)
-    } else {
-        Rate(0)
-    }
-}
-
 fn smaller_rate(a: Rate, b: Rate) -> Rate
     ensures { λ r. ⌜ r .0 ≡ min (a .0) (b .0) ⌝ }
 {
     if a.0 <= b.0 { a } else { b }
+}
+
+fn larger_rate(a: Rate, b: Rate) -> Rate
+    ensures { λ r. ⌜ r .0 ≡ max (a .0) (b .0) ⌝ }
+{
+    if a.0 <= b.0 { b } else { a }
+}
+
+// "the limit, which is Table 1 less that tier's net (house), not below zero."
+fn limit_of(table: Rate, net: Rate) -> Rate
+    ensures { λ r. ⌜ r .0 ≡ table .0 - net .0 ⌝ }
+{
+    Rate(larger_rate(table, net).0 - net.0)
 }
 
 // "Tier rate: cogeneration net; renewable up to 20,000 W net + system; above, net + the smaller of system and the limit".

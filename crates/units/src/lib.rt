@@ -1,6 +1,6 @@
 // The units of document 01, "Units": each quantity is a type of its own, and a product is made only here.
 ghost use mathlib.Core.Path.{_≡_};
-ghost use Prim.Native.Nat.{_*_, _≤_};
+ghost use Prim.Native.Nat.{_*_, _≤_, min, max};
 ghost use Rattle.units.specs.Units.{ticks};
 ghost use Rattle.units.specs.Limits.{maxPrice, maxTierRate, maxHalfKwh};
 
@@ -25,6 +25,19 @@ pub struct RecordIndex(pub u32);
 // The limits of a year sheet's numbers (document 01, "Year sheet").
 pub const MAX_KWH: u32 = 20_000_000;
 pub const MAX_PRICE: u64 = 500_000;
+
+// The smaller and the larger of two energies.
+pub fn smaller(a: Kwh, b: Kwh) -> Kwh
+    ensures { λ r. ⌜ r .0 ≡ min (a .0) (b .0) ⌝ }
+{
+    if a.0 <= b.0 { a } else { b }
+}
+
+pub fn larger(a: Kwh, b: Kwh) -> Kwh
+    ensures { λ r. ⌜ r .0 ≡ max (a .0) (b .0) ⌝ }
+{
+    if a.0 <= b.0 { b } else { a }
+}
 
 // Energy of the sheet, times a price or a tier rate.
 pub fn priced(energy: Kwh, price: Rate) -> Ticks

@@ -55,19 +55,13 @@ fn month_totals(energy: [[Kwh; 3]; 12]) -> [Kwh; 12]
     totals
 }
 
-fn smaller(a: Kwh, b: Kwh) -> Kwh
-    ensures { λ r. ⌜ r ≡ kwh (min (a .0) (b .0)) ⌝ }
-{
-    if a.0 <= b.0 { a } else { b }
-}
-
 // The smaller of withdrawn and injected energy, month by month.
 fn exchanged(withdrawn: [Kwh; 12], injected: [Kwh; 12]) -> [Kwh; 12]
     ensures { λ r. ⌜ ((m : ℕ) → m < 12 → getD r m (kwh 0) ≡ kwh (min (energyAt m withdrawn) (energyAt m injected))) ⌝ }
 {
     let mut months = [Kwh(0); 12];
     for month in 0..12 {
-        months[month] = smaller(withdrawn[month], injected[month]);
+        months[month] = units::smaller(withdrawn[month], injected[month]);
     }
     months
 }
@@ -228,7 +222,7 @@ pub fn flat_rate(s: &[u8], from: usize, count: usize, class: u8, plant: u8, powe
         monthly_flat_rate(s, from, count, withdrawn, exchanged(withdrawn, injected), plant, power)
     } else {
         let total = energy_over(withdrawn, from, count);
-        let shared = smaller(total, energy_over(injected, from, count));
+        let shared = units::smaller(total, energy_over(injected, from, count));
         annual_flat_rate(s, from, count, total, shared, class, plant, power)
     }
 }

@@ -1,7 +1,7 @@
 -- `larger` makes the difference one that stops at zero.
 use native.Mathlib.Omega.{arith}
-use borrow.Author.Needs.{needs}
 use Rattle.tariff.specs.Tariff.{between}
+use borrow.Author.Needs.{needs}
 use Rattle.tariff.proofs.between.Statement.{statement}
 use Rattle.tariff.proofs.between.Tie as tie
 
@@ -14,8 +14,8 @@ smaller-requires c κs = search needs
 larger-requires-2 : tie.Need-larger-requires-2
 larger-requires-2 c κs = search needs
 
-sub-result : tie.Need-sub-result
-sub-result c = search needs
+sub-t8 : tie.Need-sub-t8
+sub-t8 c = search needs
 
 returns : tie.Need-returns
 unfolding between
@@ -23,4 +23,4 @@ returns c = omega arith
 
 pub between-spec : {M : Type 1} → statement M
 between-spec =
-    tie.close (tie.spec larger-requires smaller-requires larger-requires-2 sub-result returns)
+    tie.close (tie.spec larger-requires smaller-requires larger-requires-2 sub-t8 returns)

@@ -4,8 +4,7 @@ use mathlib.Core.Path.{_≡_, ap, sym, _∙_}
 use mathlib.Core.Bool.{Bool}
 use native.Mathlib.Omega.{arith}
 use denote.Ref.{now}
-use Rattle.units.specs.declared.Kwh.{Kwh}
-use Rattle.units.specs.Units.{ticks}
+use Rattle.units.specs.Units.{kwh, ticks}
 use Rattle.units.specs.Limits.{maxKwh}
 use Rattle.tariff.specs.Tariff.{monthlyMethod}
 use Rattle.sheet.specs.YearSheet.{monthWithdrawn}
@@ -58,7 +57,7 @@ smaller-requires c κs = search needs
 annual-flat-rate-requires : tie.Need-annual-flat-rate-requires
 annual-flat-rate-requires c κs = 
     let start = c .before .before .before .before .before .before .before .before .before in
-    let shared = ap (λ (e : Kwh). e .0) (c .smaller .ensures) in
+    let shared = c .smaller .ensures in
     (start .pre .0, (start .pre .1, (omega arith, omega (arith, c .before .before .energy-over .ensures .1))))
 
 returns : tie.Need-returns
@@ -84,8 +83,8 @@ returns-2 c =
     let total = c .before .before .before .energy-over in
     let injected = c .before .before .energy-over2 in
     let test = sym (ap (monthlyMethod (a .class)) (above .ensures ∙ above-over s (w .result) (w .ensures) (a .from) (a .count) (start .pre .1 .1))) ∙ sym (method .ensures) ∙ c .before .before .before .before .if1 .left in
-    let shared = ap (λ (e : Kwh). e .0) (c .before .smaller .ensures) in
-    (ap ticks (flat-annual s (w .result) (i .result) (a .from) (a .count) (a .class) (a .plant) (a .power) (c .annual-flat-rate .result .0) (total .result) (injected .result) (c .before .smaller .result) (start .pre .1 .1) (w .ensures) (i .ensures) test (total .ensures .0) (injected .ensures .0) (c .before .smaller .ensures) (c .annual-flat-rate .ensures .0)), omega (arith, c .annual-flat-rate .ensures .1, total .ensures .1))
+    let shared = c .before .smaller .ensures in
+    (ap ticks (flat-annual s (w .result) (i .result) (a .from) (a .count) (a .class) (a .plant) (a .power) (c .annual-flat-rate .result .0) (total .result) (injected .result) (c .before .smaller .result) (start .pre .1 .1) (w .ensures) (i .ensures) test (total .ensures .0) (injected .ensures .0) (ap kwh (c .before .smaller .ensures)) (c .annual-flat-rate .ensures .0)), omega (arith, c .annual-flat-rate .ensures .1, total .ensures .1))
 
 pub flat-rate-spec : {M : Type 1} → statement M
 flat-rate-spec =
