@@ -9,7 +9,7 @@ use native.Mathlib.Omega.{arith}
 use lib.Dec.{eqb, ltb}
 use lib.IntN.{pos, _+ℤ_, _-ℤ_, +ℤ-comm, +ℤ-negℤ-cancel}
 use Rattle.values.specs.declared.Details.{Details}
-use Rattle.values.specs.YearsValues.{costOf}
+use Rattle.prices.specs.ValueAndCost.{costOf}
 use Rattle.sheet.specs.YearSheet.{sheetYear}
 use Rattle.account.specs.Closing.{liquidates, contributionOf, lapsedOf, creditAfter, balanceOf}
 use Rattle.account.proofs.Closing.{one-year}

@@ -6,7 +6,8 @@ use mathlib.Core.List.{List, [], _∷_}
 use lib.Dec.{eqb, ltb}
 use lib.IntN.{ℤ, pos, _+ℤ_}
 use Rattle.values.specs.declared.Details.{Details}
-use Rattle.values.specs.YearsValues.{valueOf, costOf, flatRateOver, halfOf, onIsland, isPhotovoltaic}
+use Rattle.prices.specs.ValueAndCost.{valueOf, costOf}
+use Rattle.values.specs.YearsValues.{flatRateOver, halfOf, onIsland, isPhotovoltaic}
 use Rattle.sheet.specs.YearSheet.{sheetYear}
 use Rattle.calendar.specs.ElectionAndAdvances.{halvesPaid, amountOf}
 use Rattle.account.specs.Closing.{contributionOf, liquidationOf, lapsedOf, creditAfter, balanceOf}
