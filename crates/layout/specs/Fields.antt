@@ -8,7 +8,6 @@ use Rattle.units.specs.Folds.{allBelow}
 use Rattle.codec.specs.Bytes.{bytesOf, part, number, stored}
 
 infix 5 _holds_
-
 -- "Records of 80 bytes"
 abbrev pub recordLength : ℕ
 recordLength = 80

@@ -1,0 +1,236 @@
+-- "Book" of document 01: which records of a book are faulty, sentence by sentence, and when a book is sound. Every string
+-- of bytes has an answer: a record past the end has zeros in all its fields.
+use Prim.Native.Nat.{ℕ, _+_, _-_, _*_, _/_, _%_, _^_}
+use mathlib.Core.Bool.{Bool, true, false, cond, not, _&&_, _||_}
+use mathlib.Core.List.{List, _∷_}
+use lib.Dec.{leb, ltb, eqb}
+use lib.ListN.{length, replicate}
+use Rattle.units.specs.Limits.{maxYearTicks, maxFlatRate, maxContribution, maxHalfTicks, maxHalfKwh, maxPower, firstActivation, lastActivation, lastOpenYear}
+use Rattle.units.specs.Folds.{sumBelow, anyBelow}
+use Rattle.calendar.specs.declared.Halves.{Halves}
+use Rattle.calendar.specs.ElectionAndAdvances.{june, october, january, halvesPaid, due, halvesCount}
+use Rattle.values.specs.declared.Details.{Details}
+use Rattle.account.specs.declared.Account.{Account}
+use Rattle.layout.specs.Fields.{get, zeros, recordAt, capacity, recordLength, usedField, firstUserField, nextField, kindField, userKind, numberField, firstEntryField, activationYearField, openYearField, advanceKind, closingKind, yearField, ownerField}
+use Rattle.records.specs.declared.AdvanceRecord.{AdvanceRecord}
+use Rattle.records.specs.declared.ClosingRecord.{ClosingRecord}
+use Rattle.records.specs.Records.{accountIn, advanceIn, closingIn}
+
+-- Refusal 1: "length not 160 to 64,000 or no multiple of 80"
+unfoldable pub lengthFits : List ℕ → Bool
+lengthFits b = (leb 160 (length b) && leb (length b) 64000) && eqb (length b % recordLength) 0
+
+-- "A fresh book is all zero but u = 1."
+unfoldable pub freshBook : ℕ → List ℕ
+freshBook n = 1 ∷ replicate (n - 1) 0
+
+-- "records used u (head included, 1 to capacity)", "first user"
+unfoldable pub used : List ℕ → ℕ
+used b = get usedField (recordAt b 0)
+
+unfoldable pub firstUser : List ℕ → ℕ
+firstUser b = get firstUserField (recordAt b 0)
+
+unfoldable pub usedFits : List ℕ → Bool
+usedFits b = leb 1 (used b) && leb (used b) (capacity b)
+
+-- "Only indexes below u count as records." A user or an entry is told by its index and its kind.
+unfoldable pub kindAt : List ℕ → ℕ → ℕ
+kindAt b i = get kindField (recordAt b i)
+
+unfoldable pub hasKind : List ℕ → ℕ → ℕ → Bool
+hasKind b kind i = (ltb 0 i && ltb i (used b)) && eqb (kindAt b i) kind
+
+abbrev pub isUser : List ℕ → ℕ → Bool
+isUser b i = hasKind b userKind i
+
+abbrev pub isAdvance : List ℕ → ℕ → Bool
+isAdvance b i = hasKind b advanceKind i
+
+abbrev pub isClosing : List ℕ → ℕ → Bool
+isClosing b i = hasKind b closingKind i
+
+unfoldable pub isEntry : List ℕ → ℕ → Bool
+isEntry b i = isAdvance b i || isClosing b i
+
+-- RANGES, of a record by value
+abbrev pub within : ℕ → ℕ → ℕ → Bool
+within low high n = leb low n && leb n high
+
+-- "class 1–11, plant 1–17, power 1–200,000, activation 2013–2099 and month 1–12 .. option and island 0 or 1"
+unfoldable pub detailsFit : Details → ℕ → Bool
+detailsFit d option =
+    ((within 1 11 (d .class) && within 1 17 (d .plant)) && within 1 maxPower (d .power))
+    && ((within firstActivation lastActivation (d .year) && within 1 12 (d .month)) && (leb option 1 && leb (d .island) 1))
+
+-- "open year from activation to 2100"
+unfoldable pub openYearFits : Account → Bool
+openYearFits a = within (a .details .year) lastOpenYear (a .«open_year»)
+
+-- "The runs made hold only bits due in the open year"
+unfoldable pub halvesOf : Account → ℕ → Halves
+halvesOf a run = halvesPaid (a .details .year) (a .details .month) (a .«open_year») run
+
+unfoldable pub runMade : Account → ℕ → Bool
+runMade a run = eqb (a .runs / run % 2) 1
+
+unfoldable pub dueIfMade : Account → ℕ → Bool
+dueIfMade a run = not (runMade a run) || due (halvesOf a run)
+
+unfoldable pub runsFit : Account → Bool
+runsFit a = ltb (a .runs) 8 && ((dueIfMade a june && dueIfMade a october) && dueIfMade a january)
+
+-- "the advances field is at most 1.8·10^14 for each half that they pay"
+unfoldable pub halvesMade : Account → ℕ → ℕ
+halvesMade a run = cond (runMade a run) (halvesCount (halvesOf a run)) 0
+
+unfoldable pub advancesFit : Account → Bool
+advancesFit a = leb (a .advances .0) (maxHalfTicks * (halvesMade a june + halvesMade a october + halvesMade a january))
+
+-- "Credit is at most 3.6·10^14 times the closed years"
+unfoldable pub creditFits : Account → Bool
+creditFits a = leb (a .credit .0) (maxYearTicks * (a .«open_year» - a .details .year))
+
+-- "a half 360,000,000"
+unfoldable pub halvesFit : Account → Bool
+halvesFit a = leb (a .half1 .0) maxHalfKwh && leb (a .half2 .0) maxHalfKwh
+
+-- "number (not 0)", and all of these
+unfoldable pub accountFits : Account → Bool
+accountFits a =
+    (not (eqb (a .number .0) 0) && (detailsFit (a .details) (a .option) && openYearFits a))
+    && ((runsFit a && advancesFit a) && (creditFits a && halvesFit a))
+
+-- "year (from the owner's activation to its open year)"
+unfoldable pub yearFits : Account → ℕ → Bool
+yearFits owner year = within (owner .details .year) (owner .«open_year») year
+
+-- "run bit 1, 2 or 4"; "C, O, liquidation and an advance are at most 3.6·10^14"
+unfoldable pub isRun : ℕ → Bool
+isRun run = (eqb run june || eqb run october) || eqb run january
+
+unfoldable pub advanceFits : Account → AdvanceRecord → Bool
+advanceFits owner a = yearFits owner (a .year) && (isRun (a .run) && leb (a .ticks .0) maxYearTicks)
+
+-- "balance from −3.6·10^14 to 1.08·10^15" (in two's complement −x is 2^64 − x)
+unfoldable pub balanceFits : ℕ → Bool
+balanceFits bits = leb bits maxContribution || leb (2 ^ 64 - maxYearTicks) bits
+
+-- "lapsed at most 3.6·10^14 times the entry's year less the activation year. C, O, liquidation .. are at most 3.6·10^14, F
+-- 7.2·10^14, contribution 1.08·10^15"
+unfoldable pub closingFits : Account → ClosingRecord → Bool
+closingFits owner c =
+    (yearFits owner (c .year) && leb (c .option) 1)
+    && (((leb (c .value .0) maxYearTicks && leb (c .cost .0) maxYearTicks) && (leb (c .«flat_rate» .0) maxFlatRate && leb (c .contribution .0) maxContribution))
+    && ((leb (c .liquidation .0) maxYearTicks && leb (c .lapsed .0) (maxYearTicks * (c .year - owner .details .year))) && balanceFits (c .balance .0)))
+
+-- WHAT DIFFERS BY KIND: ranges, and "Unnamed bytes are zero in records below u." A kind that is not known has none.
+unfoldable pub ownerOf : List ℕ → ℕ → ℕ
+ownerOf b i = get ownerField (recordAt b i)
+
+abbrev pub accountAt : List ℕ → ℕ → Account
+accountAt b i = accountIn (recordAt b i)
+
+unfoldable pub rangesFit : List ℕ → ℕ → Bool
+rangesFit b i =
+    cond (eqb (kindAt b i) userKind) (accountFits (accountAt b i))
+    (cond (eqb (kindAt b i) advanceKind) (advanceFits (accountAt b (ownerOf b i)) (advanceIn (recordAt b i)))
+    (cond (eqb (kindAt b i) closingKind) (closingFits (accountAt b (ownerOf b i)) (closingIn (recordAt b i))) false))
+
+unfoldable pub zeroBytesFit : List ℕ → ℕ → Bool
+zeroBytesFit b i =
+    cond (eqb (kindAt b i) userKind) (zeros 27 5 (recordAt b i) && zeros 56 24 (recordAt b i))
+    (cond (eqb (kindAt b i) advanceKind) (zeros 16 48 (recordAt b i) && zeros 68 12 (recordAt b i))
+    (cond (eqb (kindAt b i) closingKind) (zeros 68 12 (recordAt b i)) false))
+
+-- LINKS
+unfoldable pub nextOf : List ℕ → ℕ → ℕ
+nextOf b i = get nextField (recordAt b i)
+
+unfoldable pub firstEntryOf : List ℕ → ℕ → ℕ
+firstEntryOf b i = get firstEntryField (recordAt b i)
+
+unfoldable pub numberOf : List ℕ → ℕ → ℕ
+numberOf b i = get numberField (recordAt b i)
+
+-- "A user's next is 0 or a user with a smaller index"
+unfoldable pub userNextFits : List ℕ → ℕ → Bool
+userNextFits b i = eqb (nextOf b i) 0 || (isUser b (nextOf b i) && ltb (nextOf b i) i)
+
+-- "no user with a smaller index has its number"
+unfoldable pub numberIsNew : List ℕ → ℕ → Bool
+numberIsNew b i = not (anyBelow i (λ j. isUser b j && eqb (numberOf b j) (numberOf b i)))
+
+-- "its first entry is 0 or an entry it owns"
+unfoldable pub firstEntryFits : List ℕ → ℕ → Bool
+firstEntryFits b i = eqb (firstEntryOf b i) 0 || (isEntry b (firstEntryOf b i) && eqb (ownerOf b (firstEntryOf b i)) i)
+
+-- "An entry's next is 0 or an entry of the same owner with a smaller index"
+unfoldable pub entryNextFits : List ℕ → ℕ → Bool
+entryNextFits b i =
+    eqb (nextOf b i) 0 || ((isEntry b (nextOf b i) && eqb (ownerOf b (nextOf b i)) (ownerOf b i)) && ltb (nextOf b i) i)
+
+-- "its owner is a user with a smaller index"
+unfoldable pub ownerFits : List ℕ → ℕ → Bool
+ownerFits b i = isUser b (ownerOf b i) && ltb (ownerOf b i) i
+
+-- "Each record but the head is pointed to exactly once, by the head, a next or a first; a record of no known kind points
+-- nowhere." How often record j points to record i, and how often all do.
+unfoldable pub hits : ℕ → ℕ → ℕ
+hits pointer i = cond (eqb pointer i) 1 0
+
+unfoldable pub pointersFrom : List ℕ → ℕ → ℕ → ℕ
+pointersFrom b i j =
+    cond (eqb j 0) (hits (firstUser b) i)
+    (cond (eqb (kindAt b j) userKind) (hits (nextOf b j) i + hits (firstEntryOf b j) i)
+    (cond (eqb (kindAt b j) advanceKind || eqb (kindAt b j) closingKind) (hits (nextOf b j) i) 0))
+
+unfoldable pub pointersTo : List ℕ → ℕ → ℕ
+pointersTo b i = sumBelow (used b) (pointersFrom b i)
+
+unfoldable pub pointedOnce : List ℕ → ℕ → Bool
+pointedOnce b i = eqb (pointersTo b i) 1
+
+-- "A user's first entry is an advance of the open year or the closing of the year before, or 0 if no year is closed. After
+-- an entry of year y stands an advance of y, or the closing of y − 1, or 0 if y is the activation year." The rank of an
+-- entry in its chain is its year; e is what stands where entries of year y may follow.
+unfoldable pub rankOf : List ℕ → ℕ → ℕ
+rankOf b e = get yearField (recordAt b e)
+
+unfoldable pub inOrder : List ℕ → ℕ → ℕ → ℕ → Bool
+inOrder b activation y e =
+    cond (eqb e 0) (eqb y activation) ((isAdvance b e && eqb (rankOf b e) y) || (isClosing b e && eqb (rankOf b e + 1) y))
+
+unfoldable pub activationOf : List ℕ → ℕ → ℕ
+activationOf b i = get activationYearField (recordAt b i)
+
+unfoldable pub openYearOf : List ℕ → ℕ → ℕ
+openYearOf b i = get openYearField (recordAt b i)
+
+unfoldable pub firstInOrder : List ℕ → ℕ → Bool
+firstInOrder b i = inOrder b (activationOf b i) (openYearOf b i) (firstEntryOf b i)
+
+unfoldable pub nextInOrder : List ℕ → ℕ → Bool
+nextInOrder b i = inOrder b (activationOf b (ownerOf b i)) (rankOf b i) (nextOf b i)
+
+-- FAULTS: "A record below u is faulty if its kind, a range or a zero byte is wrong, or if one of these fails." The fault is
+-- that of the sentence's subject.
+unfoldable pub linksFit : List ℕ → ℕ → Bool
+linksFit b i =
+    cond (eqb (kindAt b i) userKind) ((userNextFits b i && numberIsNew b i) && (firstEntryFits b i && firstInOrder b i))
+    ((ownerFits b i && entryNextFits b i) && nextInOrder b i)
+
+unfoldable pub goodRecord : List ℕ → ℕ → Bool
+goodRecord b i = ((rangesFit b i && zeroBytesFit b i) && linksFit b i) && pointedOnce b i
+
+-- "The head is faulty if .. its first user is neither 0 nor a user below u, or its rest isn't zero."
+unfoldable pub goodHead : List ℕ → Bool
+goodHead b = (eqb (firstUser b) 0 || isUser b (firstUser b)) && zeros 8 72 (recordAt b 0)
+
+-- "The head is faulty if u is outside 1 to capacity (then it alone is)"
+unfoldable pub faulty : List ℕ → ℕ → Bool
+faulty b i = cond (usedFits b) (ltb i (used b) && not (cond (eqb i 0) (goodHead b) (goodRecord b i))) (eqb i 0)
+
+-- "A book is sound if no record is faulty."
+unfoldable pub sound : List ℕ → Bool
+sound b = not (anyBelow (capacity b) (faulty b))

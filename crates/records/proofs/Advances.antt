@@ -1,0 +1,94 @@
+-- The image of an advance: its length and its zero bytes, what each field reads, and that the value read back from it is the one
+-- written. Each is the image law at the list of its cells.
+use Prim.Native.Nat.{ℕ, _^_, _<_}
+use mathlib.Core.Path.{_≡_, refl}
+use mathlib.Core.Bool.{true}
+use mathlib.Core.List.{List}
+use lib.Dec.{lit<}
+use lib.ListN.{length}
+use Rattle.units.specs.Units.{ticks, recordIndex}
+use Rattle.layout.specs.Fields.{recordLength, get, zeros, image, advanceKind, kindField, nextField, ownerField, runField, ticksField, yearField}
+use Rattle.layout.proofs.Cells.{cellAt, length-image, read-image, zeros-image}
+use Rattle.layout.proofs.ByteRanges.{Bytes, bytes-image, get-below}
+use Rattle.records.specs.declared.AdvanceRecord.{AdvanceRecord}
+use Rattle.records.specs.Records.{advanceCells, advanceImage, advanceIn}
+
+-- every number of the record fits its type, as it does of each value that the program holds
+pub record AdvanceFits (a : AdvanceRecord) : Type 0 where
+  pub next : a .next .0 < 2 ^ 32
+  pub run : a .run < 2 ^ 8
+  pub year : a .year < 2 ^ 16
+  pub ticks : a .ticks .0 < 2 ^ 64
+  pub owner : a .owner .0 < 2 ^ 32
+
+-- what the fields of a record of this kind hold
+pub record AdvanceReads (a : AdvanceRecord) (r : List ℕ) : Type 0 where
+  pub next : get nextField r ≡ a .next .0
+  pub kind : get kindField r ≡ advanceKind
+  pub run : get runField r ≡ a .run
+  pub year : get yearField r ≡ a .year
+  pub ticks : get ticksField r ≡ a .ticks .0
+  pub owner : get ownerField r ≡ a .owner .0
+
+module _ (a : AdvanceRecord) where
+  pub length-advance-image : length (advanceImage a) ≡ recordLength
+  unfolding advanceImage
+  length-advance-image = length-image (advanceCells a) refl
+
+  pub bytes-advance-image : Bytes (advanceImage a)
+  unfolding advanceImage
+  bytes-advance-image = bytes-image (advanceCells a)
+
+  -- the bytes that no field names
+  pub advance-gap : zeros 16 48 (advanceImage a) ≡ true
+  unfolding advanceImage
+  advance-gap = zeros-image (advanceCells a) refl 16 48 refl
+
+  pub advance-tail : zeros 68 12 (advanceImage a) ≡ true
+  unfolding advanceImage
+  advance-tail = zeros-image (advanceCells a) refl 68 12 refl
+
+  read : (n : ℕ) → cellAt (advanceCells a) n .value < 256 ^ cellAt (advanceCells a) n .field .size
+      → get (cellAt (advanceCells a) n .field) (image (advanceCells a)) ≡ cellAt (advanceCells a) n .value
+  read = read-image (advanceCells a) refl refl
+
+  pub advance-reads : AdvanceFits a → AdvanceReads a (advanceImage a)
+  unfolding advanceImage
+  advance-reads h =
+      record {
+        next = read 0 (h .next);
+        kind = read 1 (lit< tt);
+        run = read 2 (h .run);
+        year = read 3 (h .year);
+        ticks = read 4 (h .ticks);
+        owner = read 5 (h .owner);
+      }
+
+-- a record whose fields read so holds the value
+pub advance-decoded : (a : AdvanceRecord) (r : List ℕ) → AdvanceReads a r → advanceIn r ≡ a
+unfolding advanceIn
+advance-decoded a r h =
+    λ i.
+    record {
+      next = recordIndex (h .next i);
+      run = h .run i;
+      year = h .year i;
+      ticks = ticks (h .ticks i);
+      owner = recordIndex (h .owner i);
+    }
+
+-- reading gives back what was written
+pub advance-back : (a : AdvanceRecord) → AdvanceFits a → advanceIn (advanceImage a) ≡ a
+advance-back a h = advance-decoded a (advanceImage a) (advance-reads a h)
+
+-- what is read from bytes fits
+pub advance-in-fits : (r : List ℕ) → Bytes r → AdvanceFits (advanceIn r)
+unfolding advanceIn
+advance-in-fits r h =
+    record {
+      next = get-below nextField r h;
+      run = get-below runField r h;
+      year = get-below yearField r h;
+      ticks = get-below ticksField r h;
+      owner = get-below ownerField r h;
+    }

@@ -1,0 +1,120 @@
+-- The image of a closing: its length and its zero bytes, what each field reads, and that the value read back from it is the one
+-- written. Each is the image law at the list of its cells.
+use Prim.Native.Nat.{ℕ, _^_, _<_}
+use mathlib.Core.Path.{_≡_, refl}
+use mathlib.Core.Bool.{true}
+use mathlib.Core.List.{List}
+use lib.Dec.{lit<}
+use lib.ListN.{length}
+use Rattle.units.specs.Units.{ticks, recordIndex}
+use Rattle.layout.specs.Fields.{recordLength, get, zeros, image, closingKind, balanceField, closingOptionField, contributionField, costField, flatRateField, kindField, lapsedField, liquidationField, nextField, ownerField, valueField, yearField}
+use Rattle.layout.proofs.Cells.{cellAt, length-image, read-image, zeros-image}
+use Rattle.layout.proofs.ByteRanges.{Bytes, bytes-image, get-below}
+use Rattle.records.specs.declared.ClosingRecord.{ClosingRecord}
+use Rattle.records.specs.Records.{closingCells, closingImage, closingIn}
+
+-- every number of the record fits its type, as it does of each value that the program holds
+pub record ClosingFits (c : ClosingRecord) : Type 0 where
+  pub next : c .next .0 < 2 ^ 32
+  pub option : c .option < 2 ^ 8
+  pub year : c .year < 2 ^ 16
+  pub value : c .value .0 < 2 ^ 64
+  pub cost : c .cost .0 < 2 ^ 64
+  pub «flat_rate» : c .«flat_rate» .0 < 2 ^ 64
+  pub contribution : c .contribution .0 < 2 ^ 64
+  pub liquidation : c .liquidation .0 < 2 ^ 64
+  pub lapsed : c .lapsed .0 < 2 ^ 64
+  pub balance : c .balance .0 < 2 ^ 64
+  pub owner : c .owner .0 < 2 ^ 32
+
+-- what the fields of a record of this kind hold
+pub record ClosingReads (c : ClosingRecord) (r : List ℕ) : Type 0 where
+  pub next : get nextField r ≡ c .next .0
+  pub kind : get kindField r ≡ closingKind
+  pub option : get closingOptionField r ≡ c .option
+  pub year : get yearField r ≡ c .year
+  pub value : get valueField r ≡ c .value .0
+  pub cost : get costField r ≡ c .cost .0
+  pub «flat_rate» : get flatRateField r ≡ c .«flat_rate» .0
+  pub contribution : get contributionField r ≡ c .contribution .0
+  pub liquidation : get liquidationField r ≡ c .liquidation .0
+  pub lapsed : get lapsedField r ≡ c .lapsed .0
+  pub balance : get balanceField r ≡ c .balance .0
+  pub owner : get ownerField r ≡ c .owner .0
+
+module _ (c : ClosingRecord) where
+  pub length-closing-image : length (closingImage c) ≡ recordLength
+  unfolding closingImage
+  length-closing-image = length-image (closingCells c) refl
+
+  pub bytes-closing-image : Bytes (closingImage c)
+  unfolding closingImage
+  bytes-closing-image = bytes-image (closingCells c)
+
+  -- the bytes that no field names
+  pub closing-tail : zeros 68 12 (closingImage c) ≡ true
+  unfolding closingImage
+  closing-tail = zeros-image (closingCells c) refl 68 12 refl
+
+  read : (n : ℕ) → cellAt (closingCells c) n .value < 256 ^ cellAt (closingCells c) n .field .size
+      → get (cellAt (closingCells c) n .field) (image (closingCells c)) ≡ cellAt (closingCells c) n .value
+  read = read-image (closingCells c) refl refl
+
+  pub closing-reads : ClosingFits c → ClosingReads c (closingImage c)
+  unfolding closingImage
+  closing-reads h =
+      record {
+        next = read 0 (h .next);
+        kind = read 1 (lit< tt);
+        option = read 2 (h .option);
+        year = read 3 (h .year);
+        value = read 4 (h .value);
+        cost = read 5 (h .cost);
+        «flat_rate» = read 6 (h .«flat_rate»);
+        contribution = read 7 (h .contribution);
+        liquidation = read 8 (h .liquidation);
+        lapsed = read 9 (h .lapsed);
+        balance = read 10 (h .balance);
+        owner = read 11 (h .owner);
+      }
+
+-- a record whose fields read so holds the value
+pub closing-decoded : (c : ClosingRecord) (r : List ℕ) → ClosingReads c r → closingIn r ≡ c
+unfolding closingIn
+closing-decoded c r h =
+    λ i.
+    record {
+      next = recordIndex (h .next i);
+      option = h .option i;
+      year = h .year i;
+      value = ticks (h .value i);
+      cost = ticks (h .cost i);
+      «flat_rate» = ticks (h .«flat_rate» i);
+      contribution = ticks (h .contribution i);
+      liquidation = ticks (h .liquidation i);
+      lapsed = ticks (h .lapsed i);
+      balance = record { 0 = h .balance i };
+      owner = recordIndex (h .owner i);
+    }
+
+-- reading gives back what was written
+pub closing-back : (c : ClosingRecord) → ClosingFits c → closingIn (closingImage c) ≡ c
+closing-back c h = closing-decoded c (closingImage c) (closing-reads c h)
+
+-- what is read from bytes fits
+pub closing-in-fits : (r : List ℕ) → Bytes r → ClosingFits (closingIn r)
+unfolding closingIn
+closing-in-fits r h =
+    record {
+      next = get-below nextField r h;
+      option = get-below closingOptionField r h;
+      year = get-below yearField r h;
+      value = get-below valueField r h;
+      cost = get-below costField r h;
+      «flat_rate» = get-below flatRateField r h;
+      contribution = get-below contributionField r h;
+      liquidation = get-below liquidationField r h;
+      lapsed = get-below lapsedField r h;
+      balance = get-below balanceField r h;
+      owner = get-below ownerField r h;
+    }

@@ -1,0 +1,30 @@
+-- The image of the head: its length and its zero bytes, and what its two fields read.
+use Prim.Native.Nat.{ℕ, _^_, _<_}
+use mathlib.Core.Path.{_≡_, refl}
+use mathlib.Core.Bool.{true}
+use lib.ListN.{length}
+use Rattle.layout.specs.Fields.{recordLength, get, zeros, usedField, firstUserField}
+use Rattle.layout.proofs.Cells.{length-image, read-image, zeros-image}
+use Rattle.layout.proofs.ByteRanges.{Bytes, bytes-image}
+use Rattle.records.specs.Records.{headCells, headImage}
+
+module _ (used first : ℕ) where
+  pub length-head-image : length (headImage used first) ≡ recordLength
+  unfolding headImage
+  length-head-image = length-image (headCells used first) refl
+
+  pub bytes-head-image : Bytes (headImage used first)
+  unfolding headImage
+  bytes-head-image = bytes-image (headCells used first)
+
+  pub head-tail : zeros 8 72 (headImage used first) ≡ true
+  unfolding headImage
+  head-tail = zeros-image (headCells used first) refl 8 72 refl
+
+  pub head-used : used < 2 ^ 32 → get usedField (headImage used first) ≡ used
+  unfolding headImage
+  head-used h = read-image (headCells used first) refl refl 0 h
+
+  pub head-first : first < 2 ^ 32 → get firstUserField (headImage used first) ≡ first
+  unfolding headImage
+  head-first h = read-image (headCells used first) refl refl 1 h

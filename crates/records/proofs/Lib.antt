@@ -1,0 +1,4 @@
+pub mod Heads
+pub mod Users
+pub mod Advances
+pub mod Closings

@@ -1,0 +1,36 @@
+-- Field by field.
+use Rattle.layout.specs.Fields.{get}
+use Rattle.records.specs.Records.{advanceIn}
+use borrow.Author.Needs.{needs}
+use Rattle.records.proofs.read_advance.Statement.{statement}
+use Rattle.records.proofs.read_advance.Tie as tie
+
+next-of-requires : tie.Need-next-of-requires
+next-of-requires c κs = search needs
+
+read-u8-requires : tie.Need-read-u8-requires
+read-u8-requires c κs = search needs
+
+year-of-requires : tie.Need-year-of-requires
+year-of-requires c κs = search needs
+
+read-u64-requires : tie.Need-read-u64-requires
+read-u64-requires c κs = search needs
+
+owner-of-requires : tie.Need-owner-of-requires
+owner-of-requires c κs = search needs
+
+returns : tie.Need-returns
+unfolding advanceIn get
+returns c = λ i. record { next = c .before .before .before .before .next-of .ensures i; run = c .before .before .before .read-u8 .ensures i; year = c .before .before .year-of .ensures i; ticks = record { 0 = c .before .read-u64 .ensures i }; owner = c .owner-of .ensures i }
+
+pub read-advance-spec : {M : Type 1} → statement M
+read-advance-spec =
+    tie.close
+    (tie.spec
+    next-of-requires
+    read-u8-requires
+    year-of-requires
+    read-u64-requires
+    owner-of-requires
+    returns)

@@ -1,0 +1,60 @@
+-- Field by field.
+use Rattle.layout.specs.Fields.{get}
+use Rattle.records.specs.Records.{closingIn}
+use borrow.Author.Needs.{needs}
+use Rattle.records.proofs.read_closing.Statement.{statement}
+use Rattle.records.proofs.read_closing.Tie as tie
+
+next-of-requires : tie.Need-next-of-requires
+next-of-requires c κs = search needs
+
+read-u8-requires : tie.Need-read-u8-requires
+read-u8-requires c κs = search needs
+
+year-of-requires : tie.Need-year-of-requires
+year-of-requires c κs = search needs
+
+read-u64-requires : tie.Need-read-u64-requires
+read-u64-requires c κs = search needs
+
+read-u64-requires-2 : tie.Need-read-u64-requires-2
+read-u64-requires-2 c κs = search needs
+
+read-u64-requires-3 : tie.Need-read-u64-requires-3
+read-u64-requires-3 c κs = search needs
+
+read-u64-requires-4 : tie.Need-read-u64-requires-4
+read-u64-requires-4 c κs = search needs
+
+read-u64-requires-5 : tie.Need-read-u64-requires-5
+read-u64-requires-5 c κs = search needs
+
+read-u64-requires-6 : tie.Need-read-u64-requires-6
+read-u64-requires-6 c κs = search needs
+
+read-u64-requires-7 : tie.Need-read-u64-requires-7
+read-u64-requires-7 c κs = search needs
+
+owner-of-requires : tie.Need-owner-of-requires
+owner-of-requires c κs = search needs
+
+returns : tie.Need-returns
+unfolding closingIn get
+returns c = λ i. record { next = c .before .before .before .before .before .before .before .before .before .before .next-of .ensures i; option = c .before .before .before .before .before .before .before .before .before .read-u8 .ensures i; year = c .before .before .before .before .before .before .before .before .year-of .ensures i; value = record { 0 = c .before .before .before .before .before .before .before .read-u64 .ensures i }; cost = record { 0 = c .before .before .before .before .before .before .read-u642 .ensures i }; «flat_rate» = record { 0 = c .before .before .before .before .before .read-u643 .ensures i }; contribution = record { 0 = c .before .before .before .before .read-u644 .ensures i }; liquidation = record { 0 = c .before .before .before .read-u645 .ensures i }; lapsed = record { 0 = c .before .before .read-u646 .ensures i }; balance = record { 0 = c .before .read-u647 .ensures i }; owner = c .owner-of .ensures i }
+
+pub read-closing-spec : {M : Type 1} → statement M
+read-closing-spec =
+    tie.close
+    (tie.spec
+    next-of-requires
+    read-u8-requires
+    year-of-requires
+    read-u64-requires
+    read-u64-requires-2
+    read-u64-requires-3
+    read-u64-requires-4
+    read-u64-requires-5
+    read-u64-requires-6
+    read-u64-requires-7
+    owner-of-requires
+    returns)

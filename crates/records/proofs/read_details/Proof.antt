@@ -1,0 +1,40 @@
+-- Field by field.
+use Rattle.layout.specs.Fields.{get}
+use Rattle.records.specs.Records.{accountIn}
+use borrow.Author.Needs.{needs}
+use Rattle.records.proofs.read_details.Statement.{statement}
+use Rattle.records.proofs.read_details.Tie as tie
+
+read-u8-requires : tie.Need-read-u8-requires
+read-u8-requires c κs = search needs
+
+read-u8-requires-2 : tie.Need-read-u8-requires-2
+read-u8-requires-2 c κs = search needs
+
+read-u32-requires : tie.Need-read-u32-requires
+read-u32-requires c κs = search needs
+
+activation-year-of-requires : tie.Need-activation-year-of-requires
+activation-year-of-requires c κs = search needs
+
+read-u8-requires-3 : tie.Need-read-u8-requires-3
+read-u8-requires-3 c κs = search needs
+
+read-u8-requires-4 : tie.Need-read-u8-requires-4
+read-u8-requires-4 c κs = search needs
+
+returns : tie.Need-returns
+unfolding accountIn get
+returns c = λ i. record { class = c .before .before .before .before .before .read-u8 .ensures i; plant = c .before .before .before .before .read-u82 .ensures i; power = c .before .before .before .read-u32 .ensures i; year = c .before .before .activation-year-of .ensures i; month = c .before .read-u83 .ensures i; island = c .read-u84 .ensures i }
+
+pub read-details-spec : {M : Type 1} → statement M
+read-details-spec =
+    tie.close
+    (tie.spec
+    read-u8-requires
+    read-u8-requires-2
+    read-u32-requires
+    activation-year-of-requires
+    read-u8-requires-3
+    read-u8-requires-4
+    returns)

@@ -1,0 +1,183 @@
+// The records of the book by value: read from a record's bytes, and written as a whole image (document 01, "Book").
+ghost use mathlib.Core.Path.{_≡_};
+ghost use Rattle.records.specs.Records.{headImage, userImage, advanceImage, closingImage, accountIn, userIn, advanceIn, closingIn};
+use account::Account;
+use account::Balance;
+use layout::place;
+use layout::put_u8;
+use layout::put_u16;
+use layout::put_u32;
+use layout::put_u64;
+use units::Kwh;
+use units::RecordIndex;
+use units::Ticks;
+use values::Details;
+
+const USER: u8 = 1;
+
+const ADVANCE: u8 = 2;
+
+const CLOSING: u8 = 3;
+
+// A user record: its links and the account.
+pub struct UserRecord {
+    pub next: RecordIndex,
+    pub first: RecordIndex,
+    pub account: Account,
+}
+
+// An advance entry.
+pub struct AdvanceRecord {
+    pub next: RecordIndex,
+    pub run: u8,
+    pub year: u16,
+    pub ticks: Ticks,
+    pub owner: RecordIndex,
+}
+
+// A closing entry.
+pub struct ClosingRecord {
+    pub next: RecordIndex,
+    pub option: u8,
+    pub year: u16,
+    pub value: Ticks,
+    pub cost: Ticks,
+    pub flat_rate: Ticks,
+    pub contribution: Ticks,
+    pub liquidation: Ticks,
+    pub lapsed: Ticks,
+    pub balance: Balance,
+    pub owner: RecordIndex,
+}
+
+fn read_details(r: &[u8]) -> Details
+    ensures { λ d. ⌜ d ≡ accountIn (now (r .entry)) .details ⌝ }
+{
+    Details {
+        class: layout::read_u8(r, place::CLASS),
+        plant: layout::read_u8(r, place::PLANT),
+        power: codec::read_u32(r, place::POWER),
+        year: layout::activation_year_of(r),
+        month: layout::read_u8(r, place::ACTIVATION_MONTH),
+        island: layout::read_u8(r, place::ISLAND),
+    }
+}
+
+pub fn read_account(r: &[u8]) -> Account
+    ensures { λ a. ⌜ a ≡ accountIn (now (r .entry)) ⌝ }
+{
+    Account {
+        number: layout::number_of(r),
+        details: read_details(r),
+        option: layout::read_u8(r, place::OPTION),
+        open_year: layout::open_year_of(r),
+        runs: layout::read_u8(r, place::RUNS),
+        credit: Ticks(codec::read_u64(r, place::CREDIT)),
+        advances: Ticks(codec::read_u64(r, place::ADVANCES)),
+        half1: Kwh(codec::read_u32(r, place::HALF1)),
+        half2: Kwh(codec::read_u32(r, place::HALF2)),
+    }
+}
+
+pub fn read_user(r: &[u8]) -> UserRecord
+    ensures { λ u. ⌜ u ≡ userIn (now (r .entry)) ⌝ }
+{
+    UserRecord {
+        next: layout::next_of(r),
+        first: layout::first_entry_of(r),
+        account: read_account(r),
+    }
+}
+
+pub fn read_advance(r: &[u8]) -> AdvanceRecord
+    ensures { λ a. ⌜ a ≡ advanceIn (now (r .entry)) ⌝ }
+{
+    AdvanceRecord {
+        next: layout::next_of(r),
+        run: layout::read_u8(r, place::RUN),
+        year: layout::year_of(r),
+        ticks: Ticks(codec::read_u64(r, place::TICKS)),
+        owner: layout::owner_of(r),
+    }
+}
+
+pub fn read_closing(r: &[u8]) -> ClosingRecord
+    ensures { λ c. ⌜ c ≡ closingIn (now (r .entry)) ⌝ }
+{
+    ClosingRecord {
+        next: layout::next_of(r),
+        option: layout::read_u8(r, place::CLOSING_OPTION),
+        year: layout::year_of(r),
+        value: Ticks(codec::read_u64(r, place::VALUE)),
+        cost: Ticks(codec::read_u64(r, place::COST)),
+        flat_rate: Ticks(codec::read_u64(r, place::FLAT_RATE)),
+        contribution: Ticks(codec::read_u64(r, place::CONTRIBUTION)),
+        liquidation: Ticks(codec::read_u64(r, place::LIQUIDATION)),
+        lapsed: Ticks(codec::read_u64(r, place::LAPSED)),
+        balance: Balance(codec::read_u64(r, place::BALANCE)),
+        owner: layout::owner_of(r),
+    }
+}
+
+pub fn head_image(used: u32, first: RecordIndex) -> [u8; 80]
+    ensures { λ r. ⌜ r ≡ headImage used (first .0) ⌝ }
+{
+    let image = [0; 80];
+    let image = put_u32(image, place::USED, used);
+    put_u32(image, place::FIRST_USER, first.0)
+}
+
+pub fn user_image(user: UserRecord) -> [u8; 80]
+    ensures { λ r. ⌜ r ≡ userImage user ⌝ }
+{
+    let account = user.account;
+    let details = account.details;
+    let image = [0; 80];
+    let image = put_u32(image, place::NEXT, user.next.0);
+    let image = put_u8(image, place::KIND, USER);
+    let image = put_u8(image, place::CLASS, details.class);
+    let image = put_u8(image, place::PLANT, details.plant);
+    let image = put_u8(image, place::OPTION, account.option);
+    let image = put_u32(image, place::NUMBER, account.number.0);
+    let image = put_u32(image, place::FIRST_ENTRY, user.first.0);
+    let image = put_u32(image, place::POWER, details.power);
+    let image = put_u16(image, place::ACTIVATION_YEAR, details.year);
+    let image = put_u8(image, place::ACTIVATION_MONTH, details.month);
+    let image = put_u8(image, place::ISLAND, details.island);
+    let image = put_u16(image, place::OPEN_YEAR, account.open_year);
+    let image = put_u8(image, place::RUNS, account.runs);
+    let image = put_u64(image, place::CREDIT, account.credit.0);
+    let image = put_u64(image, place::ADVANCES, account.advances.0);
+    let image = put_u32(image, place::HALF1, account.half1.0);
+    put_u32(image, place::HALF2, account.half2.0)
+}
+
+pub fn advance_image(advance: AdvanceRecord) -> [u8; 80]
+    ensures { λ r. ⌜ r ≡ advanceImage advance ⌝ }
+{
+    let image = [0; 80];
+    let image = put_u32(image, place::NEXT, advance.next.0);
+    let image = put_u8(image, place::KIND, ADVANCE);
+    let image = put_u8(image, place::RUN, advance.run);
+    let image = put_u16(image, place::YEAR, advance.year);
+    let image = put_u64(image, place::TICKS, advance.ticks.0);
+    put_u32(image, place::OWNER, advance.owner.0)
+}
+
+pub fn closing_image(closing: ClosingRecord) -> [u8; 80]
+    ensures { λ r. ⌜ r ≡ closingImage closing ⌝ }
+{
+    let image = [0; 80];
+    let image = put_u32(image, place::NEXT, closing.next.0);
+    let image = put_u8(image, place::KIND, CLOSING);
+    let image = put_u8(image, place::CLOSING_OPTION, closing.option);
+    let image = put_u16(image, place::YEAR, closing.year);
+    let image = put_u64(image, place::VALUE, closing.value.0);
+    let image = put_u64(image, place::COST, closing.cost.0);
+    let image = put_u64(image, place::FLAT_RATE, closing.flat_rate.0);
+    let image = put_u64(image, place::CONTRIBUTION, closing.contribution.0);
+    let image = put_u64(image, place::LIQUIDATION, closing.liquidation.0);
+    let image = put_u64(image, place::LAPSED, closing.lapsed.0);
+    let image = put_u64(image, place::BALANCE, closing.balance.0);
+    put_u32(image, place::OWNER, closing.owner.0)
+}
