@@ -1,0 +1,3 @@
+pub mod Bookings
+pub mod Refusals
+pub mod Calls

@@ -1,0 +1,1 @@
+// The five calls of document 01.

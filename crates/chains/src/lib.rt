@@ -1,0 +1,1 @@
+// Chains of records and their sums: definitions and laws (document 01, "Book", "Election and advances").
