@@ -4,26 +4,35 @@ ghost use Prim.Native.Nat.{_-_, _*_, _≤_, _<_};
 ghost use lib.Dec.{leb};
 ghost use Rattle.units.specs.Limits.{maxYearTicks};
 ghost use Rattle.book.specs.Book.{lengthFits, detailsFit, openYearFits, halvesOf, runMade, dueIfMade, runsFit, halvesMade, advancesFit, creditFits, halvesFit, accountFits, yearFits, isRun, advanceFits, balanceFits, closingFits};
-
-use account::{Account, Balance};
+use account::Account;
+use account::Balance;
 use calendar::Halves;
-use records::{AdvanceRecord, ClosingRecord};
+use records::AdvanceRecord;
+use records::ClosingRecord;
 use units::Ticks;
 use values::Details;
 
 const RECORD: usize = 80;
+
 const SHORTEST: usize = 160;
+
 const LONGEST: usize = 64_000;
 
 const MAX_POWER: u32 = 200_000;
+
 const FIRST_ACTIVATION: u16 = 2013;
+
 const LAST_ACTIVATION: u16 = 2099;
+
 const LAST_OPEN_YEAR: u16 = 2100;
 
 // In ticks: C, O, a liquidation, an advance; F; a contribution; the advances of a half.
 const MAX_YEAR: u64 = 360_000_000_000_000;
+
 const MAX_FLAT_RATE: u64 = 720_000_000_000_000;
+
 const MAX_CONTRIBUTION: u64 = 1_080_000_000_000_000;
+
 const MAX_HALF: u64 = 180_000_000_000_000;
 // The least balance, in two's complement.
 const LEAST_BALANCE: u64 = 18_446_384_073_709_551_616;
@@ -32,7 +41,9 @@ const MAX_HALF_KWH: u32 = 360_000_000;
 
 // Run bits.
 const JUNE: u8 = 1;
+
 const OCTOBER: u8 = 2;
+
 const JANUARY: u8 = 4;
 
 // Refusal 1 looks at this.
@@ -47,7 +58,8 @@ pub fn length_fits(book: &[u8]) -> bool
 pub fn details_fit(details: Details, option: u8) -> bool
     ensures { λ r. ⌜ r ≡ detailsFit details option ⌝ }
 {
-    let plant = ((1 <= details.class) & (details.class <= 11)) & ((1 <= details.plant) & (details.plant <= 17));
+    let plant = ((1 <= details.class) & (details.class <= 11))
+        & ((1 <= details.plant) & (details.plant <= 17));
     let power = (1 <= details.power) & (details.power <= MAX_POWER);
     let year = (FIRST_ACTIVATION <= details.year) & (details.year <= LAST_ACTIVATION);
     let month = (1 <= details.month) & (details.month <= 12);

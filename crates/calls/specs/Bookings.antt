@@ -39,7 +39,7 @@ newAccount number d option =
       credit = ticks 0;
       advances = ticks 0;
       half1 = kwh 0;
-      half2 = kwh 0
+      half2 = kwh 0;
     }
 
 unfoldable pub enrolled : ℕ → Details → ℕ → List ℕ → List ℕ
@@ -93,9 +93,9 @@ closingEntry b i v =
       liquidation = ticks (liquidationOf (accountAt b i .option) (v .value .0) (v .cost .0));
       lapsed = ticks (lapsedOf (accountAt b i .option) (accountAt b i .credit .0));
       balance =
-      balanceBits
-      (balanceOf (contributionOf (accountAt b i .option) (accountAt b i .credit .0) (v .value .0) (v .cost .0) (v .«flat_rate» .0)) (accountAt b i .advances .0));
-      owner = recordIndex i
+          balanceBits
+          (balanceOf (contributionOf (accountAt b i .option) (accountAt b i .credit .0) (v .value .0) (v .cost .0) (v .«flat_rate» .0)) (accountAt b i .advances .0));
+      owner = recordIndex i;
     }
 
 unfoldable pub closed : ℕ → YearValues → List ℕ → List ℕ

@@ -49,5 +49,5 @@ statementAt b i =
       lapsed = sumOver (closingPart (λ c. c .lapsed .0) b) (entriesOf b i);
       balance = sumOverℤ (balancePart b) (entriesOf b i);
       advances = sumOver (advancePart (λ y. true) b) (entriesOf b i);
-      closedAdvances = sumOver (advancePart (λ y. ltb y (accountAt b i .«open_year»)) b) (entriesOf b i)
+      closedAdvances = sumOver (advancePart (λ y. ltb y (accountAt b i .«open_year»)) b) (entriesOf b i);
     }

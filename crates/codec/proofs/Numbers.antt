@@ -58,7 +58,7 @@ unfolding littleEndian
 number-two at s = rw (number-bytes 2 at s, add-zero at) (omega arith)
 
 pub number-four : (at : ℕ) (s : List ℕ) → number 4 at s
-  ≡ (getD s at 0 + getD s (at + 1) 0 * 256) + (getD s (at + 2) 0 + getD s (at + 3) 0 * 256) * 65536
+    ≡ (getD s at 0 + getD s (at + 1) 0 * 256) + (getD s (at + 2) 0 + getD s (at + 3) 0 * 256) * 65536
 unfolding littleEndian
 number-four at s = rw (number-bytes 4 at s, add-zero at) (omega arith)
 

@@ -8,11 +8,7 @@ ghost use Rattle.codec.specs.Bytes.{number, stored, bytesOf};
 pub fn byte_at(s: &[u8], at: usize) -> u8
     ensures { λ r. ⌜ r ≡ getD (now (s .entry)) at 0 ⌝ }
 {
-    if at < s.len() {
-        s[at]
-    } else {
-        0
-    }
+    if at < s.len() { s[at] } else { 0 }
 }
 
 fn wide(b: u8) -> u64

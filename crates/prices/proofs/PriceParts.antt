@@ -34,7 +34,7 @@ cut n at s = let width : at + n - at ≡ n = omega arith in rw width
 
 -- a number of a part of a part of the month is a word of the month
 word-in-part : (s : List ℕ) (m place n k at o o′ : ℕ) → o′ + 4 ≤ k → o + k ≤ n → at + o + o′ ≡ 32 + 96 * m + 4 * place
-  → number 4 o′ (part k o (take (at + n - at) (drop at s))) ≡ word s m place
+    → number 4 o′ (part k o (take (at + n - at) (drop at s))) ≡ word s m place
 unfolding word
 word-in-part s m place n k at o o′ h l e =
     ap (λ (t : List ℕ). number 4 o′ (part k o t)) (cut n at s)
@@ -43,15 +43,15 @@ word-in-part s m place n k at o o′ h l e =
     ∙ ap (λ (i : ℕ). number 4 i s) (let sum : at + (o + o′) ≡ 32 + 96 * m + 4 * place = omega arith in sum)
 
 pub band-price : (s : List ℕ) (island : Bool) (m b : ℕ) → b < 3
-  → number 4 (4 * b) (cond island (part 12 0 (punPart s m)) (part 12 0 (zonePart s m))) ≡ bandPrice s island m b
+    → number 4 (4 * b) (cond island (part 12 0 (punPart s m)) (part 12 0 (zonePart s m))) ≡ bandPrice s island m b
 unfolding bandPrice
 band-price s true m b h = word-in-part s m (6 + b) 16 12 (punFrom m) 0 (4 * b) (omega arith) (omega arith) (omega arith)
 band-price s false m b h =
     word-in-part s m (10 + b) 20 12 (zoneFrom m) 0 (4 * b) (omega arith) (omega arith) (omega arith)
 
 pub single-price : (s : List ℕ) (island photovoltaic : Bool) (m : ℕ)
-  → number 4 0 (cond island (part 4 12 (punPart s m)) (cond photovoltaic (part 4 16 (zonePart s m)) (part 4 12 (zonePart s m))))
-  ≡ singlePrice s island photovoltaic m
+    → number 4 0 (cond island (part 4 12 (punPart s m)) (cond photovoltaic (part 4 16 (zonePart s m)) (part 4 12 (zonePart s m))))
+    ≡ singlePrice s island photovoltaic m
 unfolding singlePrice
 single-price s true p m = word-in-part s m 9 16 4 (punFrom m) 12 0 (omega arith) (omega arith) (omega arith)
 single-price s false true m = word-in-part s m 14 20 4 (zoneFrom m) 16 0 (omega arith) (omega arith) (omega arith)
@@ -59,14 +59,14 @@ single-price s false false m = word-in-part s m 13 20 4 (zoneFrom m) 12 0 (omega
 
 -- the row of prices, from the part that was lent
 pub row-by-bands : (s prices : List ℕ) (island photovoltaic : Bool) (m : ℕ) (r₀ r₁ r₂ : Rate)
-  → prices ≡ cond island (part 12 0 (punPart s m)) (part 12 0 (zonePart s m))
-  → r₀ ≡ rate (number 4 0 prices) → r₁ ≡ rate (number 4 4 prices) → r₂ ≡ rate (number 4 8 prices)
-  → r₀ ∷ r₁ ∷ r₂ ∷ [] ≡ priceRow s true island photovoltaic m
+    → prices ≡ cond island (part 12 0 (punPart s m)) (part 12 0 (zonePart s m))
+    → r₀ ≡ rate (number 4 0 prices) → r₁ ≡ rate (number 4 4 prices) → r₂ ≡ rate (number 4 8 prices)
+    → r₀ ∷ r₁ ∷ r₂ ∷ [] ≡ priceRow s true island photovoltaic m
 row-by-bands s prices island photovoltaic m r₀ r₁ r₂ e e₀ e₁ e₂ =
     cc (band-price s island m 0 (lit< tt), band-price s island m 1 (lit< tt), band-price s island m 2 (lit< tt))
 
 pub row-of-one : (s price : List ℕ) (island photovoltaic : Bool) (m : ℕ) (r : Rate)
-  → price ≡ cond island (part 4 12 (punPart s m)) (cond photovoltaic (part 4 16 (zonePart s m)) (part 4 12 (zonePart s m)))
-  → r ≡ rate (number 4 0 price)
-  → r ∷ rate 0 ∷ rate 0 ∷ [] ≡ priceRow s false island photovoltaic m
+    → price ≡ cond island (part 4 12 (punPart s m)) (cond photovoltaic (part 4 16 (zonePart s m)) (part 4 12 (zonePart s m)))
+    → r ≡ rate (number 4 0 price)
+    → r ∷ rate 0 ∷ rate 0 ∷ [] ≡ priceRow s false island photovoltaic m
 row-of-one s price island photovoltaic m r e e′ = cc (single-price s island photovoltaic m)

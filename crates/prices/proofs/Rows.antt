@@ -14,10 +14,10 @@ use Rattle.prices.specs.Arrays.{rowValue, RowFits, energyAt, priceAt}
 
 -- three amounts that are energy times price, band by band
 pub row-sum : (energy : List Kwh) (prices : List Rate) (t₀ t₁ t₂ : Ticks) → RowFits energy prices
-  → t₀ ≡ ticks (energyAt 0 energy * priceAt 0 prices)
-  → t₁ ≡ ticks (energyAt 1 energy * priceAt 1 prices)
-  → t₂ ≡ ticks (energyAt 2 energy * priceAt 2 prices)
-  → (t₀ .0 + t₁ .0 + t₂ .0 ≡ rowValue energy prices) × (t₀ .0 + t₁ .0 + t₂ .0 ≤ 3 * (maxKwh * maxPrice))
+    → t₀ ≡ ticks (energyAt 0 energy * priceAt 0 prices)
+    → t₁ ≡ ticks (energyAt 1 energy * priceAt 1 prices)
+    → t₂ ≡ ticks (energyAt 2 energy * priceAt 2 prices)
+    → (t₀ .0 + t₁ .0 + t₂ .0 ≡ rowValue energy prices) × (t₀ .0 + t₁ .0 + t₂ .0 ≤ 3 * (maxKwh * maxPrice))
 unfolding rowValue sumBelow
 row-sum energy prices t₀ t₁ t₂ h e₀ e₁ e₂ =
     let c₀ = amount-capped maxKwh maxPrice e₀ (h .energy₀) (h .price₀) in

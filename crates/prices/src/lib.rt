@@ -12,8 +12,9 @@ ghost use Rattle.codec.specs.Bytes.{part, number};
 ghost use Rattle.sheet.specs.YearSheet.{sheetLength, Passed};
 ghost use Rattle.prices.specs.ValueAndCost.{costOf, valueOf};
 ghost use Rattle.prices.specs.Arrays.{energyRow, EnergyRows, priceRow, PriceRows, RowFits, rowValue};
-
-use units::{Kwh, Rate, Ticks};
+use units::Kwh;
+use units::Rate;
+use units::Ticks;
 
 fn energy_row(s: &[u8], place: usize, month: usize) -> [Kwh; 3]
     requires { ⌜ (place < 22) × (month < 12) ⌝ }

@@ -4,12 +4,16 @@ ghost use mathlib.Core.Path.{_≡_};
 ghost use Prim.Native.Nat.{_<_};
 ghost use Rattle.units.specs.Units.{userNumber, wideKwh};
 ghost use Rattle.sheet.specs.YearSheet.{sheetUser, sheetYear, withdrawnReading, injectedReading, word, limitAt, unusedBand, atFault, headerFits, lastWordsFit, refused11, refused13, refused14, monthWithdrawn, FirstFault};
-
 use tariff::MONTHLY_THRESHOLD;
-use units::{MAX_KWH, MAX_PRICE, UserNumber, WideKwh};
+use units::MAX_KWH;
+use units::MAX_PRICE;
+use units::UserNumber;
+use units::WideKwh;
 
 const LENGTH: usize = 1184;
+
 const HEADER: usize = 32;
+
 const MONTHS: usize = 12;
 // A month's numbers that have a limit; the one after them is zero.
 const NUMBERS: usize = 23;
@@ -82,11 +86,7 @@ pub fn header_wrong(s: &[u8]) -> bool
 fn limit_at(place: usize) -> u64
     ensures { λ r. ⌜ r ≡ limitAt place ⌝ }
 {
-    if place < 6 {
-        MAX_KWH as u64
-    } else {
-        MAX_PRICE
-    }
+    if place < 6 { MAX_KWH as u64 } else { MAX_PRICE }
 }
 
 // A single reading stands at F1; its F2 and F3 are unused.

@@ -24,6 +24,7 @@ pub struct RecordIndex(pub u32);
 
 // The limits of a year sheet's numbers (document 01, "Year sheet").
 pub const MAX_KWH: u32 = 20_000_000;
+
 pub const MAX_PRICE: u64 = 500_000;
 
 // The smaller and the larger of two energies.

@@ -23,13 +23,13 @@ month-rate-capped s h plant power m t hm ht =
     (passed-price s (h .past13) m (19 + t) hm (omega arith) (omega arith))
 
 mean-capped : (s : List ℕ) → Passed s → (from n place : ℕ) → 0 < n → from + n ≤ 12 → 6 ≤ place → place < 23
-  → meanRate n (sumBelow n (λ i. word s (from + i) place)) ≤ maxPrice
+    → meanRate n (sumBelow n (λ i. word s (from + i) place)) ≤ maxPrice
 mean-capped s h from n place hn hf lo hi =
     mean-rate-capped n (sumBelow n (λ i. word s (from + i) place)) maxPrice hn
     (sum-capped n maxPrice (λ i. word s (from + i) place) (λ i l. passed-price s (h .past13) (from + i) place (omega arith) lo hi))
 
 pub annual-rate-capped : (s : List ℕ) → Passed s → (plant power from n t : ℕ) → 0 < n → from + n ≤ 12 → t < 4
-  → annualRate s plant power from n t ≤ maxTierRate
+    → annualRate s plant power from n t ≤ maxTierRate
 unfolding annualRate
 annual-rate-capped s h plant power from n t hn hf ht =
     tier-rate-capped plant power maxPrice (mean-capped s h from n (15 + t) hn hf (omega arith) (omega arith))
@@ -37,5 +37,5 @@ annual-rate-capped s h plant power from n t hn hf ht =
 
 -- an array of capped rates
 pub rates-capped : (f : ℕ → ℕ) (a : List Rate) → Rates f a → ((t : ℕ) → t < 4 → f t ≤ maxTierRate)
-  → (t : ℕ) → t < 4 → getD a t (rate 0) .0 ≤ maxTierRate
+    → (t : ℕ) → t < 4 → getD a t (rate 0) .0 ≤ maxTierRate
 rates-capped f a h k t l = rw (h t l) (k t l)

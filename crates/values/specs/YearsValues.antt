@@ -75,7 +75,7 @@ yearValues s d =
       cost = ticks (costOf s);
       «flat_rate» = ticks (flatRateOver s 0 12 (d .class) (d .plant) (d .power));
       half1 = kwh (halfOf s 0);
-      half2 = kwh (halfOf s 1)
+      half2 = kwh (halfOf s 1);
     }
 
 -- "Book", ranges: "C, O .. are at most 3.6·10^14, F 7.2·10^14 .. a half 360,000,000"

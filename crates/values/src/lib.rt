@@ -12,9 +12,10 @@ ghost use Rattle.sheet.specs.YearSheet.{Passed, monthWithdrawn, word};
 ghost use Rattle.prices.specs.Arrays.{energyAt, rowTotal};
 ghost use Rattle.values.specs.YearsValues.{monthInjected, monthExchanged, monthRate, annualRate, monthFlatRate, flatRateOver, yearValues, ValuesFit};
 ghost use Rattle.values.specs.Arrays.{Months, Rates};
-
 use tariff::MONTHLY_THRESHOLD;
-use units::{Kwh, Rate, Ticks};
+use units::Kwh;
+use units::Rate;
+use units::Ticks;
 
 // What enrolment notes of a user: class and plant by document 01's numbers, power in watts, year and month of
 // activation, island 1 where the network is not interconnected, else 0.
@@ -173,7 +174,14 @@ fn annual_rates(s: &[u8], from: usize, count: usize, plant: u8, power: u32) -> [
 }
 
 // "It uses each month's rates": the flat-rate part of a month in the monthly method.
-fn month_flat_rate(s: &[u8], month: usize, withdrawn: Kwh, exchanged: Kwh, plant: u8, power: u32) -> Ticks
+fn month_flat_rate(
+    s: &[u8],
+    month: usize,
+    withdrawn: Kwh,
+    exchanged: Kwh,
+    plant: u8,
+    power: u32,
+) -> Ticks
     requires { ⌜ Passed (now s) ⌝ }
     requires { ⌜ month < 12 ⌝ }
     requires { ⌜ (exchanged .0 ≤ withdrawn .0) × (withdrawn .0 ≤ 3 * maxKwh) ⌝ }
@@ -184,7 +192,16 @@ fn month_flat_rate(s: &[u8], month: usize, withdrawn: Kwh, exchanged: Kwh, plant
 }
 
 // The flat-rate part of a stretch of months in the annual method.
-fn annual_flat_rate(s: &[u8], from: usize, count: usize, withdrawn: Kwh, exchanged: Kwh, class: u8, plant: u8, power: u32) -> Ticks
+fn annual_flat_rate(
+    s: &[u8],
+    from: usize,
+    count: usize,
+    withdrawn: Kwh,
+    exchanged: Kwh,
+    class: u8,
+    plant: u8,
+    power: u32,
+) -> Ticks
     requires { ⌜ Passed (now s) ⌝ }
     requires { ⌜ (0 < count) × (from + count ≤ 12) ⌝ }
     requires { ⌜ (exchanged .0 ≤ withdrawn .0) × (withdrawn .0 ≤ 36 * maxKwh) ⌝ }
@@ -195,7 +212,15 @@ fn annual_flat_rate(s: &[u8], from: usize, count: usize, withdrawn: Kwh, exchang
 }
 
 // The flat-rate part of a stretch of months in the monthly method.
-fn monthly_flat_rate(s: &[u8], from: usize, count: usize, withdrawn: [Kwh; 12], exchanged: [Kwh; 12], plant: u8, power: u32) -> Ticks
+fn monthly_flat_rate(
+    s: &[u8],
+    from: usize,
+    count: usize,
+    withdrawn: [Kwh; 12],
+    exchanged: [Kwh; 12],
+    plant: u8,
+    power: u32,
+) -> Ticks
     requires { ⌜ Passed (now s) ⌝ }
     requires { ⌜ from + count ≤ 12 ⌝ }
     requires { ⌜ Months (monthWithdrawn (now s)) withdrawn × Months (monthExchanged (now s)) exchanged ⌝ }
@@ -219,7 +244,15 @@ pub fn flat_rate(s: &[u8], from: usize, count: usize, class: u8, plant: u8, powe
     let withdrawn = withdrawn(s);
     let injected = injected(s);
     if tariff::monthly_method(class, some_month_above(withdrawn, from, count)) {
-        monthly_flat_rate(s, from, count, withdrawn, exchanged(withdrawn, injected), plant, power)
+        monthly_flat_rate(
+            s,
+            from,
+            count,
+            withdrawn,
+            exchanged(withdrawn, injected),
+            plant,
+            power,
+        )
     } else {
         let total = energy_over(withdrawn, from, count);
         let shared = units::smaller(total, energy_over(injected, from, count));

@@ -16,11 +16,11 @@ mul-result : tie.Need-mul-result
 mul-result c = omega arith
 
 returns : tie.Need-returns
-returns c = 
+returns c =
     ap (λ (y : ℕ). leb (c .before .before .args .amount .0) (maxYearTicks * y)) (c .before .years-between .ensures)
 
 returns-2 : tie.Need-returns-2
-returns-2 c = 
+returns-2 c =
     let a = c .before .before .args in
     sym (le-leb (a .amount .0) (maxYearTicks * (a .to - a .from)) (omega (arith, c .before .before .good .0 .1)))
 

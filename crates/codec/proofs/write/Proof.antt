@@ -19,7 +19,7 @@ abbrev left : ℕ → ℕ → ℕ → ℕ → List ℕ → List ℕ
 left at width rest k filled = sets filled (at + k) (bytesOf (width - k) rest)
 
 left-step : (at width rest k : ℕ) (filled : List ℕ) → k + 1 ≤ width
-  → left at width (rest / 256) (k + 1) (set filled (at + k) (rest % 256)) ≡ left at width rest k filled
+    → left at width (rest / 256) (k + 1) (set filled (at + k) (rest % 256)) ≡ left at width rest k filled
 unfolding bytesOf
 left-step at width rest k filled h =
     let more : width - k ≡ suc (width - (k + 1)) = omega arith in

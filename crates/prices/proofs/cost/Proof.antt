@@ -22,18 +22,18 @@ energies-requires : tie.Need-energies-requires
 energies-requires c κs = search needs
 
 prices-requires : tie.Need-prices-requires
-prices-requires c κs = 
+prices-requires c κs =
     let a = c .before .before .before in
     passed-length (now (a .args .s)) (a .pre .past11)
 
 year-value-requires : tie.Need-year-value-requires
-year-value-requires c κs = 
+year-value-requires c κs =
     let start = c .before .before .before .before in
     let a = start .args in
     rows-fit (now (a .s)) (start .pre) 0 (lit≤ tt) (eqb (c .before .before .withdrawn-reading .result) 1) true false (c .before .energies .result) (c .prices .result) (c .before .energies .ensures) (c .prices .ensures)
 
 returns : tie.Need-returns
-returns c = 
+returns c =
     let a = c .before .before .before .before .before .args in
     let s = now (a .s) in
     let rows = c .before .before .energies in

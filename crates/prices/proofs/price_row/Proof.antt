@@ -60,7 +60,7 @@ rate-at-requires-4 : tie.Need-rate-at-requires-4
 rate-at-requires-4 c κs = search needs
 
 returns : tie.Need-returns
-returns c = 
+returns c =
     let a = c .before .before .before .before .before .before .before .before .args in
     let s = now (a .s) in
     let lent = c .before .before .before .band-part in
@@ -68,7 +68,7 @@ returns c =
     (row-by-bands s (now (lent .result)) (a .island) (a .photovoltaic) (a .month) _ _ _ (lent .ensures) (c .before .before .rate-at .ensures) (c .before .rate-at2 .ensures) (c .rate-at3 .ensures))
 
 returns-2 : tie.Need-returns-2
-returns-2 c = 
+returns-2 c =
     let a = c .before .before .before .before .before .before .args in
     let s = now (a .s) in
     let lent = c .before .single-part in

@@ -32,7 +32,7 @@ loop-less : tie.Need-loop-less Inv-loop μ-loop
 loop-less c = search needs
 
 loop-again : tie.Need-loop-again Inv-loop μ-loop
-loop-again c = 
+loop-again c =
     let l = c .before .before .before .loop in
     let s = now (c .before .before .before .before .before .args .s) in
     (search needs, any-next (l .month) (λ m. ltb monthlyThreshold (monthWithdrawn s m)) (l .inv .1) (ap (λ (e : WideKwh). ltb monthlyThreshold (e .0)) (c .before .month-withdrawn .ensures)))

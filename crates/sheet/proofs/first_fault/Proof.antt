@@ -14,9 +14,9 @@ use Rattle.sheet.proofs.first_fault.Tie as tie
 
 -- the place where the search stops, counted from 1
 found : (s : List ℕ) (m p : ℕ) → m < 12 → p < 23 → atFault s m p ≡ true
-  → ((q : ℕ) → q < p → atFault s m q ≡ false)
-  → ((n : ℕ) → n < m → (q : ℕ) → q < 23 → atFault s n q ≡ false)
-  → FaultAt s (m + 1) (p + 1)
+    → ((q : ℕ) → q < p → atFault s m q ≡ false)
+    → ((n : ℕ) → n < m → (q : ℕ) → q < 23 → atFault s n q ≡ false)
+    → FaultAt s (m + 1) (p + 1)
 found s m p hm hp here row months =
     let month : m + 1 - 1 ≡ m = omega arith in
     let place : p + 1 - 1 ≡ p = omega arith in
@@ -27,7 +27,7 @@ found s m p hm hp here row months =
       placeTo23 = omega arith;
       here = rw (month, place) here;
       notBefore = rw (month, place) row;
-      noMonthBefore = rw month months
+      noMonthBefore = rw month months;
     }
 
 abbrev Inv-loop2 : tie.InvT-loop2

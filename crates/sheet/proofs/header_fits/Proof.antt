@@ -35,7 +35,7 @@ loop-less : tie.Need-loop-less Inv-loop μ-loop
 loop-less c = search needs
 
 loop-again : tie.Need-loop-again Inv-loop μ-loop
-loop-again c = 
+loop-again c =
     let l = c .before .before .loop in
     let s = now (c .before .before .before .before .args .s) in
     (search needs, all-next (l .i) (λ j. eqb (getD s (8 + j) 0) 0) (l .inv .1) (ap (λ (n : ℕ). eqb n 0) (c .byte-at .ensures)))

@@ -30,14 +30,14 @@ loop-less : tie.Need-loop-less Inv-loop μ-loop
 loop-less c = search needs
 
 loop-again : tie.Need-loop-again Inv-loop μ-loop
-loop-again c = 
+loop-again c =
     let l = c .before .before .loop in
     let s = now (c .before .before .before .before .args .s) in
     (search needs, all-next (l .month) (λ m. eqb (lastWord s m) 0) (l .inv .1) (ap (λ (n : ℕ). eqb n 0) (c .word-at .ensures)))
 
 returns : tie.Need-returns Inv-loop μ-loop
 unfolding lastWordsFit
-returns c = 
+returns c =
     let l = c .before .loop in
     let end : l .month ≡ 12 = omega arith in
     l .inv .1 ∙ ap (λ (n : ℕ). allBelow n (λ m. eqb (lastWord (now (c .before .before .before .args .s)) m) 0)) end

@@ -16,12 +16,12 @@ enum-told-2 : tie.Need-enum-told-2
 enum-told-2 c = search needs
 
 returns : tie.Need-returns
-returns c = 
+returns c =
     let fault = c .before .before .first-fault in
     sym (no-fault (now (c .before .before .before .before .args .s)) (fault .result) (fault .ensures) (c .enum-told .given .1))
 
 returns-2 : tie.Need-returns-2
-returns-2 c = 
+returns-2 c =
     let fault = c .before .before .first-fault in
     let told = c .enum-told2 .given in
     sym

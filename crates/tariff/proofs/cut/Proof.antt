@@ -21,7 +21,7 @@ above-requires : tie.Need-above-requires
 above-requires c κs = search needs
 
 returns : tie.Need-returns
-returns c = 
+returns c =
     cut-parts _ _ _ _ _ (omega arith) (omega arith) (c .before .before .before .between .ensures)
     (c .before .before .between2 .ensures) (c .before .between3 .ensures) (c .above .ensures)
 

@@ -19,7 +19,7 @@ annual-rates-requires : tie.Need-annual-rates-requires
 annual-rates-requires c κs = search needs
 
 flat-rate-of-requires : tie.Need-flat-rate-of-requires
-flat-rate-of-requires c κs = 
+flat-rate-of-requires c κs =
     let start = c .before .before .before in
     let a = start .args in
     let s = now (a .s) in
@@ -27,7 +27,7 @@ flat-rate-of-requires c κs =
     (rates-capped (annualRate s (a .plant) (a .power) (a .from) (a .count)) (c .annual-rates .result) (c .annual-rates .ensures) (λ t l. annual-rate-capped s p (a .plant) (a .power) (a .from) (a .count) t (start .pre .1 .0 .0) (start .pre .1 .0 .1) l), omega (arith, c .before .annual-tiers .ensures .1))
 
 returns : tie.Need-returns
-returns c = 
+returns c =
     let a = c .before .before .before .before .args in
     let s = now (a .s) in
     let f = c .flat-rate-of .ensures in

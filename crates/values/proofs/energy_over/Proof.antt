@@ -34,7 +34,7 @@ array-copy-out-month : tie.Need-array-copy-out-month Inv-loop μ-loop
 array-copy-out-month c = search needs
 
 add-sum : tie.Need-add-sum Inv-loop μ-loop
-add-sum c = 
+add-sum c =
     let a = c .before .before .before .before in
     omega (arith, a .pre .1 (a .args .from + c .before .before .before .loop .i) (search needs))
 
@@ -45,14 +45,14 @@ loop-less : tie.Need-loop-less Inv-loop μ-loop
 loop-less c = search needs
 
 loop-again : tie.Need-loop-again Inv-loop μ-loop
-loop-again c = 
+loop-again c =
     let a = c .before .before .before .before in
     let l = c .before .before .before .loop in
     let month = a .pre .1 (a .args .from + l .i) (search needs) in
     (search needs, (omega arith, sum-next (l .i) (λ j. energyAt (a .args .from + j) (a .args .t1)) (l .inv .1 .1) refl))
 
 returns : tie.Need-returns Inv-loop μ-loop
-returns c = 
+returns c =
     let l = c .before .loop in
     let a = c .before .before .args in
     let end : l .i ≡ a .count = omega arith in

@@ -56,7 +56,7 @@ loop-again c =
     (search needs, (simp length-set (l .inv .1 .0), filled-next (kwh 0) (λ m. kwh (min (energyAt m (a .t1)) (energyAt m (a .t2)))) (l .month) (l .months) (c .smaller .result) (omega arith) (ap kwh (c .smaller .ensures)) (l .inv .1 .1)))
 
 returns : tie.Need-returns Inv-loop μ-loop
-returns c = 
+returns c =
     let l = c .before .loop in
     let end : l .month ≡ 12 = omega arith in
     λ m h. l .inv .1 .1 m (rw end h)

@@ -30,7 +30,7 @@ exchanged-requires : tie.Need-exchanged-requires
 exchanged-requires c κs = search needs
 
 monthly-flat-rate-requires : tie.Need-monthly-flat-rate-requires
-monthly-flat-rate-requires c κs = 
+monthly-flat-rate-requires c κs =
     let start = c .before .before .before .before .before .before .before in
     let s = now (start .args .s) in
     let w = c .before .before .before .before .before .withdrawn in
@@ -38,14 +38,14 @@ monthly-flat-rate-requires c κs =
     (start .pre .0, (search needs, (w .ensures, exchanged-months s (w .result) (i .result) (c .exchanged .result) (w .ensures) (i .ensures) (c .exchanged .ensures))))
 
 energy-over-requires : tie.Need-energy-over-requires
-energy-over-requires c κs = 
+energy-over-requires c κs =
     let start = c .before .before .before .before .before .before in
     let s = now (start .args .s) in
     let w = c .before .before .before .before .withdrawn in
     (search needs, months-capped (monthWithdrawn s) (w .result) (3 * maxKwh) (w .ensures) (withdrawn-capped s (start .pre .0)))
 
 energy-over-requires-2 : tie.Need-energy-over-requires-2
-energy-over-requires-2 c κs = 
+energy-over-requires-2 c κs =
     let start = c .before .before .before .before .before .before .before in
     let s = now (start .args .s) in
     let i = c .before .before .before .before .injected in
@@ -55,13 +55,13 @@ smaller-requires : tie.Need-smaller-requires
 smaller-requires c κs = search needs
 
 annual-flat-rate-requires : tie.Need-annual-flat-rate-requires
-annual-flat-rate-requires c κs = 
+annual-flat-rate-requires c κs =
     let start = c .before .before .before .before .before .before .before .before .before in
     let shared = c .smaller .ensures in
     (start .pre .0, (start .pre .1, (omega arith, omega (arith, c .before .before .energy-over .ensures .1))))
 
 returns : tie.Need-returns
-returns c = 
+returns c =
     let start = c .before .before .before .before .before .before .before .before in
     let a = start .args in
     let s = now (a .s) in
@@ -72,7 +72,7 @@ returns c =
     (ap ticks (flat-monthly s (a .from) (a .count) (a .class) (a .plant) (a .power) (c .monthly-flat-rate .result .0) test (c .monthly-flat-rate .ensures .0)), omega (arith, c .monthly-flat-rate .ensures .1))
 
 returns-2 : tie.Need-returns-2
-returns-2 c = 
+returns-2 c =
     let start = c .before .before .before .before .before .before .before .before .before .before in
     let a = start .args in
     let s = now (a .s) in

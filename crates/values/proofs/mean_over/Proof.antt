@@ -17,7 +17,7 @@ mean-rate-requires : tie.Need-mean-rate-requires
 mean-rate-requires c κs = search needs
 
 returns : tie.Need-returns
-returns c = 
+returns c =
     let start = c .before .before .before in
     let n = start .args .count in
     let sum = c .before .rate-over in

@@ -19,7 +19,7 @@ month-rates-requires : tie.Need-month-rates-requires
 month-rates-requires c κs = search needs
 
 flat-rate-of-requires : tie.Need-flat-rate-of-requires
-flat-rate-of-requires c κs = 
+flat-rate-of-requires c κs =
     let start = c .before .before .before in
     let a = start .args in
     let s = now (a .s) in
@@ -27,7 +27,7 @@ flat-rate-of-requires c κs =
     (rates-capped (monthRate s (a .plant) (a .power) (a .month)) (c .month-rates .result) (c .month-rates .ensures) (λ t l. month-rate-capped s p (a .plant) (a .power) (a .month) t (start .pre .1 .0) l), omega (arith, c .before .monthly-tiers .ensures .1))
 
 returns : tie.Need-returns
-returns c = 
+returns c =
     let a = c .before .before .before .before .args in
     let s = now (a .s) in
     let f = c .flat-rate-of .ensures in

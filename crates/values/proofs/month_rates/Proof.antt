@@ -61,7 +61,7 @@ loop-again c =
     (search needs, (simp length-set (l .inv .1 .0), filled-next (rate 0) (λ t. rate (monthRate (now (a .s)) (a .plant) (a .power) (a .month) t)) (l .tier) (l .rates) (c .tier-rate .result) (omega arith) (c .tier-rate .ensures .0 ∙ ap₂ (λ (n m : ℕ). rate (tierRate (a .plant) (a .power) n m)) net-rate system-rate) (l .inv .1 .1)))
 
 returns : tie.Need-returns Inv-loop μ-loop
-returns c = 
+returns c =
     let l = c .before .loop in
     let end : l .tier ≡ 4 = omega arith in
     λ t h. l .inv .1 .1 t (rw end h)

@@ -50,7 +50,7 @@ loop-again c =
     (search needs, (simp length-set (l .inv .1 .0), filled-next (kwh 0) (λ m. kwh (rowTotal (getD (a .t1) m []))) (l .month) (l .totals) (c .row-total .result) (omega arith) (c .row-total .ensures) (l .inv .1 .1)))
 
 returns : tie.Need-returns Inv-loop μ-loop
-returns c = 
+returns c =
     let l = c .before .loop in
     let end : l .month ≡ 12 = omega arith in
     λ m h. l .inv .1 .1 m (rw end h)

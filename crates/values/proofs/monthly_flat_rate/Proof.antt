@@ -40,7 +40,7 @@ array-copy-out-month-flat-rate-2 : tie.Need-array-copy-out-month-flat-rate-2 Inv
 array-copy-out-month-flat-rate-2 c = search needs
 
 month-flat-rate-requires : tie.Need-month-flat-rate-requires Inv-loop μ-loop
-month-flat-rate-requires c κs = 
+month-flat-rate-requires c κs =
     let start = c .before .before .before .before .before in
     let a = start .args in
     let m = a .from + c .before .before .before .loop .i in
@@ -73,7 +73,7 @@ loop-less : tie.Need-loop-less Inv-loop μ-loop
 loop-less c = search needs
 
 loop-again : tie.Need-loop-again Inv-loop μ-loop
-loop-again c = 
+loop-again c =
     let l = c .before .before .before .before .before .loop in
     let start = c .before .before .before .before .before .before .before in
     let a = start .args in
@@ -86,7 +86,7 @@ loop-again c =
     (search needs, (omega arith, sum-next (l .i) (λ j. monthFlatRate s (a .plant) (a .power) (a .from + j)) (l .inv .1 .1) (month-flat s (a .t4) (a .t5) (a .plant) (a .power) m (c .before .month-flat-rate .result .0) inside (months .0) (months .1) (part .0))))
 
 returns : tie.Need-returns Inv-loop μ-loop
-returns c = 
+returns c =
     let l = c .before .loop in
     let a = c .before .before .before .args in
     let end : l .i ≡ a .count = omega arith in

@@ -17,7 +17,7 @@ cast-t5 : tie.Need-cast-t5
 cast-t5 c = search needs
 
 returns : tie.Need-returns
-returns c = 
+returns c =
     let start = c .before .before in
     let a = start .args in
     let place = start .pre .1 in

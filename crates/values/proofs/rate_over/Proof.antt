@@ -46,7 +46,7 @@ loop-again c =
     (search needs, (omega arith, sum-next (l .i) (λ j. word (now (a .s)) (a .from + j) (a .place)) (l .inv .1 .1) (ap (λ (x : Rate). x .0) (c .before .rate-at .ensures .0))))
 
 returns : tie.Need-returns Inv-loop μ-loop
-returns c = 
+returns c =
     let l = c .before .loop in
     let a = c .before .before .before .args in
     let end : l .i ≡ a .count = omega arith in

@@ -41,13 +41,13 @@ loop-less : tie.Need-loop-less Inv-loop μ-loop
 loop-less c = search needs
 
 loop-again : tie.Need-loop-again Inv-loop μ-loop
-loop-again c = 
+loop-again c =
     let l = c .before .before .before .loop in
     let a = c .before .before .before .before .args in
     (search needs, any-next (l .i) (λ j. ltb monthlyThreshold (energyAt (a .from + j) (a .t1))) (l .inv .1) refl)
 
 returns : tie.Need-returns Inv-loop μ-loop
-returns c = 
+returns c =
     let l = c .before .loop in
     let a = c .before .before .args in
     let end : l .i ≡ a .count = omega arith in

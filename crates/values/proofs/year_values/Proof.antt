@@ -30,7 +30,7 @@ flat-rate-requires : tie.Need-flat-rate-requires
 flat-rate-requires c κs = search needs
 
 energy-over-requires : tie.Need-energy-over-requires
-energy-over-requires c κs = 
+energy-over-requires c κs =
     let start = c .before .before .before .before .before .before .before .before .before in
     let s = now (start .args .s) in
     let w = c .before .before .before .before .before .before .before .withdrawn in
@@ -39,7 +39,7 @@ energy-over-requires c κs =
     (search needs, months-capped (monthExchanged s) (e .result) (3 * maxKwh) (exchanged-months s (w .result) (i .result) (e .result) (w .ensures) (i .ensures) (e .ensures)) (exchanged-capped s (start .pre)))
 
 energy-over-requires-2 : tie.Need-energy-over-requires-2
-energy-over-requires-2 c κs = 
+energy-over-requires-2 c κs =
     let start = c .before .before .before .before .before .before .before .before .before .before in
     let s = now (start .args .s) in
     let w = c .before .before .before .before .before .before .before .before .withdrawn in
@@ -49,7 +49,7 @@ energy-over-requires-2 c κs =
 
 returns : tie.Need-returns
 unfolding yearValues
-returns c = 
+returns c =
     let start = c .before .before .before .before .before .before .before .before .before .before .before in
     let s = now (start .args .s) in
     let w = c .before .before .before .before .before .before .before .before .before .withdrawn in

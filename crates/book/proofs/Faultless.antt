@@ -1,0 +1,229 @@
+-- A sound book, rule by rule: what each of its records is known to meet, and that this is all that soundness asks.
+use Prim.Native.Nat.{ℕ, suc, _+_, _≤_, _<_}
+use mathlib.Core.Path.{_≡_, refl, sym, ap, _∙_, subst}
+use mathlib.Core.Bool.{Bool, true, false, cond, not, _&&_, _||_, true≢false, false≢true}
+use mathlib.Core.List.{List}
+use native.Mathlib.Omega.{arith}
+use native.Mathlib.Decide.{decLt}
+use borrow.Author.Tests.{eq-eqb, ne-eqb, eqb-true, eqb-false, lt-ltb, le-ltb, ltb-true, leb-true, not-true, not-false}
+use lib.Dec.{eqb, ltb, leb}
+use Rattle.units.specs.Folds.{anyBelow}
+use Rattle.units.proofs.Bools.{and-left, and-right, and-both, or-left, or-right, or-neither}
+use Rattle.units.proofs.Folds.{none-at, none-of, any-of}
+use Rattle.layout.specs.Fields.{zeros, recordAt, capacity, userKind, advanceKind, closingKind}
+use Rattle.records.specs.Records.{advanceIn, closingIn}
+use Rattle.book.specs.Book.{used, usedFits, kindAt, hasKind, isUser, isAdvance, isClosing, isEntry, accountAt, ownerOf, accountFits, advanceFits, closingFits, rangesFit, zeroBytesFit, userNextFits, numberIsNew, firstEntryFits, firstInOrder, ownerFits, entryNextFits, nextInOrder, pointedOnce, linksFit, goodRecord, goodHead, faulty, sound}
+
+-- what a good user meets
+pub record UserGood (b : List ℕ) (i : ℕ) : Type 0 where
+  pub fits : accountFits (accountAt b i) ≡ true
+  pub gap : zeros 27 5 (recordAt b i) ≡ true
+  pub tail : zeros 56 24 (recordAt b i) ≡ true
+  pub next : userNextFits b i ≡ true
+  pub number : numberIsNew b i ≡ true
+  pub first : firstEntryFits b i ≡ true
+  pub order : firstInOrder b i ≡ true
+  pub pointed : pointedOnce b i ≡ true
+
+-- what a good entry of either kind meets
+pub record EntryLinks (b : List ℕ) (i : ℕ) : Type 0 where
+  pub owner : ownerFits b i ≡ true
+  pub next : entryNextFits b i ≡ true
+  pub order : nextInOrder b i ≡ true
+  pub pointed : pointedOnce b i ≡ true
+
+pub record AdvanceGood (b : List ℕ) (i : ℕ) : Type 0 where
+  pub fits : advanceFits (accountAt b (ownerOf b i)) (advanceIn (recordAt b i)) ≡ true
+  pub gap : zeros 16 48 (recordAt b i) ≡ true
+  pub tail : zeros 68 12 (recordAt b i) ≡ true
+  pub links : EntryLinks b i
+
+pub record ClosingGood (b : List ℕ) (i : ℕ) : Type 0 where
+  pub fits : closingFits (accountAt b (ownerOf b i)) (closingIn (recordAt b i)) ≡ true
+  pub tail : zeros 68 12 (recordAt b i) ≡ true
+  pub links : EntryLinks b i
+
+-- a book without a fault
+pub record Faultless (b : List ℕ) : Type 0 where
+  pub used-fits : usedFits b ≡ true
+  pub head : goodHead b ≡ true
+  pub known : (i : ℕ) → 1 ≤ i → i < used b → (isUser b i || isEntry b i) ≡ true
+  pub user : (i : ℕ) → isUser b i ≡ true → UserGood b i
+  pub advance : (i : ℕ) → isAdvance b i ≡ true → AdvanceGood b i
+  pub closing : (i : ℕ) → isClosing b i ≡ true → ClosingGood b i
+
+-- a kind is told by index and kind byte
+pub kind-index : (b : List ℕ) (k i : ℕ) → hasKind b k i ≡ true → (1 ≤ i) × ((i < used b) × (kindAt b i ≡ k))
+unfolding hasKind
+kind-index b k i h =
+    let place = and-left (ltb 0 i && ltb i (used b)) (eqb (kindAt b i) k) h in
+    (ltb-true 0 i (and-left (ltb 0 i) (ltb i (used b)) place), (ltb-true i (used b) (and-right (ltb 0 i) (ltb i (used b)) place), eqb-true (kindAt b i) k (and-right (ltb 0 i && ltb i (used b)) (eqb (kindAt b i) k) h)))
+
+pub kind-of : (b : List ℕ) (k i : ℕ) → 1 ≤ i → i < used b → kindAt b i ≡ k → hasKind b k i ≡ true
+unfolding hasKind
+kind-of b k i lo hi e = rw (lt-ltb 0 i lo, lt-ltb i (used b) hi, eq-eqb (kindAt b i) k e)
+
+-- no record of a sound book is faulty
+pub faultless-at : (b : List ℕ) → sound b ≡ true → (i : ℕ) → i < capacity b → faulty b i ≡ false
+unfolding sound
+faultless-at b h i l = none-at (capacity b) (faulty b) (not-true (anyBelow (capacity b) (faulty b)) h) i l
+
+sound-used : (b : List ℕ) → 0 < capacity b → sound b ≡ true → usedFits b ≡ true
+unfolding faulty
+sound-used b c h = by-value (usedFits b) refl
+  where
+    by-value : (t : Bool) → usedFits b ≡ t → usedFits b ≡ true
+    by-value true e = e
+    by-value false e =
+        let first : faulty b 0 ≡ true = rw e in
+        absurd (true≢false (sym first ∙ faultless-at b h 0 c))
+
+-- within u the judgement of a record is the opposite of its fault
+judged : (b : List ℕ) (i : ℕ) → usedFits b ≡ true → i < used b → faulty b i ≡ false → cond (eqb i 0) (goodHead b) (goodRecord b i) ≡ true
+unfolding faulty
+judged b i u l h =
+    let plain : not (cond (eqb i 0) (goodHead b) (goodRecord b i)) ≡ false = rw (u, lt-ltb i (used b) l) at h in
+    not-false (cond (eqb i 0) (goodHead b) (goodRecord b i)) plain
+
+used-within : (b : List ℕ) → usedFits b ≡ true → (1 ≤ used b) × (used b ≤ capacity b)
+unfolding usedFits
+used-within b u =
+    (leb-true 1 (used b) (and-left (leb 1 (used b)) (leb (used b) (capacity b)) u), leb-true (used b) (capacity b) (and-right (leb 1 (used b)) (leb (used b) (capacity b)) u))
+
+-- a good record, rule by rule
+module _ (b : List ℕ) (i : ℕ) (g : goodRecord b i ≡ true) where
+  good-own : (rangesFit b i && zeroBytesFit b i) ≡ true
+  unfolding goodRecord
+  good-own =
+      and-left (rangesFit b i && zeroBytesFit b i) (linksFit b i)
+      (and-left ((rangesFit b i && zeroBytesFit b i) && linksFit b i) (pointedOnce b i) g)
+
+  good-ranges : rangesFit b i ≡ true
+  good-ranges = and-left (rangesFit b i) (zeroBytesFit b i) good-own
+
+  good-zeros : zeroBytesFit b i ≡ true
+  good-zeros = and-right (rangesFit b i) (zeroBytesFit b i) good-own
+
+  good-links : linksFit b i ≡ true
+  unfolding goodRecord
+  good-links =
+      and-right (rangesFit b i && zeroBytesFit b i) (linksFit b i)
+      (and-left ((rangesFit b i && zeroBytesFit b i) && linksFit b i) (pointedOnce b i) g)
+
+  good-pointed : pointedOnce b i ≡ true
+  unfolding goodRecord
+  good-pointed = and-right ((rangesFit b i && zeroBytesFit b i) && linksFit b i) (pointedOnce b i) g
+
+  good-user : kindAt b i ≡ userKind → UserGood b i
+  unfolding rangesFit zeroBytesFit linksFit
+  good-user k =
+      let zero-bytes : (zeros 27 5 (recordAt b i) && zeros 56 24 (recordAt b i)) ≡ true = rw k at good-zeros in
+      let links : ((userNextFits b i && numberIsNew b i) && (firstEntryFits b i && firstInOrder b i)) ≡ true = rw k at good-links in
+      let near = and-left (userNextFits b i && numberIsNew b i) (firstEntryFits b i && firstInOrder b i) links in
+      let far = and-right (userNextFits b i && numberIsNew b i) (firstEntryFits b i && firstInOrder b i) links in
+      record {
+        fits = rw k at good-ranges;
+        gap = and-left (zeros 27 5 (recordAt b i)) (zeros 56 24 (recordAt b i)) zero-bytes;
+        tail = and-right (zeros 27 5 (recordAt b i)) (zeros 56 24 (recordAt b i)) zero-bytes;
+        next = and-left (userNextFits b i) (numberIsNew b i) near;
+        number = and-right (userNextFits b i) (numberIsNew b i) near;
+        first = and-left (firstEntryFits b i) (firstInOrder b i) far;
+        order = and-right (firstEntryFits b i) (firstInOrder b i) far;
+        pointed = good-pointed;
+      }
+
+  entry-links : ((ownerFits b i && entryNextFits b i) && nextInOrder b i) ≡ true → EntryLinks b i
+  entry-links links =
+      let near = and-left (ownerFits b i && entryNextFits b i) (nextInOrder b i) links in
+      record {
+        owner = and-left (ownerFits b i) (entryNextFits b i) near;
+        next = and-right (ownerFits b i) (entryNextFits b i) near;
+        order = and-right (ownerFits b i && entryNextFits b i) (nextInOrder b i) links;
+        pointed = good-pointed;
+      }
+
+  good-advance : kindAt b i ≡ advanceKind → AdvanceGood b i
+  unfolding rangesFit zeroBytesFit linksFit
+  good-advance k =
+      let zero-bytes : (zeros 16 48 (recordAt b i) && zeros 68 12 (recordAt b i)) ≡ true = rw k at good-zeros in
+      record {
+        fits = rw k at good-ranges;
+        gap = and-left (zeros 16 48 (recordAt b i)) (zeros 68 12 (recordAt b i)) zero-bytes;
+        tail = and-right (zeros 16 48 (recordAt b i)) (zeros 68 12 (recordAt b i)) zero-bytes;
+        links = entry-links (rw k at good-links);
+      }
+
+  good-closing : kindAt b i ≡ closingKind → ClosingGood b i
+  unfolding rangesFit zeroBytesFit linksFit
+  good-closing k = record { fits = rw k at good-ranges; tail = rw k at good-zeros; links = entry-links (rw k at good-links) }
+
+  -- a good record has one of the three kinds
+  good-known : 1 ≤ i → i < used b → (isUser b i || isEntry b i) ≡ true
+  unfolding isEntry rangesFit hasKind
+  good-known lo hi = by-user (eqb (kindAt b i) userKind) refl
+    where
+      closing-left : (t : Bool) → eqb (kindAt b i) closingKind ≡ t → eqb (kindAt b i) userKind ≡ false → eqb (kindAt b i) advanceKind ≡ false
+          → (isUser b i || (isAdvance b i || isClosing b i)) ≡ true
+      closing-left true e u a = rw (u, a, e, lt-ltb 0 i lo, lt-ltb i (used b) hi)
+      closing-left false e u a = absurd (false≢true (rw (u, a, e) at good-ranges))
+
+      by-advance : (t : Bool) → eqb (kindAt b i) advanceKind ≡ t → eqb (kindAt b i) userKind ≡ false → (isUser b i || (isAdvance b i || isClosing b i)) ≡ true
+      by-advance true e u = rw (u, e, lt-ltb 0 i lo, lt-ltb i (used b) hi)
+      by-advance false e u = closing-left (eqb (kindAt b i) closingKind) refl u e
+
+      by-user : (t : Bool) → eqb (kindAt b i) userKind ≡ t → (isUser b i || (isAdvance b i || isClosing b i)) ≡ true
+      by-user true e = rw (e, lt-ltb 0 i lo, lt-ltb i (used b) hi)
+      by-user false e = by-advance (eqb (kindAt b i) advanceKind) refl e
+
+-- a sound book is without a fault
+pub sound-faultless : (b : List ℕ) → 0 < capacity b → sound b ≡ true → Faultless b
+sound-faultless b c h =
+    let u = sound-used b c h in
+    let within = used-within b u in
+    let good : (i : ℕ) → 1 ≤ i → i < used b → goodRecord b i ≡ true = λ i lo hi.
+    let apart : eqb i 0 ≡ false = ne-eqb i 0 (omega arith) in
+    rw apart at (judged b i u hi (faultless-at b h i (omega arith))) in
+    record {
+      used-fits = u;
+      head = judged b 0 u (omega arith) (faultless-at b h 0 c);
+      known = λ i lo hi. good-known b i (good i lo hi) lo hi;
+      user = λ i k. let p = kind-index b userKind i k in good-user b i (good i (p .0) (p .1 .0)) (p .1 .1);
+      advance = λ i k. let p = kind-index b advanceKind i k in good-advance b i (good i (p .0) (p .1 .0)) (p .1 .1);
+      closing = λ i k. let p = kind-index b closingKind i k in good-closing b i (good i (p .0) (p .1 .0)) (p .1 .1);
+    }
+
+-- the rules of a kind make a good record
+user-good : (b : List ℕ) (i : ℕ) → kindAt b i ≡ userKind → UserGood b i → goodRecord b i ≡ true
+unfolding goodRecord rangesFit zeroBytesFit linksFit
+user-good b i k g = rw (k, g .fits, g .gap, g .tail, g .next, g .number, g .first, g .order, g .pointed)
+
+advance-good : (b : List ℕ) (i : ℕ) → kindAt b i ≡ advanceKind → AdvanceGood b i → goodRecord b i ≡ true
+unfolding goodRecord rangesFit zeroBytesFit linksFit
+advance-good b i k g = rw (k, g .fits, g .gap, g .tail, g .links .owner, g .links .next, g .links .order, g .links .pointed)
+
+closing-good : (b : List ℕ) (i : ℕ) → kindAt b i ≡ closingKind → ClosingGood b i → goodRecord b i ≡ true
+unfolding goodRecord rangesFit zeroBytesFit linksFit
+closing-good b i k g = rw (k, g .fits, g .tail, g .links .owner, g .links .next, g .links .order, g .links .pointed)
+
+faultless-good : (b : List ℕ) → Faultless b → (i : ℕ) → 1 ≤ i → i < used b → goodRecord b i ≡ true
+unfolding isEntry
+faultless-good b f i lo hi = by-user (isUser b i) refl
+  where
+    by-advance : (t : Bool) → isAdvance b i ≡ t → isUser b i ≡ false → goodRecord b i ≡ true
+    by-advance true e u = advance-good b i (kind-index b advanceKind i e .1 .1) (f .advance i e)
+    by-advance false e u =
+        let closing : isClosing b i ≡ true = rw (u, e) at (f .known i lo hi) in
+        closing-good b i (kind-index b closingKind i closing .1 .1) (f .closing i closing)
+
+    by-user : (t : Bool) → isUser b i ≡ t → goodRecord b i ≡ true
+    by-user true e = user-good b i (kind-index b userKind i e .1 .1) (f .user i e)
+    by-user false e = by-advance (isAdvance b i) refl e
+
+pub faultless-sound : (b : List ℕ) → Faultless b → sound b ≡ true
+unfolding sound faulty
+faultless-sound b f = ap not (none-of (capacity b) (faulty b) (λ i l. clean i (decLt i (used b)) (decLt 0 i)))
+  where
+    clean : (i : ℕ) → Dec (i < used b) → Dec (0 < i) → faulty b i ≡ false
+    clean i (no out) d = rw (f .used-fits, le-ltb i (used b) (omega (arith, out)))
+    clean i (yes inside) (yes lo) = rw (f .used-fits, lt-ltb i (used b) inside, ne-eqb i 0 (omega arith), faultless-good b f i lo inside)
+    clean i (yes inside) (no first) = let head : i ≡ 0 = omega (arith, first) in rw (f .used-fits, lt-ltb i (used b) inside, eq-eqb i 0 head, f .head)
