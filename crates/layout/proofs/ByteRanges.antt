@@ -1,6 +1,6 @@
 -- Every byte of a book is below 256: what keeps that, and what it says of a field.
-use Prim.Native.Nat.{ℕ, zero, suc, _+_, _*_, _/_, _%_, _^_, _≤_, _<_}
-use mathlib.Core.Path.{_≡_, refl}
+use Prim.Native.Nat.{ℕ, zero, suc, _+_, _*_, _/_, _%_, _^_, _<_}
+use mathlib.Core.Path.{_≡_}
 use mathlib.Core.List.{List, [], _∷_, _++_}
 use native.Mathlib.Nat.{pow-suc}
 use native.Mathlib.Omega.{arith}
@@ -79,3 +79,6 @@ front-below (suc w) (x ∷ s) h =
 pub get-below : (f : Field) (r : List ℕ) → Bytes r → get f r < 256 ^ f .size
 unfolding get number part
 get-below f r h = front-below (f .size) (drop (f .from) r) (rest (f .from) r h)
+
+pub field-below : (f : Field) (b : List ℕ) (i : ℕ) → Bytes b → get f (recordAt b i) < 256 ^ f .size
+field-below f b i h = get-below f (recordAt b i) (bytes-record b i h)

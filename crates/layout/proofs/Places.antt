@@ -1,13 +1,13 @@
 -- Laws of a record's place in the book: a record that is put is read back, and every other record stays. A record is a
 -- part of the book, and a put is a store of 80 bytes, so each is a law of parts and stores.
 use Prim.Native.Nat.{ℕ, _+_, _-_, _*_, _/_, _%_, _≤_, _<_, min}
-use mathlib.Core.Path.{_≡_, refl, sym, ap, subst, _∙_}
+use mathlib.Core.Path.{_≡_, sym, ap, subst, _∙_}
 use mathlib.Core.List.{List, []}
 use native.Mathlib.Decide.{decLe, decLt}
 use native.Mathlib.Omega.{arith}
 use lib.ListN.{length, getD, take, drop, length-take, length-drop, drop-of-length-le}
-use lib.Seq.{take-all, getD-take, getD-drop, ext-getD}
-use Rattle.codec.specs.Bytes.{part, number, stored}
+use lib.Seq.{take-all, take-nil, drop-nil, getD-take, getD-drop, ext-getD}
+use Rattle.codec.specs.Bytes.{littleEndian, part, number, stored}
 use Rattle.codec.proofs.Numbers.{number-part}
 use Rattle.codec.proofs.Stores.{length-stored, part-stored, part-before, part-after}
 use Rattle.layout.specs.Fields.{recordLength, Field, get, recordAt, putRecord, capacity}
@@ -65,6 +65,18 @@ record-put-other i j r b n l h = by-order (decLt j i)
         → part recordLength (recordLength * j) (stored (recordLength * i) r b) ≡ part recordLength (recordLength * j) b
     by-order (yes p) = part-before recordLength (recordLength * j) (recordLength * i) r b (omega arith) (omega arith)
     by-order (no p) = part-after recordLength (recordLength * j) (recordLength * i) r b (omega (arith, p)) (omega arith)
+
+-- past the end a record is empty, and every field of it is 0
+pub record-past : (b : List ℕ) (i : ℕ) → length b ≤ recordLength * i → recordAt b i ≡ []
+unfolding recordAt part
+record-past b i h = ap (take recordLength) (drop-of-length-le b h)
+
+pub get-past : (f : Field) (b : List ℕ) (i : ℕ) → length b ≤ recordLength * i → get f (recordAt b i) ≡ 0
+unfolding get number part littleEndian
+get-past f b i h =
+    ap (get f) (record-past b i h)
+    ∙ ap (λ (s : List ℕ). littleEndian (take (f .size) s)) (drop-nil (f .from))
+    ∙ ap littleEndian (take-nil (f .size))
 
 -- a field of a record, as a number of the book
 pub get-record : (f : Field) (b : List ℕ) (i : ℕ) → f .from + f .size ≤ recordLength

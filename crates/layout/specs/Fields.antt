@@ -7,7 +7,6 @@ use lib.ListN.{length, getD, replicate}
 use Rattle.units.specs.Folds.{allBelow}
 use Rattle.codec.specs.Bytes.{bytesOf, part, number, stored}
 
-infix 5 _holds_
 -- "Records of 80 bytes"
 abbrev pub recordLength : ℕ
 recordLength = 80
@@ -156,6 +155,7 @@ pub record Cell : Type 0 where
   pub field : Field
   pub value : ℕ
 
+infix 5 _holds_
 abbrev pub _holds_ : Field → ℕ → Cell
 f holds n = record { field = f; value = n }
 

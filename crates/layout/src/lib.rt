@@ -10,6 +10,7 @@ ghost use Rattle.layout.specs.Fields.{zeros as allZero};
 use units::RecordIndex;
 use units::UserNumber;
 
+pub mod kind;
 pub mod place;
 
 // "Records of 80 bytes"

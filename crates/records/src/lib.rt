@@ -3,6 +3,7 @@ ghost use mathlib.Core.Path.{_≡_};
 ghost use Rattle.records.specs.Records.{headImage, userImage, advanceImage, closingImage, accountIn, userIn, advanceIn, closingIn};
 use account::Account;
 use account::Balance;
+use layout::kind;
 use layout::place;
 use layout::put_u8;
 use layout::put_u16;
@@ -134,7 +135,7 @@ pub fn user_image(user: UserRecord) -> [u8; 80]
     let details = account.details;
     let image = [0; 80];
     let image = put_u32(image, place::NEXT, user.next.0);
-    let image = put_u8(image, place::KIND, USER);
+    let image = put_u8(image, place::KIND, kind::USER);
     let image = put_u8(image, place::CLASS, details.class);
     let image = put_u8(image, place::PLANT, details.plant);
     let image = put_u8(image, place::OPTION, account.option);
@@ -157,7 +158,7 @@ pub fn advance_image(advance: AdvanceRecord) -> [u8; 80]
 {
     let image = [0; 80];
     let image = put_u32(image, place::NEXT, advance.next.0);
-    let image = put_u8(image, place::KIND, ADVANCE);
+    let image = put_u8(image, place::KIND, kind::ADVANCE);
     let image = put_u8(image, place::RUN, advance.run);
     let image = put_u16(image, place::YEAR, advance.year);
     let image = put_u64(image, place::TICKS, advance.ticks.0);
@@ -169,7 +170,7 @@ pub fn closing_image(closing: ClosingRecord) -> [u8; 80]
 {
     let image = [0; 80];
     let image = put_u32(image, place::NEXT, closing.next.0);
-    let image = put_u8(image, place::KIND, CLOSING);
+    let image = put_u8(image, place::KIND, kind::CLOSING);
     let image = put_u8(image, place::CLOSING_OPTION, closing.option);
     let image = put_u16(image, place::YEAR, closing.year);
     let image = put_u64(image, place::VALUE, closing.value.0);

@@ -1,9 +1,9 @@
 -- Both ends of the part are cut at the end of the book.
-use Prim.Native.Nat.{ℕ, _+_, _-_, min}
+use Prim.Native.Nat.{ℕ, _-_}
 use mathlib.Core.Path.{ap, ap₂, _∙_}
 use mathlib.Core.List.{List}
 use denote.Ref.{now}
-use lib.ListN.{length, take, drop}
+use lib.ListN.{take, drop}
 use Rattle.codec.specs.Bytes.{part}
 use Rattle.layout.specs.Fields.{recordLength, recordAt}
 use Rattle.layout.proofs.Places.{part-clipped}

@@ -1,12 +1,10 @@
 -- A running test.
 use Prim.Native.Nat.{ℕ, _+_, _-_, _≤_}
 use mathlib.Core.Path.{_≡_, ap, sym, _∙_}
-use mathlib.Core.Bool.{Bool}
 use native.Mathlib.Omega.{arith}
 use denote.Ref.{now}
 use lib.Dec.{eqb}
 use lib.ListN.{getD}
-use Rattle.units.specs.Folds.{allBelow}
 use Rattle.units.proofs.Folds.{all-zero, all-next}
 use Rattle.layout.specs.Fields.{zeros}
 use borrow.Author.Needs.{needs}

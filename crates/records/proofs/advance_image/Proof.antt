@@ -1,4 +1,4 @@
--- The cells are written in their order.
+-- The cells are written in their order. Each name stands for the place after its field is written.
 use Rattle.layout.specs.Fields.{written}
 use Rattle.records.specs.Records.{advanceImage}
 use borrow.Author.Needs.{needs}
@@ -25,7 +25,20 @@ put-u32-requires-2 c κs = search needs
 
 returns : tie.Need-returns
 unfolding advanceImage written
-returns c = cc
+returns c =
+    let ticks = c .before in
+    let year = ticks .before in
+    let run = year .before in
+    let kind = run .before in
+    let next = kind .before in
+    rw (
+      c .put-u322 .ensures,
+      ticks .put-u64 .ensures,
+      year .put-u16 .ensures,
+      run .put-u82 .ensures,
+      kind .put-u8 .ensures,
+      next .put-u32 .ensures,
+    )
 
 pub advance-image-spec : {M : Type 1} → statement M
 advance-image-spec =

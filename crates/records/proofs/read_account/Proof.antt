@@ -1,4 +1,5 @@
--- Field by field.
+-- Field by field. Each name stands for the place after its field is read.
+use Rattle.units.specs.Units.{kwh, ticks}
 use Rattle.layout.specs.Fields.{get}
 use Rattle.records.specs.Records.{accountIn}
 use borrow.Author.Needs.{needs}
@@ -34,7 +35,27 @@ read-u32-requires-2 c κs = search needs
 
 returns : tie.Need-returns
 unfolding accountIn get
-returns c = λ i. record { number = c .before .before .before .before .before .before .before .before .number-of .ensures i; details = c .before .before .before .before .before .before .before .read-details .ensures i; option = c .before .before .before .before .before .before .read-u8 .ensures i; «open_year» = c .before .before .before .before .before .open-year-of .ensures i; runs = c .before .before .before .before .read-u82 .ensures i; credit = record { 0 = c .before .before .before .read-u64 .ensures i }; advances = record { 0 = c .before .before .read-u642 .ensures i }; half1 = record { 0 = c .before .read-u32 .ensures i }; half2 = record { 0 = c .read-u322 .ensures i } }
+returns c =
+    let half1 = c .before in
+    let advances = half1 .before in
+    let credit = advances .before in
+    let runs = credit .before in
+    let open-year = runs .before in
+    let option = open-year .before in
+    let details = option .before in
+    let number = details .before in
+    λ i.
+    record {
+      number = number .number-of .ensures i;
+      details = details .read-details .ensures i;
+      option = option .read-u8 .ensures i;
+      «open_year» = open-year .open-year-of .ensures i;
+      runs = runs .read-u82 .ensures i;
+      credit = ticks (credit .read-u64 .ensures i);
+      advances = ticks (advances .read-u642 .ensures i);
+      half1 = kwh (half1 .read-u32 .ensures i);
+      half2 = kwh (c .read-u322 .ensures i);
+    }
 
 pub read-account-spec : {M : Type 1} → statement M
 read-account-spec =

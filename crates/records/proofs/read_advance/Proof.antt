@@ -1,4 +1,4 @@
--- Field by field.
+-- Field by field. Each name stands for the place after its field is read.
 use Rattle.layout.specs.Fields.{get}
 use Rattle.records.specs.Records.{advanceIn}
 use borrow.Author.Needs.{needs}
@@ -22,7 +22,19 @@ owner-of-requires c κs = search needs
 
 returns : tie.Need-returns
 unfolding advanceIn get
-returns c = λ i. record { next = c .before .before .before .before .next-of .ensures i; run = c .before .before .before .read-u8 .ensures i; year = c .before .before .year-of .ensures i; ticks = record { 0 = c .before .read-u64 .ensures i }; owner = c .owner-of .ensures i }
+returns c =
+    let ticks = c .before in
+    let year = ticks .before in
+    let run = year .before in
+    let next = run .before in
+    λ i.
+    record {
+      next = next .next-of .ensures i;
+      run = run .read-u8 .ensures i;
+      year = year .year-of .ensures i;
+      ticks = record { 0 = ticks .read-u64 .ensures i };
+      owner = c .owner-of .ensures i;
+    }
 
 pub read-advance-spec : {M : Type 1} → statement M
 read-advance-spec =

@@ -1,4 +1,5 @@
--- Field by field.
+-- Field by field. Each name stands for the place after its field is read.
+use Rattle.units.specs.Units.{ticks}
 use Rattle.layout.specs.Fields.{get}
 use Rattle.records.specs.Records.{closingIn}
 use borrow.Author.Needs.{needs}
@@ -40,7 +41,31 @@ owner-of-requires c κs = search needs
 
 returns : tie.Need-returns
 unfolding closingIn get
-returns c = λ i. record { next = c .before .before .before .before .before .before .before .before .before .before .next-of .ensures i; option = c .before .before .before .before .before .before .before .before .before .read-u8 .ensures i; year = c .before .before .before .before .before .before .before .before .year-of .ensures i; value = record { 0 = c .before .before .before .before .before .before .before .read-u64 .ensures i }; cost = record { 0 = c .before .before .before .before .before .before .read-u642 .ensures i }; «flat_rate» = record { 0 = c .before .before .before .before .before .read-u643 .ensures i }; contribution = record { 0 = c .before .before .before .before .read-u644 .ensures i }; liquidation = record { 0 = c .before .before .before .read-u645 .ensures i }; lapsed = record { 0 = c .before .before .read-u646 .ensures i }; balance = record { 0 = c .before .read-u647 .ensures i }; owner = c .owner-of .ensures i }
+returns c =
+    let balance = c .before in
+    let lapsed = balance .before in
+    let liquidation = lapsed .before in
+    let contribution = liquidation .before in
+    let flat-rate = contribution .before in
+    let cost = flat-rate .before in
+    let value = cost .before in
+    let year = value .before in
+    let option = year .before in
+    let next = option .before in
+    λ i.
+    record {
+      next = next .next-of .ensures i;
+      option = option .read-u8 .ensures i;
+      year = year .year-of .ensures i;
+      value = ticks (value .read-u64 .ensures i);
+      cost = ticks (cost .read-u642 .ensures i);
+      «flat_rate» = ticks (flat-rate .read-u643 .ensures i);
+      contribution = ticks (contribution .read-u644 .ensures i);
+      liquidation = ticks (liquidation .read-u645 .ensures i);
+      lapsed = ticks (lapsed .read-u646 .ensures i);
+      balance = record { 0 = balance .read-u647 .ensures i };
+      owner = c .owner-of .ensures i;
+    }
 
 pub read-closing-spec : {M : Type 1} → statement M
 read-closing-spec =

@@ -1,4 +1,4 @@
--- Field by field.
+-- Field by field. Each name stands for the place after its field is read.
 use Rattle.layout.specs.Fields.{get}
 use Rattle.records.specs.Records.{accountIn}
 use borrow.Author.Needs.{needs}
@@ -25,7 +25,21 @@ read-u8-requires-4 c κs = search needs
 
 returns : tie.Need-returns
 unfolding accountIn get
-returns c = λ i. record { class = c .before .before .before .before .before .read-u8 .ensures i; plant = c .before .before .before .before .read-u82 .ensures i; power = c .before .before .before .read-u32 .ensures i; year = c .before .before .activation-year-of .ensures i; month = c .before .read-u83 .ensures i; island = c .read-u84 .ensures i }
+returns c =
+    let month = c .before in
+    let year = month .before in
+    let power = year .before in
+    let plant = power .before in
+    let class = plant .before in
+    λ i.
+    record {
+      class = class .read-u8 .ensures i;
+      plant = plant .read-u82 .ensures i;
+      power = power .read-u32 .ensures i;
+      year = year .activation-year-of .ensures i;
+      month = month .read-u83 .ensures i;
+      island = c .read-u84 .ensures i;
+    }
 
 pub read-details-spec : {M : Type 1} → statement M
 read-details-spec =

@@ -1,4 +1,4 @@
--- Field by field.
+-- Field by field. Each name stands for the place after its field is read.
 use Rattle.records.specs.Records.{userIn}
 use borrow.Author.Needs.{needs}
 use Rattle.records.proofs.read_user.Statement.{statement}
@@ -15,7 +15,15 @@ read-account-requires c κs = search needs
 
 returns : tie.Need-returns
 unfolding userIn
-returns c = λ i. record { next = c .before .before .next-of .ensures i; first = c .before .first-entry-of .ensures i; account = c .read-account .ensures i }
+returns c =
+    let first = c .before in
+    let next = first .before in
+    λ i.
+    record {
+      next = next .next-of .ensures i;
+      first = first .first-entry-of .ensures i;
+      account = c .read-account .ensures i;
+    }
 
 pub read-user-spec : {M : Type 1} → statement M
 read-user-spec =

@@ -1,4 +1,4 @@
--- The cells are written in their order.
+-- The cells are written in their order. Each name stands for the place after its field is written.
 use Rattle.layout.specs.Fields.{written}
 use Rattle.records.specs.Records.{userImage}
 use borrow.Author.Needs.{needs}
@@ -58,7 +58,42 @@ put-u32-requires-6 c κs = search needs
 
 returns : tie.Need-returns
 unfolding userImage written
-returns c = rw (c .put-u326 .ensures, c .before .put-u325 .ensures, c .before .before .put-u642 .ensures, c .before .before .before .put-u64 .ensures, c .before .before .before .before .put-u87 .ensures, c .before .before .before .before .before .put-u162 .ensures, c .before .before .before .before .before .before .put-u86 .ensures, c .before .before .before .before .before .before .before .put-u85 .ensures, c .before .before .before .before .before .before .before .before .put-u16 .ensures, c .before .before .before .before .before .before .before .before .before .put-u324 .ensures, c .before .before .before .before .before .before .before .before .before .before .put-u323 .ensures, c .before .before .before .before .before .before .before .before .before .before .before .put-u322 .ensures, c .before .before .before .before .before .before .before .before .before .before .before .before .put-u84 .ensures, c .before .before .before .before .before .before .before .before .before .before .before .before .before .put-u83 .ensures, c .before .before .before .before .before .before .before .before .before .before .before .before .before .before .put-u82 .ensures, c .before .before .before .before .before .before .before .before .before .before .before .before .before .before .before .put-u8 .ensures, c .before .before .before .before .before .before .before .before .before .before .before .before .before .before .before .before .put-u32 .ensures)
+returns c =
+    let half1 = c .before in
+    let advances = half1 .before in
+    let credit = advances .before in
+    let runs = credit .before in
+    let open-year = runs .before in
+    let island = open-year .before in
+    let month = island .before in
+    let year = month .before in
+    let power = year .before in
+    let first = power .before in
+    let number = first .before in
+    let option = number .before in
+    let plant = option .before in
+    let class = plant .before in
+    let kind = class .before in
+    let next = kind .before in
+    rw (
+      c .put-u326 .ensures,
+      half1 .put-u325 .ensures,
+      advances .put-u642 .ensures,
+      credit .put-u64 .ensures,
+      runs .put-u87 .ensures,
+      open-year .put-u162 .ensures,
+      island .put-u86 .ensures,
+      month .put-u85 .ensures,
+      year .put-u16 .ensures,
+      power .put-u324 .ensures,
+      first .put-u323 .ensures,
+      number .put-u322 .ensures,
+      option .put-u84 .ensures,
+      plant .put-u83 .ensures,
+      class .put-u82 .ensures,
+      kind .put-u8 .ensures,
+      next .put-u32 .ensures,
+    )
 
 pub user-image-spec : {M : Type 1} → statement M
 user-image-spec =
