@@ -42,11 +42,14 @@ newAccount number d option =
       half2 = kwh 0;
     }
 
-unfoldable pub enrolled : ℕ → Details → ℕ → List ℕ → List ℕ
-enrolled number d option b =
+-- the book with a new user
+unfoldable pub enrolledAs : Account → List ℕ → List ℕ
+enrolledAs a b =
     putRecord 0 (headImage (used b + 1) (used b))
-    (putRecord (used b)
-    (userImage (record { next = recordIndex (firstUser b); first = recordIndex 0; account = newAccount number d option })) b)
+    (putRecord (used b) (userImage (record { next = recordIndex (firstUser b); first = recordIndex 0; account = a })) b)
+
+unfoldable pub enrolled : ℕ → Details → ℕ → List ℕ → List ℕ
+enrolled number d option b = enrolledAs (newAccount number d option) b
 
 -- the book with another account at the user i, whose links stay
 unfoldable pub withAccount : ℕ → Account → List ℕ → List ℕ

@@ -1,0 +1,270 @@
+// The rules of document 01, "Book", between the records of a book: what each record is, and where its links may lead. Any
+// bytes are a book here: an index that a record holds may lead anywhere, and a record past the end has zeros in all its
+// fields.
+ghost use mathlib.Core.Path.{_≡_};
+ghost use Rattle.units.specs.Units.{userNumber, recordIndex};
+ghost use Rattle.layout.specs.Fields.{userKind, advanceKind, closingKind};
+ghost use Rattle.book.specs.Book.{firstUser, usedFits, kindAt, hasKind, isUser, isAdvance, isClosing, isEntry, ownerOf, accountAt, rangesFit, zeroBytesFit, nextOf, firstEntryOf, numberOf, userNextFits, numberIsNew, firstEntryFits, entryNextFits, ownerFits, pointersTo, rankOf, inOrder, activationOf, openYearOf, firstInOrder, nextInOrder, linksFit, goodRecord, goodHead};
+ghost use Rattle.book.specs.Book.{used as usedIn};
+use account::Account;
+use layout::RECORD_LENGTH;
+use layout::record;
+use units::RecordIndex;
+use units::UserNumber;
+
+// Kinds of records.
+pub const USER: u8 = 1;
+
+pub const ADVANCE: u8 = 2;
+
+pub const CLOSING: u8 = 3;
+
+// THE HEAD
+
+pub fn used(book: &[u8]) -> u32
+    ensures { λ r. ⌜ r ≡ usedIn (now (book .entry)) ⌝ }
+{
+    layout::used_of(record(book, RecordIndex(0)))
+}
+
+pub fn first_user(book: &[u8]) -> RecordIndex
+    ensures { λ r. ⌜ r ≡ recordIndex (firstUser (now (book .entry))) ⌝ }
+{
+    layout::first_user_of(record(book, RecordIndex(0)))
+}
+
+pub fn used_fits(book: &[u8]) -> bool
+    ensures { λ r. ⌜ r ≡ usedFits (now (book .entry)) ⌝ }
+{
+    (1 <= used(book)) & (used(book) as usize <= book.len() / RECORD_LENGTH)
+}
+
+// WHAT A RECORD IS
+
+pub fn kind_at(book: &[u8], index: RecordIndex) -> u8
+    ensures { λ r. ⌜ r ≡ kindAt (now (book .entry)) (index .0) ⌝ }
+{
+    layout::kind_of(record(book, index))
+}
+
+pub fn has_kind(book: &[u8], kind: u8, index: RecordIndex) -> bool
+    ensures { λ r. ⌜ r ≡ hasKind (now (book .entry)) kind (index .0) ⌝ }
+{
+    ((0 < index.0) & (index.0 < used(book))) & (kind_at(book, index) == kind)
+}
+
+pub fn is_user(book: &[u8], index: RecordIndex) -> bool
+    ensures { λ r. ⌜ r ≡ isUser (now (book .entry)) (index .0) ⌝ }
+{
+    has_kind(book, USER, index)
+}
+
+pub fn is_advance(book: &[u8], index: RecordIndex) -> bool
+    ensures { λ r. ⌜ r ≡ isAdvance (now (book .entry)) (index .0) ⌝ }
+{
+    has_kind(book, ADVANCE, index)
+}
+
+pub fn is_closing(book: &[u8], index: RecordIndex) -> bool
+    ensures { λ r. ⌜ r ≡ isClosing (now (book .entry)) (index .0) ⌝ }
+{
+    has_kind(book, CLOSING, index)
+}
+
+pub fn is_entry(book: &[u8], index: RecordIndex) -> bool
+    ensures { λ r. ⌜ r ≡ isEntry (now (book .entry)) (index .0) ⌝ }
+{
+    is_advance(book, index) | is_closing(book, index)
+}
+
+// FIELDS OF A RECORD
+
+pub fn owner_of(book: &[u8], index: RecordIndex) -> RecordIndex
+    ensures { λ r. ⌜ r ≡ recordIndex (ownerOf (now (book .entry)) (index .0)) ⌝ }
+{
+    layout::owner_of(record(book, index))
+}
+
+pub fn next_of(book: &[u8], index: RecordIndex) -> RecordIndex
+    ensures { λ r. ⌜ r ≡ recordIndex (nextOf (now (book .entry)) (index .0)) ⌝ }
+{
+    layout::next_of(record(book, index))
+}
+
+pub fn first_entry_of(book: &[u8], index: RecordIndex) -> RecordIndex
+    ensures { λ r. ⌜ r ≡ recordIndex (firstEntryOf (now (book .entry)) (index .0)) ⌝ }
+{
+    layout::first_entry_of(record(book, index))
+}
+
+pub fn number_of(book: &[u8], index: RecordIndex) -> UserNumber
+    ensures { λ r. ⌜ r ≡ userNumber (numberOf (now (book .entry)) (index .0)) ⌝ }
+{
+    layout::number_of(record(book, index))
+}
+
+pub fn rank_of(book: &[u8], index: RecordIndex) -> u16
+    ensures { λ r. ⌜ r ≡ rankOf (now (book .entry)) (index .0) ⌝ }
+{
+    layout::year_of(record(book, index))
+}
+
+pub fn activation_of(book: &[u8], index: RecordIndex) -> u16
+    ensures { λ r. ⌜ r ≡ activationOf (now (book .entry)) (index .0) ⌝ }
+{
+    layout::activation_year_of(record(book, index))
+}
+
+pub fn open_year_of(book: &[u8], index: RecordIndex) -> u16
+    ensures { λ r. ⌜ r ≡ openYearOf (now (book .entry)) (index .0) ⌝ }
+{
+    layout::open_year_of(record(book, index))
+}
+
+pub fn account_at(book: &[u8], index: RecordIndex) -> Account
+    ensures { λ r. ⌜ r ≡ accountAt (now (book .entry)) (index .0) ⌝ }
+{
+    records::read_account(record(book, index))
+}
+
+// WHAT DIFFERS BY KIND: ranges and zero bytes
+
+pub fn ranges_fit(book: &[u8], index: RecordIndex) -> bool
+    ensures { λ r. ⌜ r ≡ rangesFit (now (book .entry)) (index .0) ⌝ }
+{
+    match kind_at(book, index) {
+        USER => book::account_fits(account_at(book, index)),
+        ADVANCE => {
+            let owner = account_at(book, owner_of(book, index));
+            book::advance_fits(owner, records::read_advance(record(book, index)))
+        }
+        CLOSING => {
+            let owner = account_at(book, owner_of(book, index));
+            book::closing_fits(owner, records::read_closing(record(book, index)))
+        }
+        _ => false,
+    }
+}
+
+pub fn zero_bytes_fit(book: &[u8], index: RecordIndex) -> bool
+    ensures { λ r. ⌜ r ≡ zeroBytesFit (now (book .entry)) (index .0) ⌝ }
+{
+    let bytes = record(book, index);
+    match kind_at(book, index) {
+        USER => layout::zeros(bytes, 27, 5) & layout::zeros(bytes, 56, 24),
+        ADVANCE => layout::zeros(bytes, 16, 48) & layout::zeros(bytes, 68, 12),
+        CLOSING => layout::zeros(bytes, 68, 12),
+        _ => false,
+    }
+}
+
+// LINKS OF A USER
+
+pub fn user_next_fits(book: &[u8], index: RecordIndex) -> bool
+    ensures { λ r. ⌜ r ≡ userNextFits (now (book .entry)) (index .0) ⌝ }
+{
+    let next = next_of(book, index);
+    (next.0 == 0) | (is_user(book, next) & (next.0 < index.0))
+}
+
+pub fn number_is_new(book: &[u8], index: RecordIndex) -> bool
+    ensures { λ r. ⌜ r ≡ numberIsNew (now (book .entry)) (index .0) ⌝ }
+{
+    let number = number_of(book, index);
+    let below = index.0;
+    let mut taken = false;
+    for j in 0..below {
+        let other = RecordIndex(j);
+        taken = taken | (is_user(book, other) & (number_of(book, other).0 == number.0));
+    }
+    !taken
+}
+
+pub fn first_entry_fits(book: &[u8], index: RecordIndex) -> bool
+    ensures { λ r. ⌜ r ≡ firstEntryFits (now (book .entry)) (index .0) ⌝ }
+{
+    let first = first_entry_of(book, index);
+    (first.0 == 0) | (is_entry(book, first) & (owner_of(book, first).0 == index.0))
+}
+
+// LINKS OF AN ENTRY
+
+pub fn entry_next_fits(book: &[u8], index: RecordIndex) -> bool
+    ensures { λ r. ⌜ r ≡ entryNextFits (now (book .entry)) (index .0) ⌝ }
+{
+    let next = next_of(book, index);
+    let kin = is_entry(book, next) & (owner_of(book, next).0 == owner_of(book, index).0);
+    (next.0 == 0) | (kin & (next.0 < index.0))
+}
+
+pub fn owner_fits(book: &[u8], index: RecordIndex) -> bool
+    ensures { λ r. ⌜ r ≡ ownerFits (now (book .entry)) (index .0) ⌝ }
+{
+    let owner = owner_of(book, index);
+    is_user(book, owner) & (owner.0 < index.0)
+}
+
+// THE ORDER OF A CHAIN
+
+// What stands where entries of a year may follow: nothing in the activation year, an advance of that year, or the closing of
+// the year before.
+pub fn in_order(book: &[u8], activation: u16, year: u16, entry: RecordIndex) -> bool
+    ensures { λ r. ⌜ r ≡ inOrder (now (book .entry)) activation year (entry .0) ⌝ }
+{
+    if entry.0 == 0 {
+        year == activation
+    } else {
+        let rank = rank_of(book, entry);
+        let advance = is_advance(book, entry) & (rank == year);
+        let closing = is_closing(book, entry) & (rank as u32 + 1 == year as u32);
+        advance | closing
+    }
+}
+
+pub fn first_in_order(book: &[u8], index: RecordIndex) -> bool
+    ensures { λ r. ⌜ r ≡ firstInOrder (now (book .entry)) (index .0) ⌝ }
+{
+    in_order(
+        book,
+        activation_of(book, index),
+        open_year_of(book, index),
+        first_entry_of(book, index),
+    )
+}
+
+pub fn next_in_order(book: &[u8], index: RecordIndex) -> bool
+    ensures { λ r. ⌜ r ≡ nextInOrder (now (book .entry)) (index .0) ⌝ }
+{
+    let activation = activation_of(book, owner_of(book, index));
+    in_order(book, activation, rank_of(book, index), next_of(book, index))
+}
+
+// FAULTS
+
+pub fn links_fit(book: &[u8], index: RecordIndex) -> bool
+    ensures { λ r. ⌜ r ≡ linksFit (now (book .entry)) (index .0) ⌝ }
+{
+    if kind_at(book, index) == USER {
+        let user = user_next_fits(book, index) & number_is_new(book, index);
+        user & (first_entry_fits(book, index) & first_in_order(book, index))
+    } else {
+        (owner_fits(book, index) & entry_next_fits(book, index)) & next_in_order(book, index)
+    }
+}
+
+// A record is judged with the number of pointers that lead to it.
+pub fn good_record(book: &[u8], index: RecordIndex, pointers: u16) -> bool
+    requires { ⌜ pointers ≡ pointersTo (now book) (index .0) ⌝ }
+    ensures { λ r. ⌜ r ≡ goodRecord (now (book .entry)) (index .0) ⌝ }
+{
+    let own = ranges_fit(book, index) & zero_bytes_fit(book, index);
+    (own & links_fit(book, index)) & (pointers == 1)
+}
+
+pub fn good_head(book: &[u8]) -> bool
+    ensures { λ r. ⌜ r ≡ goodHead (now (book .entry)) ⌝ }
+{
+    let first = first_user(book);
+    let leads = (first.0 == 0) | is_user(book, first);
+    leads & layout::zeros(record(book, RecordIndex(0)), 8, 72)
+}
