@@ -85,7 +85,7 @@ judged b i u l h =
     let plain : not (cond (eqb i 0) (goodHead b) (goodRecord b i)) ≡ false = rw (u, lt-ltb i (used b) l) at h in
     not-false (cond (eqb i 0) (goodHead b) (goodRecord b i)) plain
 
-used-within : (b : List ℕ) → usedFits b ≡ true → (1 ≤ used b) × (used b ≤ capacity b)
+pub used-within : (b : List ℕ) → usedFits b ≡ true → (1 ≤ used b) × (used b ≤ capacity b)
 unfolding usedFits
 used-within b u =
     (leb-true 1 (used b) (and-left (leb 1 (used b)) (leb (used b) (capacity b)) u), leb-true (used b) (capacity b) (and-right (leb 1 (used b)) (leb (used b) (capacity b)) u))

@@ -1,0 +1,62 @@
+-- Kinds under a frame: at an old index every kind stays, and none is lost.
+use Prim.Native.Nat.{ℕ, _+_, _≤_, _<_}
+use mathlib.Core.Path.{_≡_, refl, sym, ap, ap₂, subst, _∙_}
+use mathlib.Core.Bool.{Bool, true, false, _&&_, _||_}
+use mathlib.Core.List.{List}
+use native.Mathlib.Decide.{decLt}
+use native.Mathlib.Omega.{arith}
+use borrow.Author.Tests.{lt-ltb, le-ltb}
+use lib.Dec.{ltb, eqb}
+use Rattle.layout.specs.Fields.{get, recordAt, ownerField, yearField, activationYearField, userKind, advanceKind, closingKind}
+use Rattle.records.specs.Records.{accountIn}
+use Rattle.values.specs.declared.Details.{Details}
+use Rattle.book.specs.Book.{used, kindAt, hasKind, isUser, isAdvance, isClosing, isEntry, ownerOf, rankOf, activationOf}
+use Rattle.book.proofs.Faultless.{kind-index, kind-of}
+use Rattle.bookings.proofs.Frame.{Frame, entry-index}
+
+-- an advance and a closing are entries
+pub advance-entry : (b : List ℕ) (j : ℕ) → isAdvance b j ≡ true → isEntry b j ≡ true
+unfolding isEntry
+advance-entry b j h = rw h
+
+pub closing-entry : (b : List ℕ) (j : ℕ) → isClosing b j ≡ true → isEntry b j ≡ true
+unfolding isEntry
+closing-entry b j h = by-value (isAdvance b j)
+  where
+    by-value : (t : Bool) → (t || isClosing b j) ≡ true
+    by-value true = refl
+    by-value false = h
+
+module _ (b b′ : List ℕ) (i : ℕ) (f : Frame b b′ i) where
+  pub kind-same : (k j : ℕ) → j < used b → hasKind b′ k j ≡ hasKind b k j
+  unfolding hasKind
+  kind-same k j hi = by-place (decLt 0 j)
+    where
+      by-place : Dec (0 < j) → ((ltb 0 j && ltb j (used b′)) && eqb (kindAt b′ j) k) ≡ ((ltb 0 j && ltb j (used b)) && eqb (kindAt b j) k)
+      by-place (yes lo) =
+          let hi′ : j < used b′ = omega (arith, f .grows) in
+          rw (lt-ltb 0 j lo, lt-ltb j (used b) hi, lt-ltb j (used b′) hi′, f .kind j lo hi)
+      by-place (no n) = rw (le-ltb 0 j (omega (arith, n)))
+
+  pub entry-same : (j : ℕ) → j < used b → isEntry b′ j ≡ isEntry b j
+  unfolding isEntry
+  entry-same j hi = ap₂ _||_ (kind-same advanceKind j hi) (kind-same closingKind j hi)
+
+  pub kind-stays : (k j : ℕ) → hasKind b k j ≡ true → hasKind b′ k j ≡ true
+  kind-stays k j h = kind-same k j (kind-index b k j h .1 .0) ∙ h
+
+  pub entry-stays : (j : ℕ) → isEntry b j ≡ true → isEntry b′ j ≡ true
+  entry-stays j h = entry-same j (entry-index b j h .1 .0) ∙ h
+
+  -- an entry keeps its owner and its year, a user its activation
+  pub owner-same : (j : ℕ) → isEntry b j ≡ true → ownerOf b′ j ≡ ownerOf b j
+  unfolding ownerOf
+  owner-same j h = ap (get ownerField) (f .entry j h)
+
+  pub rank-same : (j : ℕ) → isEntry b j ≡ true → rankOf b′ j ≡ rankOf b j
+  unfolding rankOf
+  rank-same j h = ap (get yearField) (f .entry j h)
+
+  pub activation-same : (j : ℕ) → isUser b j ≡ true → activationOf b′ j ≡ activationOf b j
+  unfolding activationOf accountIn
+  activation-same j h = ap (λ (d : Details). d .year) (f .details j h)

@@ -1,0 +1,14 @@
+pub mod Bools
+pub mod Ranges
+pub mod Runs
+pub mod Widths
+pub mod Records
+pub mod Good
+pub mod Written
+pub mod Frame
+pub mod KindsKept
+pub mod Numbers
+pub mod Sums
+pub mod Pointers
+pub mod Links
+pub mod PointersKept

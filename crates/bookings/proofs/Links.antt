@@ -1,0 +1,79 @@
+-- Each pointer of a good record is 0 or an index below u, so that nothing points to u or above it.
+use Prim.Native.Nat.{ℕ, _+_, _≤_, _<_}
+use mathlib.Core.Path.{_≡_, refl, sym, ap, _∙_}
+use mathlib.Core.Bool.{Bool, true, false, _&&_, _||_}
+use mathlib.Core.List.{List}
+use native.Mathlib.Decide.{decLt}
+use native.Mathlib.Omega.{arith}
+use borrow.Author.Tests.{eqb-true, ltb-true}
+use lib.Dec.{eqb, ltb}
+use Rattle.layout.specs.Fields.{recordAt, zeros, userKind, advanceKind, closingKind}
+use Rattle.units.proofs.Bools.{and-left, and-right}
+use Rattle.book.specs.Book.{used, firstUser, kindAt, isUser, isAdvance, isClosing, isEntry, nextOf, firstEntryOf, ownerOf, goodHead, userNextFits, firstEntryFits, entryNextFits, pointersFrom, pointersTo}
+use Rattle.book.proofs.Faultless.{Faultless, EntryLinks, kind-index, used-within}
+use Rattle.bookings.proofs.Bools.{or-cases}
+use Rattle.bookings.proofs.Frame.{entry-index}
+use Rattle.bookings.proofs.Sums.{sum-none}
+use Rattle.bookings.proofs.Pointers.{hits-other, from-head, from-user, from-advance, from-closing}
+
+module _ (b : List ℕ) (g : Faultless b) where
+  some-used : 1 ≤ used b
+  some-used = used-within b (g .used-fits) .0
+
+  -- a link to 0 or to a record below u
+  link-below : (p : ℕ) (t : Bool) → (eqb p 0 || t) ≡ true → (t ≡ true → p < used b) → p < used b
+  link-below p t h below = or-cases (eqb p 0) t h (λ e. omega (arith, eqb-true p 0 e, some-used)) below
+
+  pub first-user-below : firstUser b < used b
+  unfolding goodHead
+  first-user-below =
+      link-below (firstUser b) (isUser b (firstUser b)) (and-left (eqb (firstUser b) 0 || isUser b (firstUser b)) (zeros 8 72 (recordAt b 0)) (g .head))
+      (λ e. kind-index b userKind (firstUser b) e .1 .0)
+
+  pub user-next-below : (j : ℕ) → isUser b j ≡ true → nextOf b j < used b
+  unfolding userNextFits
+  user-next-below j h =
+      link-below (nextOf b j) (isUser b (nextOf b j) && ltb (nextOf b j) j) (g .user j h .next)
+      (λ e. kind-index b userKind (nextOf b j) (and-left (isUser b (nextOf b j)) (ltb (nextOf b j) j) e) .1 .0)
+
+  pub first-entry-below : (j : ℕ) → isUser b j ≡ true → firstEntryOf b j < used b
+  unfolding firstEntryFits
+  first-entry-below j h =
+      link-below (firstEntryOf b j) (isEntry b (firstEntryOf b j) && eqb (ownerOf b (firstEntryOf b j)) j) (g .user j h .first)
+      (λ e. entry-index b (firstEntryOf b j) (and-left (isEntry b (firstEntryOf b j)) (eqb (ownerOf b (firstEntryOf b j)) j) e) .1 .0)
+
+  entry-next-below : (j : ℕ) → EntryLinks b j → nextOf b j < used b
+  unfolding entryNextFits
+  entry-next-below j e =
+      link-below (nextOf b j) ((isEntry b (nextOf b j) && eqb (ownerOf b (nextOf b j)) (ownerOf b j)) && ltb (nextOf b j) j) (e .next)
+      (λ t.
+      entry-index b (nextOf b j)
+      (and-left (isEntry b (nextOf b j)) (eqb (ownerOf b (nextOf b j)) (ownerOf b j))
+      (and-left (isEntry b (nextOf b j) && eqb (ownerOf b (nextOf b j)) (ownerOf b j)) (ltb (nextOf b j) j) t)) .1 .0)
+
+  -- a record of one of the three kinds
+  pub by-kind : (P : Type 0) (j : ℕ) → 1 ≤ j → j < used b → (isUser b j ≡ true → P) → (isAdvance b j ≡ true → P) → (isClosing b j ≡ true → P) → P
+  unfolding isEntry
+  by-kind P j lo hi user advance closing =
+      or-cases (isUser b j) (isEntry b j) (g .known j lo hi) user (λ e. or-cases (isAdvance b j) (isClosing b j) e advance closing)
+
+  from-below : (k j : ℕ) → used b ≤ k → 1 ≤ j → j < used b → pointersFrom b k j ≡ 0
+  from-below k j above lo hi =
+      by-kind (pointersFrom b k j ≡ 0) j lo hi
+      (λ u.
+      let next = hits-other (nextOf b j) k (omega (arith, user-next-below j u)) in
+      let first = hits-other (firstEntryOf b j) k (omega (arith, first-entry-below j u)) in
+      omega (arith, from-user b k j lo (kind-index b userKind j u .1 .1)))
+      (λ a. from-advance b k j lo (kind-index b advanceKind j a .1 .1) ∙ hits-other (nextOf b j) k (omega (arith, entry-next-below j (g .advance j a .links))))
+      (λ c. from-closing b k j lo (kind-index b closingKind j c .1 .1) ∙ hits-other (nextOf b j) k (omega (arith, entry-next-below j (g .closing j c .links))))
+
+  -- nothing points to u or above it
+  pub none-points : (k : ℕ) → used b ≤ k → pointersTo b k ≡ 0
+  unfolding pointersTo
+  none-points k above = sum-none (used b) (pointersFrom b k) (λ j hi. by-place j hi (decLt 0 j))
+    where
+      by-place : (j : ℕ) → j < used b → Dec (0 < j) → pointersFrom b k j ≡ 0
+      by-place j hi (yes lo) = from-below k j above lo hi
+      by-place j hi (no n) =
+          let head : j ≡ 0 = omega (arith, n) in
+          rw head (from-head b k ∙ hits-other (firstUser b) k (omega (arith, first-user-below)))

@@ -1,0 +1,46 @@
+-- What points to a record before and after a booking: a new record is pointed to once, by what pointed to the front of its
+-- chain, and it points on to that; every other record is pointed to as before.
+use Prim.Native.Nat.{ℕ, _+_, _≤_, _<_}
+use mathlib.Core.Path.{_≡_, refl, sym, ap, subst, _∙_}
+use mathlib.Core.Bool.{Bool, true, false, cond, _&&_, _||_}
+use mathlib.Core.List.{List}
+use native.Mathlib.Decide.{decLt}
+use native.Mathlib.Omega.{arith}
+use borrow.Author.Tests.{eqb-true, eq-eqb, ne-eqb}
+use lib.Dec.{eqb}
+use Rattle.layout.specs.Fields.{recordAt, userKind, advanceKind, closingKind}
+use Rattle.units.specs.Folds.{sumBelow}
+use Rattle.units.proofs.Folds.{sum-cong}
+use Rattle.book.specs.Book.{used, firstUser, kindAt, isUser, isAdvance, isClosing, isEntry, nextOf, firstEntryOf, hits, pointersFrom, pointersTo, pointedOnce}
+use Rattle.book.proofs.Faultless.{Faultless, kind-index}
+use Rattle.bookings.proofs.Sums.{sum-none, sum-changed, sum-moved}
+
+pub hits-self : (k : ℕ) → hits k k ≡ 1
+unfolding hits
+hits-self k = rw (eq-eqb k k refl)
+
+pub hits-other : (p k : ℕ) → (p ≡ k → ⊥) → hits p k ≡ 0
+unfolding hits
+hits-other p k n = rw (ne-eqb p k n)
+
+-- what the head, a user and an entry point to
+pub from-head : (b : List ℕ) (k : ℕ) → pointersFrom b k 0 ≡ hits (firstUser b) k
+unfolding pointersFrom
+from-head b k = refl
+
+pub from-user : (b : List ℕ) (k j : ℕ) → 1 ≤ j → kindAt b j ≡ userKind → pointersFrom b k j ≡ hits (nextOf b j) k + hits (firstEntryOf b j) k
+unfolding pointersFrom
+from-user b k j lo e = rw (ne-eqb j 0 (omega arith), e)
+
+pub from-advance : (b : List ℕ) (k j : ℕ) → 1 ≤ j → kindAt b j ≡ advanceKind → pointersFrom b k j ≡ hits (nextOf b j) k
+unfolding pointersFrom
+from-advance b k j lo e = rw (ne-eqb j 0 (omega arith), e)
+
+pub from-closing : (b : List ℕ) (k j : ℕ) → 1 ≤ j → kindAt b j ≡ closingKind → pointersFrom b k j ≡ hits (nextOf b j) k
+unfolding pointersFrom
+from-closing b k j lo e = rw (ne-eqb j 0 (omega arith), e)
+
+-- the same record points to the same
+pub from-same : (b b′ : List ℕ) (k j : ℕ) → 1 ≤ j → recordAt b′ j ≡ recordAt b j → pointersFrom b′ k j ≡ pointersFrom b k j
+unfolding pointersFrom kindAt nextOf firstEntryOf
+from-same b b′ k j lo e = rw (ne-eqb j 0 (omega arith), e)

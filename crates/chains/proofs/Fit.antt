@@ -1,0 +1,114 @@
+-- "the sums of a sound book's statement fit 64 bits" (document 01, "Book")
+use Prim.Native.Nat.{ℕ, _+_, _*_, _%_, _^_, _≤_, _<_}
+use mathlib.Core.Path.{_≡_, refl}
+use mathlib.Core.Bool.{Bool, true, false, _&&_}
+use mathlib.Core.Logic.{⊎-elim}
+use mathlib.Core.List.{List}
+use native.Mathlib.Nat.{mul-add, mul-le-mul-left}
+use native.Mathlib.Omega.{arith}
+use lib.Dec.{leb, eqb, ltb}
+use lib.IntN.{natAbs}
+use lib.ListN.{length}
+use borrow.Author.Tests.{leb-true}
+use Rattle.units.specs.Limits.{maxYearTicks, maxFlatRate, maxContribution}
+use Rattle.units.proofs.Bools.{and-left, and-right}
+use Rattle.layout.specs.Fields.{recordAt, recordLength, capacity, advanceKind, closingKind}
+use Rattle.records.specs.declared.ClosingRecord.{ClosingRecord}
+use Rattle.records.specs.Records.{accountIn, advanceIn, closingIn}
+use Rattle.book.specs.Book.{lengthFits, used, isUser, isAdvance, isClosing, nextOf, firstEntryOf, activationOf, openYearOf, accountAt}
+use Rattle.book.proofs.Faultless.{Faultless, used-within}
+use Rattle.ledger.specs.Ledger.{Statement}
+use Rattle.chains.specs.Chains.{entriesOf}
+use Rattle.chains.specs.Statements.{closingPart, advancePart, balancePart, sumOver, sumOverℤ, statementAt}
+use Rattle.chains.proofs.Chain.{chain-from-length}
+use Rattle.chains.proofs.Links.{Owned, kinds-apart, entry-index, first-entry}
+use Rattle.chains.proofs.Entries.{entries-only}
+use Rattle.chains.proofs.Order.{chain-ordered}
+use Rattle.chains.proofs.Sums.{sum-at-most, closings-at-most, size-of-sum}
+use Rattle.chains.proofs.Ranges.{mostYears, ClosingRanges, user-years, credit-range, closing-ranges, advance-range}
+
+-- the records of a book of the greatest length
+abbrev pub mostRecords : ℕ
+mostRecords = 800
+
+few-records : (b : List ℕ) → lengthFits b ≡ true → capacity b ≤ mostRecords
+unfolding lengthFits
+few-records b h =
+    let range = leb 160 (length b) && leb (length b) 64000 in
+    let l = leb-true (length b) 64000 (and-right (leb 160 (length b)) (leb (length b) 64000) (and-left range (eqb (length b % recordLength) 0) h)) in
+    omega arith
+
+module _ (b : List ℕ) (f : Faultless b) (i : ℕ) (u : isUser b i ≡ true) where
+  -- A sum over the closings has at most one term for each closed year.
+  module _ (g : ℕ → ℕ) (cap : ℕ) (at-closing : (e : ℕ) → isClosing b e ≡ true → g e ≤ cap) (at-advance : (e : ℕ) → isAdvance b e ≡ true → g e ≡ 0) where
+    closings-sum : sumOver g (entriesOf b i) ≤ cap * mostYears
+    unfolding accountIn activationOf openYearOf
+    closings-sum =
+        let years = user-years b f i u in
+        let a = activationOf b i in
+        let whole = closings-at-most b a g cap at-closing at-advance (chain-ordered b f i u) in
+        let span : openYearOf b i ≤ a + mostYears = omega (arith, years .activation, years .latest) in
+        omega (arith, mul-le-mul-left cap span, mul-add cap a mostYears, whole)
+
+  closing-sum : (g : ClosingRecord → ℕ) (cap : ℕ) → ((c : ClosingRecord) → ClosingRanges c → g c ≤ cap) → sumOver (closingPart g b) (entriesOf b i) ≤ cap * mostYears
+  unfolding closingPart
+  closing-sum g cap h =
+      closings-sum (closingPart g b) cap (λ e c. rw c (h (closingIn (recordAt b e)) (closing-ranges b f e c)))
+      (λ e a. rw (kinds-apart b advanceKind closingKind e (λ p. omega arith) a))
+
+  balance-sum : natAbs (sumOverℤ (balancePart b) (entriesOf b i)) ≤ maxContribution * mostYears
+  unfolding balancePart
+  balance-sum =
+      let sizes = closings-sum (λ e. natAbs (balancePart b e)) maxContribution (λ e c. rw c (closing-ranges b f e c .balance))
+      (λ e a. rw (kinds-apart b advanceKind closingKind e (λ p. omega arith) a)) in
+      omega (arith, size-of-sum (balancePart b) (entriesOf b i))
+
+  -- A sum over the advances has at most a term for each record.
+  entries-few : length (entriesOf b i) ≤ used b
+  unfolding entriesOf
+  entries-few =
+      ⊎-elim (λ (e : firstEntryOf b i ≡ 0). omega (arith, chain-from-length (nextOf b) (firstEntryOf b i)))
+      (λ (o : Owned b i (firstEntryOf b i)). omega (arith, chain-from-length (nextOf b) (firstEntryOf b i), entry-index b (firstEntryOf b i) (o .entry)))
+      (first-entry b f i u)
+
+  advance-term : (p : ℕ → Bool) (e : ℕ) → advancePart p b e ≤ maxYearTicks
+  unfolding advancePart
+  advance-term p e = by-test (isAdvance b e && p (advanceIn (recordAt b e) .year)) refl
+    where
+      by-test : (t : Bool) → (isAdvance b e && p (advanceIn (recordAt b e) .year)) ≡ t → advancePart p b e ≤ maxYearTicks
+      by-test true q = rw q (advance-range b f e (and-left (isAdvance b e) (p (advanceIn (recordAt b e) .year)) q))
+      by-test false q = rw q (omega arith)
+
+  advance-sum : lengthFits b ≡ true → (p : ℕ → Bool) → sumOver (advancePart p b) (entriesOf b i) ≤ maxYearTicks * mostRecords
+  advance-sum l p =
+      let sum = sum-at-most (Owned b i) (advancePart p b) maxYearTicks (λ e o. advance-term p e) (entriesOf b i) (entries-only b f i u) in
+      omega (arith, sum, entries-few, used-within b (f .used-fits), few-records b l)
+
+-- each sum but the balance's is below 2^63, and that lies from −2^62 to 2^62
+pub record SumsFit (s : Statement) : Type 0 where
+  pub credit : s .credit < 2 ^ 63
+  pub value : s .value < 2 ^ 63
+  pub cost : s .cost < 2 ^ 63
+  pub flatRate : s .flatRate < 2 ^ 63
+  pub contribution : s .contribution < 2 ^ 63
+  pub liquidation : s .liquidation < 2 ^ 63
+  pub lapsed : s .lapsed < 2 ^ 63
+  pub balance : natAbs (s .balance) ≤ 2 ^ 62
+  pub advances : s .advances < 2 ^ 63
+  pub closedAdvances : s .closedAdvances < 2 ^ 63
+
+pub sums-fit : (b : List ℕ) → Faultless b → lengthFits b ≡ true → (i : ℕ) → isUser b i ≡ true → SumsFit (statementAt b i)
+unfolding statementAt
+sums-fit b f l i u =
+    record {
+      credit = omega (arith, credit-range b f i u);
+      value = omega (arith, closing-sum b f i u (λ c. c .value .0) maxYearTicks (λ c r. r .value));
+      cost = omega (arith, closing-sum b f i u (λ c. c .cost .0) maxYearTicks (λ c r. r .cost));
+      flatRate = omega (arith, closing-sum b f i u (λ c. c .«flat_rate» .0) maxFlatRate (λ c r. r .flatRate));
+      contribution = omega (arith, closing-sum b f i u (λ c. c .contribution .0) maxContribution (λ c r. r .contribution));
+      liquidation = omega (arith, closing-sum b f i u (λ c. c .liquidation .0) maxYearTicks (λ c r. r .liquidation));
+      lapsed = omega (arith, closing-sum b f i u (λ c. c .lapsed .0) (maxYearTicks * mostYears) (λ c r. r .lapsed));
+      balance = omega (arith, balance-sum b f i u);
+      advances = omega (arith, advance-sum b f i u l (λ y. true));
+      closedAdvances = omega (arith, advance-sum b f i u l (λ y. ltb y (accountAt b i .«open_year»)));
+    }

@@ -1,0 +1,10 @@
+pub mod Lists
+pub mod Chain
+pub mod Links
+pub mod Pointers
+pub mod Users
+pub mod Entries
+pub mod Order
+pub mod Sums
+pub mod Ranges
+pub mod Fit

@@ -1,0 +1,111 @@
+-- The links of a sound book, as facts: where the head, a user and an entry point to.
+use Prim.Native.Nat.{ℕ, _≤_, _<_}
+use mathlib.Core.Path.{_≡_, refl, sym, _∙_}
+use mathlib.Core.Bool.{Bool, true, false, _&&_, _||_, or-true}
+use mathlib.Core.Logic.{_⊎_, inl, inr, ⊎-elim, ⊎-map}
+use mathlib.Core.List.{List}
+use native.Mathlib.Omega.{arith}
+use lib.Dec.{eqb, ltb}
+use borrow.Author.Tests.{eqb-true, ltb-true}
+use Rattle.units.proofs.Bools.{and-left, and-right}
+use Rattle.layout.specs.Fields.{zeros, recordAt, userKind, advanceKind, closingKind}
+use Rattle.book.specs.Book.{used, firstUser, hasKind, isUser, isAdvance, isClosing, isEntry, ownerOf, nextOf, firstEntryOf, userNextFits, firstEntryFits, entryNextFits, ownerFits, goodHead}
+use Rattle.book.proofs.Faultless.{Faultless, EntryLinks, kind-index}
+use Rattle.chains.proofs.Chain.{Falls}
+
+pub or-cases : (a b : Bool) → (a || b) ≡ true → (a ≡ true) ⊎ (b ≡ true)
+or-cases true b e = inl refl
+or-cases false b e = inr e
+
+-- an entry of the user at index i
+pub record Owned (b : List ℕ) (i e : ℕ) : Type 0 where
+  pub entry : isEntry b e ≡ true
+  pub owner : ownerOf b e ≡ i
+
+module _ (b : List ℕ) where
+  pub user-index : (i : ℕ) → isUser b i ≡ true → (1 ≤ i) × (i < used b)
+  user-index i u = let p = kind-index b userKind i u in (p .0, p .1 .0)
+
+  pub kinds-apart : (k l e : ℕ) → (k ≡ l → ⊥) → hasKind b k e ≡ true → hasKind b l e ≡ false
+  kinds-apart k l e apart h = by-value (hasKind b l e) refl
+    where
+      by-value : (t : Bool) → hasKind b l e ≡ t → hasKind b l e ≡ false
+      by-value true q = absurd (apart (sym (kind-index b k e h .1 .1) ∙ kind-index b l e q .1 .1))
+      by-value false q = q
+
+  pub entry-kind : (e : ℕ) → isEntry b e ≡ true → (isAdvance b e ≡ true) ⊎ (isClosing b e ≡ true)
+  unfolding isEntry
+  entry-kind e h = or-cases (isAdvance b e) (isClosing b e) h
+
+  pub advance-entry : (e : ℕ) → isAdvance b e ≡ true → isEntry b e ≡ true
+  unfolding isEntry
+  advance-entry e a = rw a
+
+  pub closing-entry : (e : ℕ) → isClosing b e ≡ true → isEntry b e ≡ true
+  unfolding isEntry
+  closing-entry e c = rw (c, or-true)
+
+  pub entry-index : (e : ℕ) → isEntry b e ≡ true → (1 ≤ e) × (e < used b)
+  entry-index e h =
+      ⊎-elim (λ (a : isAdvance b e ≡ true). let p = kind-index b advanceKind e a in (p .0, p .1 .0))
+      (λ (c : isClosing b e ≡ true). let p = kind-index b closingKind e c in (p .0, p .1 .0)) (entry-kind e h)
+
+  pub user-no-entry : (i : ℕ) → isUser b i ≡ true → isEntry b i ≡ true → ⊥
+  user-no-entry i u h =
+      ⊎-elim (λ (a : isAdvance b i ≡ true). omega (arith, kind-index b userKind i u, kind-index b advanceKind i a))
+      (λ (c : isClosing b i ≡ true). omega (arith, kind-index b userKind i u, kind-index b closingKind i c)) (entry-kind i h)
+
+module _ (b : List ℕ) (f : Faultless b) where
+  -- "its first user is neither 0 nor a user below u"
+  pub first-user : (firstUser b ≡ 0) ⊎ (isUser b (firstUser b) ≡ true)
+  unfolding goodHead
+  first-user =
+      ⊎-map (eqb-true (firstUser b) 0) (λ u. u)
+      (or-cases (eqb (firstUser b) 0) (isUser b (firstUser b)) (and-left (eqb (firstUser b) 0 || isUser b (firstUser b)) (zeros 8 72 (recordAt b 0)) (f .head)))
+
+  -- "A user's next is 0 or a user with a smaller index"
+  pub user-next : (i : ℕ) → isUser b i ≡ true → (nextOf b i ≡ 0) ⊎ ((isUser b (nextOf b i) ≡ true) × (nextOf b i < i))
+  unfolding userNextFits
+  user-next i u =
+      ⊎-map (eqb-true (nextOf b i) 0)
+      (λ h. (and-left (isUser b (nextOf b i)) (ltb (nextOf b i) i) h, ltb-true (nextOf b i) i (and-right (isUser b (nextOf b i)) (ltb (nextOf b i) i) h)))
+      (or-cases (eqb (nextOf b i) 0) (isUser b (nextOf b i) && ltb (nextOf b i) i) (f .user i u .next))
+
+  -- "its first entry is 0 or an entry it owns"
+  pub first-entry : (i : ℕ) → isUser b i ≡ true → (firstEntryOf b i ≡ 0) ⊎ Owned b i (firstEntryOf b i)
+  unfolding firstEntryFits
+  first-entry i u =
+      let e = firstEntryOf b i in
+      ⊎-map (eqb-true e 0)
+      (λ h. record { entry = and-left (isEntry b e) (eqb (ownerOf b e) i) h; owner = eqb-true (ownerOf b e) i (and-right (isEntry b e) (eqb (ownerOf b e) i) h) })
+      (or-cases (eqb e 0) (isEntry b e && eqb (ownerOf b e) i) (f .user i u .first))
+
+  pub entry-links : (e : ℕ) → isEntry b e ≡ true → EntryLinks b e
+  entry-links e h =
+      ⊎-elim (λ (a : isAdvance b e ≡ true). f .advance e a .links) (λ (c : isClosing b e ≡ true). f .closing e c .links) (entry-kind b e h)
+
+  -- "An entry's next is 0 or an entry of the same owner with a smaller index"
+  pub entry-next : (e : ℕ) → isEntry b e ≡ true → (nextOf b e ≡ 0) ⊎ (Owned b (ownerOf b e) (nextOf b e) × (nextOf b e < e))
+  unfolding entryNextFits
+  entry-next e h =
+      let n = nextOf b e in
+      let owned = isEntry b n && eqb (ownerOf b n) (ownerOf b e) in
+      ⊎-map (eqb-true n 0)
+      (λ t. let o = and-left owned (ltb n e) t in
+      (record { entry = and-left (isEntry b n) (eqb (ownerOf b n) (ownerOf b e)) o; owner = eqb-true (ownerOf b n) (ownerOf b e) (and-right (isEntry b n) (eqb (ownerOf b n) (ownerOf b e)) o) }, ltb-true n e (and-right owned (ltb n e) t)))
+      (or-cases (eqb n 0) (owned && ltb n e) (entry-links e h .next))
+
+  -- "its owner is a user with a smaller index"
+  pub entry-owner : (e : ℕ) → isEntry b e ≡ true → (isUser b (ownerOf b e) ≡ true) × (ownerOf b e < e)
+  unfolding ownerFits
+  entry-owner e h =
+      let t = entry-links e h .owner in
+      (and-left (isUser b (ownerOf b e)) (ltb (ownerOf b e) e) t, ltb-true (ownerOf b e) e (and-right (isUser b (ownerOf b e)) (ltb (ownerOf b e) e) t))
+
+  -- the same as steps of a chain
+  pub users-fall : Falls (λ i. isUser b i ≡ true) (nextOf b)
+  users-fall = user-next
+
+  pub entries-fall : (i : ℕ) → Falls (Owned b i) (nextOf b)
+  entries-fall i e o =
+      ⊎-map (λ z. z) (λ p. (record { entry = p .0 .entry; owner = p .0 .owner ∙ o .owner }, p .1)) (entry-next e (o .entry))

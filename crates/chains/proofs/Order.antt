@@ -1,0 +1,99 @@
+-- The order of years along a chain: advances of a year, then the closing of the year before it, down to the activation year.
+use Prim.Native.Nat.{ℕ, _+_, _≤_, _<_}
+use mathlib.Core.Path.{_≡_, sym, _∙_, subst}
+use mathlib.Core.Bool.{true, cond, _&&_, _||_, true≢false}
+use mathlib.Core.Logic.{_⊎_, inl, inr, ⊎-elim}
+use mathlib.Core.List.{List, [], _∷_}
+use native.Mathlib.Omega.{arith}
+use lib.Dec.{eqb}
+use borrow.Author.Tests.{eqb-true, ne-eqb}
+use Rattle.units.proofs.Bools.{and-left, and-right}
+use Rattle.layout.specs.Fields.{advanceKind, closingKind}
+use Rattle.book.specs.Book.{isUser, isAdvance, isClosing, nextOf, firstEntryOf, rankOf, inOrder, activationOf, openYearOf, firstInOrder, nextInOrder}
+use Rattle.book.proofs.Faultless.{Faultless}
+use Rattle.chains.specs.Chains.{chainFrom, entriesOf}
+use Rattle.chains.specs.Statements.{sumOver}
+use Rattle.chains.proofs.Lists.{All, all-map}
+use Rattle.chains.proofs.Chain.{chain-induction}
+use Rattle.chains.proofs.Links.{Owned, or-cases, kinds-apart, entry-index, first-entry, entry-links, entries-fall}
+
+-- what may stand where entries of year y follow, with all that stands behind it
+pub data Ordered (b : List ℕ) (activation : ℕ) : ℕ → List ℕ → Type 0 where
+  nothing : {y : ℕ} → y ≡ activation → Ordered b activation y []
+  advance : {y e : ℕ} {es : List ℕ} → isAdvance b e ≡ true → rankOf b e ≡ y → Ordered b activation (rankOf b e) es → Ordered b activation y (e ∷ es)
+  closing : {y e : ℕ} {es : List ℕ} → isClosing b e ≡ true → rankOf b e + 1 ≡ y → Ordered b activation (rankOf b e) es → Ordered b activation y (e ∷ es)
+
+-- one for a closing
+unfoldable pub closingCount : List ℕ → ℕ → ℕ
+closingCount b e = cond (isClosing b e) 1 0
+
+in-order-end : (b : List ℕ) (activation y : ℕ) → inOrder b activation y 0 ≡ true → y ≡ activation
+unfolding inOrder
+in-order-end b activation y h = eqb-true y activation h
+
+in-order-entry : (b : List ℕ) (activation y e : ℕ) → 1 ≤ e → inOrder b activation y e ≡ true
+    → ((isAdvance b e ≡ true) × (rankOf b e ≡ y)) ⊎ ((isClosing b e ≡ true) × (rankOf b e + 1 ≡ y))
+unfolding inOrder
+in-order-entry b activation y e lo h =
+    let apart : e ≡ 0 → ⊥ = omega arith in
+    let a = isAdvance b e && eqb (rankOf b e) y in
+    let c = isClosing b e && eqb (rankOf b e + 1) y in
+    let t : (a || c) ≡ true = rw (ne-eqb e 0 apart) at h in
+    ⊎-elim (λ (p : a ≡ true). inl (and-left (isAdvance b e) (eqb (rankOf b e) y) p, eqb-true (rankOf b e) y (and-right (isAdvance b e) (eqb (rankOf b e) y) p)))
+    (λ (p : c ≡ true). inr (and-left (isClosing b e) (eqb (rankOf b e + 1) y) p, eqb-true (rankOf b e + 1) y (and-right (isClosing b e) (eqb (rankOf b e + 1) y) p)))
+    (or-cases a c t)
+
+module _ (b : List ℕ) (f : Faultless b) (i : ℕ) where
+  -- "After an entry of year y stands an advance of y, or the closing of y − 1, or 0 if y is the activation year."
+  next-in-order : (e : ℕ) → Owned b i e → inOrder b (activationOf b i) (rankOf b e) (nextOf b e) ≡ true
+  unfolding nextInOrder
+  next-in-order e o =
+      subst (λ k. inOrder b (activationOf b k) (rankOf b e) (nextOf b e) ≡ true) (o .owner) (entry-links b f e (o .entry) .order)
+
+  link-ordered : (e : ℕ) (es : List ℕ) → Owned b i e → ((y : ℕ) → inOrder b (activationOf b i) y (nextOf b e) ≡ true → Ordered b (activationOf b i) y es)
+      → (y : ℕ) → inOrder b (activationOf b i) y e ≡ true → Ordered b (activationOf b i) y (e ∷ es)
+  link-ordered e es o tail y h =
+      let behind = tail (rankOf b e) (next-in-order e o) in
+      ⊎-elim (λ (p : (isAdvance b e ≡ true) × (rankOf b e ≡ y)). advance (p .0) (p .1) behind)
+      (λ (p : (isClosing b e ≡ true) × (rankOf b e + 1 ≡ y)). closing (p .0) (p .1) behind)
+      (in-order-entry b (activationOf b i) y e (entry-index b e (o .entry) .0) h)
+
+  -- "A user's first entry is an advance of the open year or the closing of the year before, or 0 if no year is closed."
+  pub chain-ordered : isUser b i ≡ true → Ordered b (activationOf b i) (openYearOf b i) (entriesOf b i)
+  unfolding entriesOf firstInOrder
+  chain-ordered u =
+      chain-induction (Owned b i) (nextOf b) (entries-fall b f i)
+      (λ e es. (y : ℕ) → inOrder b (activationOf b i) y e ≡ true → Ordered b (activationOf b i) y es)
+      (λ y h. nothing (in-order-end b (activationOf b i) y h)) (λ e o tail. link-ordered e (chainFrom (nextOf b) (nextOf b e)) o tail)
+      (firstEntryOf b i) (first-entry b f i u) (openYearOf b i) (f .user i u .order)
+
+module _ (b : List ℕ) (activation : ℕ) where
+  pub activation-first : {y : ℕ} {es : List ℕ} → Ordered b activation y es → activation ≤ y
+  activation-first (nothing e) = omega arith
+  activation-first (advance a e o) = let t = activation-first o in omega arith
+  activation-first (closing c e o) = let t = activation-first o in omega arith
+
+  -- no entry is of a later year than may stand there, and a closing is of an earlier one: years of closings fall
+  pub years-within : {y : ℕ} {es : List ℕ} → Ordered b activation y es → All (λ e. (activation ≤ rankOf b e) × (rankOf b e ≤ y)) es
+  years-within (nothing e) = tt
+  years-within {y} (advance {e = k} {es = es} a e o) =
+      let first = activation-first o in
+      ((omega arith, omega arith), all-map (λ j. (activation ≤ rankOf b j) × (rankOf b j ≤ rankOf b k)) (λ j. (activation ≤ rankOf b j) × (rankOf b j ≤ y)) es (λ j t. omega arith) (years-within o))
+  years-within {y} (closing {e = k} {es = es} c e o) =
+      let first = activation-first o in
+      ((omega arith, omega arith), all-map (λ j. (activation ≤ rankOf b j) × (rankOf b j ≤ rankOf b k)) (λ j. (activation ≤ rankOf b j) × (rankOf b j ≤ y)) es (λ j t. omega arith) (years-within o))
+
+  pub closings-below : {y : ℕ} {es : List ℕ} → Ordered b activation y es → All (λ e. isClosing b e ≡ true → rankOf b e < y) es
+  closings-below (nothing e) = tt
+  closings-below {y} (advance {e = k} {es = es} a e o) =
+      (λ c. absurd (true≢false (sym c ∙ kinds-apart b advanceKind closingKind k (λ p. omega arith) a)), all-map (λ j. isClosing b j ≡ true → rankOf b j < rankOf b k) (λ j. isClosing b j ≡ true → rankOf b j < y) es (λ j h c. let t = h c in omega arith) (closings-below o))
+  closings-below {y} (closing {e = k} {es = es} c e o) =
+      (λ p. omega arith, all-map (λ j. isClosing b j ≡ true → rankOf b j < rankOf b k) (λ j. isClosing b j ≡ true → rankOf b j < y) es (λ j h p. let t = h p in omega arith) (closings-below o))
+
+  -- a closing for every closed year
+  pub closings-counted : {y : ℕ} {es : List ℕ} → Ordered b activation y es → activation + sumOver (closingCount b) es ≡ y
+  unfolding sumOver closingCount
+  closings-counted (nothing e) = omega arith
+  closings-counted (advance {e = k} a e o) =
+      let t = closings-counted o in rw (kinds-apart b advanceKind closingKind k (λ p. omega arith) a) (omega arith)
+  closings-counted (closing {e = k} c e o) = let t = closings-counted o in rw c (omega arith)

@@ -1,0 +1,67 @@
+-- Sums over the entries of a chain: equal terms, and bounds from a bound on each term.
+use Prim.Native.Nat.{ℕ, suc, _+_, _*_, _≤_}
+use mathlib.Core.Path.{_≡_, refl, ap₂}
+use mathlib.Core.Bool.{Bool, true, false}
+use mathlib.Core.List.{List, [], _∷_}
+use native.Mathlib.Nat.{mul-suc}
+use native.Mathlib.Numerals.{add-one}
+use native.Mathlib.Omega.{arith}
+use lib.Dec.{ltb}
+use lib.IntN.{ℤ, pos, negsuc, natAbs, subℕ, _+ℤ_}
+use lib.ListN.{length}
+use borrow.Author.Tests.{ltb-true}
+use Rattle.book.specs.Book.{isAdvance, isClosing, rankOf}
+use Rattle.chains.specs.Statements.{sumOver, sumOverℤ}
+use Rattle.chains.proofs.Lists.{All}
+use Rattle.chains.proofs.Order.{Ordered, nothing, advance, closing}
+
+-- terms that agree on the members have equal sums
+pub sum-same : (P : ℕ → Type 0) (f g : ℕ → ℕ) → ((e : ℕ) → P e → f e ≡ g e) → (es : List ℕ) → All P es → sumOver f es ≡ sumOver g es
+unfolding sumOver
+sum-same P f g equal [] a = refl
+sum-same P f g equal (e ∷ es) a = ap₂ _+_ (equal e (a .0)) (sum-same P f g equal es (a .1))
+
+pub sumℤ-same : (P : ℕ → Type 0) (f g : ℕ → ℤ) → ((e : ℕ) → P e → f e ≡ g e) → (es : List ℕ) → All P es → sumOverℤ f es ≡ sumOverℤ g es
+unfolding sumOverℤ
+sumℤ-same P f g equal [] a = refl
+sumℤ-same P f g equal (e ∷ es) a = ap₂ _+ℤ_ (equal e (a .0)) (sumℤ-same P f g equal es (a .1))
+
+-- terms of at most `cap` each
+pub sum-at-most : (P : ℕ → Type 0) (f : ℕ → ℕ) (cap : ℕ) → ((e : ℕ) → P e → f e ≤ cap) → (es : List ℕ) → All P es → sumOver f es ≤ cap * length es
+unfolding sumOver
+sum-at-most P f cap h [] a = omega arith
+sum-at-most P f cap h (e ∷ es) a =
+    let first = h e (a .0) in
+    let rest = sum-at-most P f cap h es (a .1) in
+    omega (arith, mul-suc cap (length es))
+
+-- terms of at most `cap` for each closing, and nothing for an advance: at most `cap` for each closed year
+pub closings-at-most : (b : List ℕ) (activation : ℕ) (f : ℕ → ℕ) (cap : ℕ) → ((e : ℕ) → isClosing b e ≡ true → f e ≤ cap) → ((e : ℕ) → isAdvance b e ≡ true → f e ≡ 0)
+    → {y : ℕ} {es : List ℕ} → Ordered b activation y es → sumOver f es + cap * activation ≤ cap * y
+unfolding sumOver
+closings-at-most b activation f cap hc ha (nothing e) = rw e (omega arith)
+closings-at-most b activation f cap hc ha (advance {e = k} a e o) =
+    let rest = closings-at-most b activation f cap hc ha o in
+    rw (← e) (omega (arith, ha k a))
+closings-at-most b activation f cap hc ha (closing {e = k} c e o) =
+    let rest = closings-at-most b activation f cap hc ha o in
+    rw (← e, add-one) (omega (arith, hc k c, mul-suc cap (rankOf b k)))
+
+-- a signed sum is at most the sum of the sizes
+size-difference : (a b : ℕ) → natAbs (subℕ a b) ≤ a + b
+size-difference a b = by-test (ltb a b) refl
+  where
+    by-test : (t : Bool) → ltb a b ≡ t → natAbs (subℕ a b) ≤ a + b
+    by-test true e = let l = ltb-true a b e in rw e (omega arith)
+    by-test false e = rw e (omega arith)
+
+size-sum : (x y : ℤ) → natAbs (x +ℤ y) ≤ natAbs x + natAbs y
+size-sum (pos a) (pos b) = omega arith
+size-sum (pos a) (negsuc b) = size-difference a (suc b)
+size-sum (negsuc a) (pos b) = omega (arith, size-difference b (suc a))
+size-sum (negsuc a) (negsuc b) = omega arith
+
+pub size-of-sum : (f : ℕ → ℤ) (es : List ℕ) → natAbs (sumOverℤ f es) ≤ sumOver (λ e. natAbs (f e)) es
+unfolding sumOver sumOverℤ
+size-of-sum f [] = omega arith
+size-of-sum f (e ∷ es) = let rest = size-of-sum f es in omega (arith, size-sum (f e) (sumOverℤ f es))
