@@ -40,7 +40,7 @@ advance-before year paid as′ = record { year = year; ticks = paid } ∷ as′
 abbrev item-before : Item → List Item → List Item
 item-before x xs = x ∷ xs
 
-abbrev contribution : Account → List ℕ → ℕ
+abbrev pub contribution : Account → List ℕ → ℕ
 contribution x s = contributionOf (x .option) (x .credit .0) (sheetValue (x .details) s) (costOf s) (sheetFlatRate (x .details) s)
 
 -- a closing entry, as an item worked from the account
