@@ -5,3 +5,5 @@ pub mod Found
 pub mod Effects
 pub mod States
 pub mod CallSteps
+pub mod OneCall
+pub mod Lists

@@ -7,10 +7,15 @@ use mathlib.Core.Bool.{Bool, true, false, cond, _&&_}
 use mathlib.Core.List.{List, [], _∷_}
 use mathlib.Core.Option.{Option, none, some}
 use lib.Dec.{eqb}
+use lib.IntN.{pos}
 use lib.ListN.{getD}
 use Rattle.sheet.specs.YearSheet.{sheetUser}
 use Rattle.values.specs.declared.Details.{Details}
-use Rattle.ledger.specs.Ledger.{Ledger, enrolled, elected, advanced, closed, sheetValue}
+use Rattle.ledger.specs.Ledger.{Item, Ledger, enrolled, elected, advanced, closed, sheetValue, statementOf}
+use Rattle.ledger.specs.Accounting.{conserved, Standing, lapsedOver, Consecutive}
+use Rattle.chains.specs.Statements.{statementAt}
+use Rattle.calls.specs.Bookings.{findUser}
+use Rattle.calls.specs.Refusals.{statementRefusal}
 use Rattle.calls.specs.Calls.{Call, enrol, elect, advance, close, statement, refusalOf, bookAfter}
 
 -- the book after a list of calls
@@ -50,16 +55,16 @@ ledgerAfter number b [] l = l
 ledgerAfter number b (c ∷ cs) l = ledgerAfter number (bookAfter b c) cs (fed number b c l)
 
 -- "the value of all injected energy in the sheets accepted": C by sheet and enrolled details, over the accepted closings
+unfoldable pub valueBy : Details → Call → ℕ
+valueBy d (enrol n e o) = 0
+valueBy d (elect n o y m e) = 0
+valueBy d (advance n y r p e₁ e₂) = 0
+valueBy d (close s) = sheetValue d s
+valueBy d (statement n) = 0
+
 unfoldable pub valueIn : ℕ → Details → List ℕ → List Call → ℕ
 valueIn number d b [] = 0
-valueIn number d b (c ∷ cs) = cond (isAccepted number b c) (valueBy c) 0 + valueIn number d (bookAfter b c) cs
-  where
-    valueBy : Call → ℕ
-    valueBy (enrol n e o) = 0
-    valueBy (elect n o y m e) = 0
-    valueBy (advance n y r p e₁ e₂) = 0
-    valueBy (close s) = sheetValue d s
-    valueBy (statement n) = 0
+valueIn number d b (c ∷ cs) = cond (isAccepted number b c) (valueBy d c) 0 + valueIn number d (bookAfter b c) cs
 
 -- arguments as the interface's types hold them
 unfoldable pub Typed : Call → Type 0
@@ -73,3 +78,23 @@ Typed (statement n) = n < 2 ^ 32
 unfoldable pub AllTyped : List Call → Type 0
 AllTyped [] = Unit {0}
 AllTyped (c ∷ cs) = Typed c × AllTyped cs
+
+-- THE DEMAND, of the book b, a list of calls, a number and the ledger fed by the list
+pub record Demand (b : List ℕ) (cs : List Call) (number : ℕ) (l : Ledger) : Type 0 where
+  -- "the statement of each user it enrolled answers exactly what the ledger of document 01 gives from the accepted calls"
+  pub answered : statementRefusal (bookAfterAll b cs) number ≡ 0
+  pub statement : statementAt (bookAfterAll b cs) (findUser (bookAfterAll b cs) number) ≡ statementOf l
+  -- "advances of closed years plus balances, less flat-rate parts, plus liquidations, plus lapsed credit, plus standing
+  -- credit equals the value of all injected energy in the sheets accepted for the closed years"
+  pub conservedSum : conserved (statementOf l) ≡ pos (valueIn number (l .details) b cs)
+  -- "Standing credit is the largest total of value less purchase cost over an unbroken run of years ending with the last
+  -- closed one and holding no liquidation year, or zero if no such total is above it."
+  pub standingCredit : Standing (l .items) (l .credit)
+  pub years : Consecutive (l .details .year) (l .items)
+  -- "Lapsed credit is the sum, over the liquidation years, of that same figure one year earlier."
+  pub lapsedCredit : (figure : List Item → ℕ) → ((is : List Item) → Standing is (figure is)) → statementOf l .lapsed ≡ lapsedOver figure (l .items)
+
+-- no call of the list meets a refusal 1 or 2
+unfoldable pub NeverDamaged : List ℕ → List Call → Type 0
+NeverDamaged b [] = Unit {0}
+NeverDamaged b (c ∷ cs) = (refusalOf b c ≡ 1 → ⊥) × (refusalOf b c ≡ 2 → ⊥) × NeverDamaged (bookAfter b c) cs
