@@ -7,3 +7,4 @@ pub mod States
 pub mod CallSteps
 pub mod OneCall
 pub mod Lists
+pub mod Undamaged
