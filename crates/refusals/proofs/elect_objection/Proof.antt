@@ -1,0 +1,35 @@
+-- In the order of the call.
+use Rattle.refusals.specs.Objections.{electObjection}
+use borrow.Author.Needs.{needs}
+use Rattle.refusals.proofs.elect_objection.Statement.{statement}
+use Rattle.refusals.proofs.elect_objection.Tie as tie
+
+election-open-requires : tie.Need-election-open-requires
+election-open-requires c κs = search needs
+
+refuse-requires : tie.Need-refuse-requires
+refuse-requires c κs = search needs
+
+day-and-option-requires : tie.Need-day-and-option-requires
+day-and-option-requires c κs = search needs
+
+refuse-requires-2 : tie.Need-refuse-requires-2
+refuse-requires-2 c κs = search needs
+
+refuse-requires-3 : tie.Need-refuse-requires-3
+refuse-requires-3 c κs = search needs
+
+returns : tie.Need-returns
+unfolding electObjection
+returns c = cc
+
+pub elect-objection-spec : {M : Type 1} → statement M
+elect-objection-spec =
+    tie.close
+    (tie.spec
+    election-open-requires
+    refuse-requires
+    day-and-option-requires
+    refuse-requires-2
+    refuse-requires-3
+    returns)
