@@ -12,3 +12,16 @@ pub mod Sums
 pub mod Pointers
 pub mod Links
 pub mod PointersKept
+pub mod RulesKept
+pub mod RecordsKept
+pub mod Grown
+pub mod Enrolment
+pub mod Rewriting
+pub mod Entries
+pub mod Accounts
+pub mod NewEntries
+pub mod Accepted
+pub mod EnrolElect
+pub mod Advance
+pub mod Close
+pub mod EveryCall

@@ -54,16 +54,16 @@ module _ (b b′ : List ℕ) (u : UserRecord) (g : Faultless b) (e : UserEnrolle
 -- another account: nothing moves
 module _ (b b′ : List ℕ) (i : ℕ) (a : Account) (h : isUser b i ≡ true) (s : AccountSet b b′ i a)
     (at : UserAt b′ i (userWith b i (firstEntryOf b i) a)) where
-  head-same : recordAt b′ 0 ≡ recordAt b 0
-  head-same = s .others 0 (omega (arith, kind-index b userKind i h .0))
+  pub set-head : recordAt b′ 0 ≡ recordAt b 0
+  set-head = s .others 0 (omega (arith, kind-index b userKind i h .0))
 
   pub set-used : used b′ ≡ used b
   unfolding used
-  set-used = ap (get usedField) head-same
+  set-used = ap (get usedField) set-head
 
   pub set-first-user : firstUser b′ ≡ firstUser b
   unfolding firstUser
-  set-first-user = ap (get firstUserField) head-same
+  set-first-user = ap (get firstUserField) set-head
 
   from-set : (k j : ℕ) → pointersFrom b′ k j ≡ pointersFrom b k j
   from-set k j = by-place (decLt 0 j) (ℕ-discrete j i)

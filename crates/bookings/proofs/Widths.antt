@@ -5,7 +5,7 @@ use mathlib.Core.Bool.{true}
 use native.Mathlib.Omega.{arith}
 use borrow.Author.Tests.{leb-true, ltb-true}
 use Rattle.units.specs.Units.{recordIndex}
-use Rattle.units.specs.Limits.{maxYearTicks, maxHalfTicks, maxHalfKwh, lastOpenYear}
+use Rattle.units.specs.Limits.{maxYearTicks, maxFlatRate, maxContribution, maxHalfTicks, maxHalfKwh, lastOpenYear}
 use Rattle.account.specs.declared.Account.{Account}
 use Rattle.records.specs.declared.UserRecord.{UserRecord}
 use Rattle.records.specs.declared.AdvanceRecord.{AdvanceRecord}
@@ -75,4 +75,48 @@ user-fits next first a hn hf number h =
       advances = omega (arith, w .advances);
       half1 = omega (arith, w .half1);
       half2 = omega (arith, w .half2);
+    }
+
+-- an entry of an account that fits
+pub advance-widths : (owner : Account) (x : AdvanceRecord) → accountFits owner ≡ true → advanceFits owner x ≡ true → x .next .0 < 2 ^ 32 → x .owner .0 < 2 ^ 32
+    → AdvanceFits x
+unfolding advanceFits yearFits
+advance-widths owner x account h next own =
+    let w = account-within owner account in
+    let run : isRun (x .run) ≡ true = search conjuncts in
+    let year : x .year ≤ owner .«open_year» = search (conjuncts, leb-true) in
+    let paid : x .ticks .0 ≤ maxYearTicks = search (conjuncts, leb-true) in
+    record { next = next; run = run-below (is-run (x .run) run); year = omega (arith, w .to); ticks = omega arith; owner = own }
+  where
+    run-below : {run : ℕ} → Run run → run < 2 ^ 8
+    run-below June = omega arith
+    run-below October = omega arith
+    run-below January = omega arith
+
+pub closing-widths : (owner : Account) (c : ClosingRecord) → accountFits owner ≡ true → closingFits owner c ≡ true → c .next .0 < 2 ^ 32 → c .owner .0 < 2 ^ 32
+    → c .balance .0 < 2 ^ 64 → ClosingFits c
+unfolding closingFits yearFits
+closing-widths owner c account h next own balance =
+    let w = account-within owner account in
+    let year : c .year ≤ owner .«open_year» = search (conjuncts, leb-true) in
+    let option : c .option ≤ 1 = search (conjuncts, leb-true) in
+    let value : c .value .0 ≤ maxYearTicks = search (conjuncts, leb-true) in
+    let cost : c .cost .0 ≤ maxYearTicks = search (conjuncts, leb-true) in
+    let flat : c .«flat_rate» .0 ≤ maxFlatRate = search (conjuncts, leb-true) in
+    let contribution : c .contribution .0 ≤ maxContribution = search (conjuncts, leb-true) in
+    let liquidation : c .liquidation .0 ≤ maxYearTicks = search (conjuncts, leb-true) in
+    let lapsed : c .lapsed .0 ≤ maxYearTicks * (c .year - owner .details .year) = search (conjuncts, leb-true) in
+    let last = w .to in
+    record {
+      next = next;
+      option = omega arith;
+      year = omega arith;
+      value = omega arith;
+      cost = omega arith;
+      «flat_rate» = omega arith;
+      contribution = omega arith;
+      liquidation = omega arith;
+      lapsed = omega arith;
+      balance = balance;
+      owner = own;
     }

@@ -36,8 +36,8 @@ head-at b count first e hc hf =
     }
 
 -- the new user, and the user i with another first entry and account
-abbrev pub newUser : List ℕ → ℕ → Details → ℕ → UserRecord
-newUser b number d option = record { next = recordIndex (firstUser b); first = recordIndex 0; account = newAccount number d option }
+abbrev pub newUser : List ℕ → Account → UserRecord
+newUser b a = record { next = recordIndex (firstUser b); first = recordIndex 0; account = a }
 
 abbrev pub userWith : List ℕ → ℕ → ℕ → Account → UserRecord
 userWith b i first a = record { next = recordIndex (nextOf b i); first = recordIndex first; account = a }
@@ -78,7 +78,7 @@ pub record EntryAdded (b b′ : List ℕ) (i : ℕ) (a : Account) (entry : List 
   pub others : (j : ℕ) → 1 ≤ j → (j ≡ i → ⊥) → (j ≡ used b → ⊥) → recordAt b′ j ≡ recordAt b j
 
 module _ (b : List ℕ) (g : Good b) where
-  first-below : firstUser b < 2 ^ 32
+  pub first-below : firstUser b < 2 ^ 32
   unfolding firstUser
   first-below = field-below firstUserField b 0 (g .bytes)
 
@@ -97,11 +97,11 @@ module _ (b : List ℕ) (g : Good b) where
       }
 
   pub user-enrolled : (number : ℕ) (d : Details) (option : ℕ) → used b < capacity b
-      → UserEnrolled b (enrolled number d option b) (newUser b number d option)
+      → UserEnrolled b (enrolled number d option b) (newUser b (newAccount number d option))
   unfolding enrolled enrolledAs
   user-enrolled number d option room =
       let s = sizes b g in
-      let u = newUser b number d option in
+      let u = newUser b (newAccount number d option) in
       let p = put b (used b) (userImage u) (g .bytes) (length-user-image u) (bytes-user-image u) (omega arith) in
       let q = put (putRecord (used b) (userImage u) b) 0 (headImage (used b + 1) (used b)) (p .bytes) (length-head-image (used b + 1) (used b))
       (bytes-head-image (used b + 1) (used b)) (omega (arith, p .length-same, s .from)) in

@@ -31,12 +31,16 @@ use Rattle.chains.proofs.Ranges.{mostYears, ClosingRanges, user-years, 
 abbrev pub mostRecords : ℕ
 mostRecords = 800
 
-few-records : (b : List ℕ) → lengthFits b ≡ true → capacity b ≤ mostRecords
+-- "length not 160 to 64,000", in records
+pub records-within : (b : List ℕ) → lengthFits b ≡ true → (2 ≤ capacity b) × (capacity b ≤ mostRecords)
 unfolding lengthFits
-few-records b h =
-    let range = leb 160 (length b) && leb (length b) 64000 in
-    let l = leb-true (length b) 64000 (and-right (leb 160 (length b)) (leb (length b) 64000) (and-left range (eqb (length b % recordLength) 0) h)) in
-    omega arith
+records-within b h =
+    let low = leb 160 (length b) in
+    let high = leb (length b) 64000 in
+    let range = and-left (low && high) (eqb (length b % recordLength) 0) h in
+    let l = leb-true 160 (length b) (and-left low high range) in
+    let m = leb-true (length b) 64000 (and-right low high range) in
+    (omega arith, omega arith)
 
 module _ (b : List ℕ) (f : Faultless b) (i : ℕ) (u : isUser b i ≡ true) where
   -- A sum over the closings has at most one term for each closed year.
@@ -56,12 +60,14 @@ module _ (b : List ℕ) (f : Faultless b) (i : ℕ) (u : isUser b i ≡ true) wh
       closings-sum (closingPart g b) cap (λ e c. rw c (h (closingIn (recordAt b e)) (closing-ranges b f e c)))
       (λ e a. rw (kinds-apart b advanceKind closingKind e (λ p. omega arith) a))
 
-  balance-sum : natAbs (sumOverℤ (balancePart b) (entriesOf b i)) ≤ maxContribution * mostYears
+  pub balance-sizes : sumOver (λ e. natAbs (balancePart b e)) (entriesOf b i) ≤ maxContribution * mostYears
   unfolding balancePart
-  balance-sum =
-      let sizes = closings-sum (λ e. natAbs (balancePart b e)) maxContribution (λ e c. rw c (closing-ranges b f e c .balance))
-      (λ e a. rw (kinds-apart b advanceKind closingKind e (λ p. omega arith) a)) in
-      omega (arith, size-of-sum (balancePart b) (entriesOf b i))
+  balance-sizes =
+      closings-sum (λ e. natAbs (balancePart b e)) maxContribution (λ e c. rw c (closing-ranges b f e c .balance))
+      (λ e a. rw (kinds-apart b advanceKind closingKind e (λ p. omega arith) a))
+
+  balance-sum : natAbs (sumOverℤ (balancePart b) (entriesOf b i)) ≤ maxContribution * mostYears
+  balance-sum = omega (arith, balance-sizes, size-of-sum (balancePart b) (entriesOf b i))
 
   -- A sum over the advances has at most a term for each record.
   entries-few : length (entriesOf b i) ≤ used b
@@ -82,7 +88,7 @@ module _ (b : List ℕ) (f : Faultless b) (i : ℕ) (u : isUser b i ≡ true) wh
   advance-sum : lengthFits b ≡ true → (p : ℕ → Bool) → sumOver (advancePart p b) (entriesOf b i) ≤ maxYearTicks * mostRecords
   advance-sum l p =
       let sum = sum-at-most (Owned b i) (advancePart p b) maxYearTicks (λ e o. advance-term p e) (entriesOf b i) (entries-only b f i u) in
-      omega (arith, sum, entries-few, used-within b (f .used-fits), few-records b l)
+      omega (arith, sum, entries-few, used-within b (f .used-fits), records-within b l)
 
 -- each sum but the balance's is below 2^63, and that lies from −2^62 to 2^62
 pub record SumsFit (s : Statement) : Type 0 where

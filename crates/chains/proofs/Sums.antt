@@ -1,13 +1,13 @@
 -- Sums over the entries of a chain: equal terms, and bounds from a bound on each term.
-use Prim.Native.Nat.{ℕ, suc, _+_, _*_, _≤_}
-use mathlib.Core.Path.{_≡_, refl, ap₂}
+use Prim.Native.Nat.{ℕ, zero, suc, _+_, _*_, _≤_}
+use mathlib.Core.Path.{_≡_, refl, sym, ap, ap₂, _∙_}
 use mathlib.Core.Bool.{Bool, true, false}
 use mathlib.Core.List.{List, [], _∷_}
 use native.Mathlib.Nat.{mul-suc}
 use native.Mathlib.Numerals.{add-one}
 use native.Mathlib.Omega.{arith}
 use lib.Dec.{ltb}
-use lib.IntN.{ℤ, pos, negsuc, natAbs, subℕ, _+ℤ_}
+use lib.IntN.{ℤ, pos, negsuc, natAbs, negℤ, subℕ, _+ℤ_, _-ℤ_, +ℤ-assoc, +ℤ-negℤ-cancel}
 use lib.ListN.{length}
 use borrow.Author.Tests.{ltb-true}
 use Rattle.book.specs.Book.{isAdvance, isClosing, rankOf}
@@ -55,11 +55,22 @@ size-difference a b = by-test (ltb a b) refl
     by-test true e = let l = ltb-true a b e in rw e (omega arith)
     by-test false e = rw e (omega arith)
 
-size-sum : (x y : ℤ) → natAbs (x +ℤ y) ≤ natAbs x + natAbs y
+size-negated : (z : ℤ) → natAbs (negℤ z) ≡ natAbs z
+size-negated (pos zero) = refl
+size-negated (pos (suc n)) = refl
+size-negated (negsuc n) = refl
+
+pub size-sum : (x y : ℤ) → natAbs (x +ℤ y) ≤ natAbs x + natAbs y
 size-sum (pos a) (pos b) = omega arith
 size-sum (pos a) (negsuc b) = size-difference a (suc b)
 size-sum (negsuc a) (pos b) = omega (arith, size-difference b (suc a))
 size-sum (negsuc a) (negsuc b) = omega arith
+
+-- where a sum x + y + r comes to w, the sum before r is at most as large as w and r together
+pub size-before : (x y r w : ℤ) → x +ℤ (y +ℤ r) ≡ w → natAbs (x +ℤ y) ≤ natAbs w + natAbs r
+size-before x y r w e =
+    let before : x +ℤ y ≡ w -ℤ r = sym (+ℤ-negℤ-cancel (x +ℤ y) r) ∙ ap (λ z. z -ℤ r) (+ℤ-assoc x y r ∙ e) in
+    rw before (omega (arith, size-sum w (negℤ r), size-negated r))
 
 pub size-of-sum : (f : ℕ → ℤ) (es : List ℕ) → natAbs (sumOverℤ f es) ≤ sumOver (λ e. natAbs (f e)) es
 unfolding sumOver sumOverℤ

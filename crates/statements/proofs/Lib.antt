@@ -1,0 +1,4 @@
+pub mod Bits
+pub mod Steps
+pub mod Toward
+pub mod Walk

@@ -1,0 +1,15 @@
+-- The sum modulo 2^64 is the sum in two's complement.
+use mathlib.Core.Path.{ap, _∙_}
+use Rattle.statements.proofs.Bits.{wrapped-sum}
+use borrow.Author.Needs.{needs}
+use Rattle.statements.proofs.joined.Statement.{statement}
+use Rattle.statements.proofs.joined.Tie as tie
+
+wrapping-add-u64-requires : tie.Need-wrapping-add-u64-requires
+wrapping-add-u64-requires c κs = search needs
+
+returns : tie.Need-returns
+returns c = ap (λ n. record { 0 = n }) (c .wrapping-add-u64 .ensures ∙ wrapped-sum _ _ (search needs) (search needs) (c .before .pre))
+
+pub joined-spec : {M : Type 1} → statement M
+joined-spec = tie.close (tie.spec wrapping-add-u64-requires returns)

@@ -1,0 +1,110 @@
+-- The walk of `Walk`: it begins with all entries ahead, each turn adds one, and the measure is the index.
+use Prim.Native.Nat.{_<_}
+use mathlib.Core.Path.{_≡_, ap, sym, subst, subst₂, _∙_}
+use denote.Ref.{now}
+use Rattle.layout.specs.Fields.{get, firstEntryField}
+use Rattle.records.specs.Records.{accountIn}
+use Rattle.book.specs.Book.{accountAt, firstEntryOf}
+use Rattle.statements.specs.Walk.{linkAt, sumsBefore}
+use Rattle.statements.proofs.Walk.{Walking, begins, entry-here, entry-room, turned, next-falls, ends}
+use borrow.Author.Needs.{needs}
+use Rattle.statements.proofs.statement_of.Statement.{statement}
+use Rattle.statements.proofs.statement_of.Tie as tie
+
+abbrev Inv-loop : tie.InvT-loop
+Inv-loop book sums₀ at₀ sums at = Walking book sums₀ (at₀ .0) sums (at .0)
+
+abbrev μ-loop : tie.MeasureT-loop
+μ-loop book sums₀ at₀ sums at = at .0
+
+record-requires : tie.Need-record-requires Inv-loop μ-loop
+record-requires c κs = search needs
+
+read-account-requires : tie.Need-read-account-requires Inv-loop μ-loop
+read-account-requires c κs = search needs
+
+sums-before-requires : tie.Need-sums-before-requires Inv-loop μ-loop
+sums-before-requires c κs = search needs
+
+first-entry-of-requires : tie.Need-first-entry-of-requires Inv-loop μ-loop
+first-entry-of-requires c κs = search needs
+
+sums-begin : (c : tie.After-first-entry-of Inv-loop μ-loop) → c .before .sums-before .result ≡ sumsBefore (accountAt (now (c .before .before .before .before .before .args .book)) (c .before .before .before .before .before .args .user .0))
+sums-begin c =
+    c .before .sums-before .ensures
+    ∙ ap sumsBefore (c .before .before .read-account .ensures ∙ ap accountIn (c .before .before .before .record .ensures))
+
+index-begins : (c : tie.After-first-entry-of Inv-loop μ-loop) → c .first-entry-of .result .0 ≡ firstEntryOf (now (c .before .before .before .before .before .args .book)) (c .before .before .before .before .before .args .user .0)
+unfolding firstEntryOf
+index-begins c =
+    ap (λ k. k .0) (c .first-entry-of .ensures) ∙ ap (get firstEntryField) (c .before .before .before .record .ensures)
+
+loop-holds : tie.Need-loop-holds Inv-loop μ-loop
+loop-holds c =
+    let start = c .before .before .before .before .before in
+    let b = now (start .args .book) in
+    subst₂ (λ s k. Walking b s k s k) (sym (sums-begin c)) (sym (index-begins c))
+    (begins b (start .args .user .0) (start .pre .0) (start .pre .1 .0) (start .pre .1 .1))
+
+link-at-requires : tie.Need-link-at-requires Inv-loop μ-loop
+link-at-requires c κs = search needs
+
+with-entry-requires : tie.Need-with-entry-requires Inv-loop μ-loop
+unfolding linkAt
+with-entry-requires c κs =
+    let l = c .before .before .before .loop in
+    let b = now (c .before .before .before .before .before .before .before .before .before .args .book) in
+    let s = c .before .before .before .before .before .sums-before .result in
+    let f = c .before .before .before .before .first-entry-of .result .0 in (
+      entry-here b s f (l .sums) (l .at .0) (l .inv) (c .before .if1 .taken),
+      (
+        ap (λ k. k .kind) (c .link-at .ensures),
+        entry-room b s f (l .sums) (l .at .0) (l .inv) (c .before .if1 .taken),
+      ),
+    )
+
+loop-less : tie.Need-loop-less Inv-loop μ-loop
+unfolding linkAt
+loop-less c =
+    let l = c .before .before .before .before .before .loop in
+    let b = now (c .before .before .before .before .before .before .before .before .before .before .before .args .book) in
+    let s = c .before .before .before .before .before .before .before .sums-before .result in
+    let f = c .before .before .before .before .before .before .first-entry-of .result .0 in
+    subst (λ k. k < l .at .0) (sym (ap (λ k. k .next .0) (c .before .before .link-at .ensures)))
+    (next-falls b s f (l .sums) (l .at .0) (l .inv) (c .before .before .before .if1 .taken))
+
+loop-again : tie.Need-loop-again Inv-loop μ-loop
+unfolding linkAt
+loop-again c =
+    let l = c .before .before .before .before .before .loop in
+    let b = now (c .before .before .before .before .before .before .before .before .before .before .before .args .book) in
+    let s = c .before .before .before .before .before .before .before .sums-before .result in
+    let f = c .before .before .before .before .before .before .first-entry-of .result .0 in
+    subst₂ (Walking b s f) (sym (c .before .with-entry .ensures)) (sym (ap (λ k. k .next .0) (c .before .before .link-at .ensures)))
+    (turned b s f (l .sums) (l .at .0) (l .inv) (c .before .before .before .if1 .taken))
+
+returns : tie.Need-returns Inv-loop μ-loop
+returns c =
+    let l = c .before .before .loop in
+    let first = c .before .before .before in
+    let a = first .before .before .before .before .before .args in
+    let b = now (a .book) in
+    let at-start = subst₂ (λ s k. Walking b s k (l .sums) (l .at .0)) (sums-begin first) (index-begins first) (l .inv) in
+    ends b (a .user .0) (l .sums) (subst (Walking b (sumsBefore (accountAt b (a .user .0))) (firstEntryOf b (a .user .0)) (l .sums)) (c .if1 .left) at-start)
+
+pub statement-of-spec : {M : Type 1} → statement M
+statement-of-spec =
+    tie.close
+    (tie.spec
+    Inv-loop
+    μ-loop
+    record-requires
+    read-account-requires
+    sums-before-requires
+    first-entry-of-requires
+    loop-holds
+    link-at-requires
+    with-entry-requires
+    loop-less
+    loop-again
+    returns)

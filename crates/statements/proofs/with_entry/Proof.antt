@@ -1,0 +1,62 @@
+-- The kind says how the entry is read and where it is added.
+use mathlib.Core.Path.{ap, sym, subst, _∙_}
+use denote.Ref.{now}
+use Rattle.records.specs.Records.{advanceIn, closingIn}
+use Rattle.statements.specs.Walk.{closingAdded, advanceAdded, ClosingRoom, AdvanceRoom}
+use Rattle.statements.proofs.Steps.{closing-shown, advance-shown, closing-entry-added, advance-entry-added}
+use borrow.Author.Needs.{needs}
+use Rattle.statements.proofs.with_entry.Statement.{statement}
+use Rattle.statements.proofs.with_entry.Tie as tie
+
+record-requires : tie.Need-record-requires
+record-requires c κs = search needs
+
+read-closing-requires : tie.Need-read-closing-requires
+read-closing-requires c κs = search needs
+
+with-closing-requires : tie.Need-with-closing-requires
+with-closing-requires c κs =
+    let s = c .before .before .before .before in
+    let a = s .args in
+    let read = c .read-closing .ensures ∙ ap closingIn (c .before .before .record .ensures) in
+    subst (λ x. ClosingRoom x (a .sums)) (sym read)
+    (s .pre .1 .1 .closing (closing-shown (now (a .book)) (a .at .0) (a .kind) (s .pre .0) (s .pre .1 .0) (c .before .if1 .taken)))
+
+read-advance-requires : tie.Need-read-advance-requires
+read-advance-requires c κs = search needs
+
+with-advance-requires : tie.Need-with-advance-requires
+with-advance-requires c κs =
+    let s = c .before .before .before .before in
+    let a = s .args in
+    let read = c .read-advance .ensures ∙ ap advanceIn (c .before .before .record .ensures) in
+    subst (λ x. AdvanceRoom x (a .sums)) (sym read)
+    (s .pre .1 .1 .advance (advance-shown (now (a .book)) (a .at .0) (a .kind) (s .pre .0) (s .pre .1 .0) (c .before .if1 .left)))
+
+returns : tie.Need-returns
+returns c =
+    let s = c .before .before .before .before .before in
+    let a = s .args in
+    let read = c .before .read-closing .ensures ∙ ap closingIn (c .before .before .before .record .ensures) in
+    c .with-closing .ensures ∙ ap (λ x. closingAdded x (a .sums)) read
+    ∙ sym (closing-entry-added (now (a .book)) (a .at .0) (a .sums) (closing-shown (now (a .book)) (a .at .0) (a .kind) (s .pre .0) (s .pre .1 .0) (c .before .before .if1 .taken)))
+
+returns-2 : tie.Need-returns-2
+returns-2 c =
+    let s = c .before .before .before .before .before in
+    let a = s .args in
+    let read = c .before .read-advance .ensures ∙ ap advanceIn (c .before .before .before .record .ensures) in
+    c .with-advance .ensures ∙ ap (λ x. advanceAdded x (a .sums)) read
+    ∙ sym (advance-entry-added (now (a .book)) (a .at .0) (a .sums) (advance-shown (now (a .book)) (a .at .0) (a .kind) (s .pre .0) (s .pre .1 .0) (c .before .before .if1 .left)))
+
+pub with-entry-spec : {M : Type 1} → statement M
+with-entry-spec =
+    tie.close
+    (tie.spec
+    record-requires
+    read-closing-requires
+    with-closing-requires
+    read-advance-requires
+    with-advance-requires
+    returns
+    returns-2)
