@@ -8,3 +8,4 @@ pub mod CallSteps
 pub mod OneCall
 pub mod Lists
 pub mod Undamaged
+pub mod CallEffects

@@ -1,0 +1,168 @@
+-- What acceptance of each call brings about, from the laws of the bookings.
+use Prim.Native.Nat.{ℕ, _+_, _^_, _≤_, _<_}
+use mathlib.Core.Path.{_≡_, refl, ap, sym, _∙_, subst}
+use mathlib.Core.Logic.{_⊎_, inl, inr}
+use mathlib.Core.Bool.{Bool, true, false, not, _&&_, false≢true}
+use mathlib.Core.List.{List}
+use native.Mathlib.Decide.{decLt}
+use native.Mathlib.Omega.{arith}
+use borrow.Author.Tests.{eqb-true, eqb-false, not-true, leb-true}
+use lib.Dec.{eqb, leb}
+use Rattle.units.specs.Limits.{maxYearTicks, maxContribution, lastActivation}
+use Rattle.units.proofs.Bools.{and-left, and-right}
+use Rattle.sheet.specs.YearSheet.{sheetUser, sheetYear, refused11, refused13, Passed}
+use Rattle.calendar.specs.ElectionAndAdvances.{due, halvesPaid}
+use Rattle.values.specs.declared.Details.{Details}
+use Rattle.values.specs.declared.YearValues.{YearValues}
+use Rattle.values.specs.YearsValues.{ValuesFit, yearValues}
+use Rattle.account.specs.declared.Account.{Account}
+use Rattle.account.specs.Account.{accountElected, accountAdvanced, accountClosed}
+use Rattle.account.proofs.Closing.{contribution-capped}
+use Rattle.layout.specs.Fields.{recordAt, userKind, advanceKind, closingKind}
+use Rattle.book.specs.Book.{used, isUser, isAdvance, isClosing, isEntry, isRun, runMade, nextOf, firstEntryOf, ownerOf, accountAt, kindAt, hasKind, accountFits}
+use Rattle.book.proofs.Faultless.{Faultless, kind-index, kind-of}
+use Rattle.chains.proofs.Links.{Owned, kinds-apart, advance-entry, closing-entry}
+use Rattle.ledger.specs.Ledger.{sheetValue, sheetFlatRate}
+use Rattle.calls.specs.Bookings.{findUser, newAccount, enrolled, elected, advanced, advanceEntry, closed, closingEntry, valuesOf}
+use Rattle.calls.specs.Refusals.{numberFree, present, runOpen, yearOpen, userAt, enrolRefusal, electRefusal, advanceRefusal, closeRefusal}
+use Rattle.calls.specs.Calls.{enrol, elect, advance, close, paidBy}
+use Rattle.demand.specs.Demand.{Typed}
+use Rattle.bookings.proofs.Good.{Good, sizes}
+use Rattle.bookings.proofs.Frame.{Frame}
+use Rattle.bookings.proofs.KindsKept.{kind-same}
+use Rattle.bookings.proofs.Accepted.{enrol-accepted, elect-accepted, advance-accepted, close-accepted}
+use Rattle.bookings.proofs.EnrolElect.{named-user, enrol-keeps, elect-keeps}
+use Rattle.bookings.proofs.Widths.{account-within}
+use Rattle.prices.specs.ValueAndCost.{costOf}
+use Rattle.demand.proofs.LedgerSteps.{contribution}
+use Rattle.bookings.proofs.Entries.{Entered}
+use Rattle.bookings.proofs.Advance.{Advanced, advance-keeps}
+use Rattle.bookings.proofs.Close.{Closed, close-keeps}
+use Rattle.demand.proofs.Effects.{NewUser, NewAccount, NewEntry, NewAdvance, NewClosing}
+
+-- a user of the book after, at an old index, was one before
+old-user : (b b′ : List ℕ) (k : ℕ) → Frame b b′ k → (j : ℕ) → j < used b → isUser b′ j ≡ true → isUser b j ≡ true
+old-user b b′ k f j l h = sym (kind-same b b′ k f userKind j l) ∙ h
+
+is-there : (b : List ℕ) (number : ℕ) → present b number ≡ true → findUser b number ≡ 0 → ⊥
+unfolding present
+is-there b number h = eqb-false (findUser b number) 0 (not-true (eqb (findUser b number) 0) h)
+
+is-free : (b : List ℕ) (number : ℕ) → numberFree b number ≡ true → findUser b number ≡ 0
+unfolding numberFree
+is-free b number h = eqb-true (findUser b number) 0 (and-right (not (eqb number 0)) (eqb (findUser b number) 0) h)
+
+pub enrols : (b : List ℕ) → Good b → (n : ℕ) (d : Details) (o : ℕ) → Typed (enrol n d o) → enrolRefusal b n d o ≡ 0
+  → (findUser b n ≡ 0) × NewUser b (enrolled n d o b) (newAccount n d o)
+unfolding Typed
+enrols b g n d o t r =
+    let k = enrol-keeps b n d o (g .bytes) (t .0) r in
+    let b′ = enrolled n d o b in
+    let count = k .head .used-is in
+    let place : (j : ℕ) → isUser b′ j ≡ true → Dec (j < used b) → (isUser b j ≡ true) ⊎ (j ≡ used b) =
+          λ j u. elim [ yes l ↦ inl (old-user b b′ (used b) (k .frame) j l u) | no m ↦ inr (let p = kind-index b′ userKind j u in omega (arith, m, count)) ] in
+    (is-free b n (enrol-accepted b n d o r .free), record {
+      good = k .good;
+      frame = k .frame;
+      users = λ j u. place j u (decLt j (used b));
+      user = kind-of b′ userKind (used b) (sizes b g .some) (omega (arith, count)) (k .user .kind);
+      account = k .user .account;
+      first = k .user .first
+    })
+
+pub elects : (b : List ℕ) → Good b → (n o y m d : ℕ) → Typed (elect n o y m d) → electRefusal b n o y m d ≡ 0
+  → (findUser b n ≡ 0 → ⊥) × NewAccount b (elected (findUser b n) o b) (findUser b n) (accountElected o (accountAt b (findUser b n)))
+elects b g n o y m d t r =
+    let k = elect-keeps b n o y m d (g .bytes) r in
+    let b′ = elected (findUser b n) o b in
+    (is-there b n (elect-accepted b n o y m d r .found), record {
+      good = k .good;
+      frame = k .frame;
+      users = λ j u. old-user b b′ (findUser b n) (k .frame) j (let p = kind-index b′ userKind j u in omega (arith, k .used-same)) u;
+      account = k .user .account;
+      first = k .user .first
+    })
+
+-- a new entry of either kind
+entered : (b b′ : List ℕ) → Good b → (i : ℕ) (a : Account) (kind : ℕ) → Entered b b′ i a → (userKind ≡ kind → ⊥) → kindAt b′ (used b) ≡ kind
+  → (hasKind b′ kind (used b) ≡ true → isEntry b′ (used b) ≡ true) → nextOf b′ (used b) ≡ firstEntryOf b i → ownerOf b′ (used b) ≡ i → NewEntry b b′ i a
+entered b b′ g i a kind e apart k entry next owner =
+    let count = e .head .used-is in
+    let new-kind = kind-of b′ kind (used b) (sizes b g .some) (omega (arith, count)) k in
+    let place : (j : ℕ) → isUser b′ j ≡ true → Dec (j < used b) → isUser b j ≡ true =
+          λ j u. elim [
+            yes l ↦ old-user b b′ i (e .frame) j l u
+          | no m ↦
+            let p = kind-index b′ userKind j u in
+            let same : j ≡ used b = omega (arith, m, count) in
+            absurd (false≢true (sym (kinds-apart b′ kind userKind (used b) (λ q. apart (sym q)) new-kind) ∙ subst (λ x. isUser b′ x ≡ true) same u))
+          ] in
+    record {
+      good = e .good;
+      frame = e .frame;
+      users = λ j u. place j u (decLt j (used b));
+      account = e .user .account;
+      first = e .user .first;
+      next = next;
+      owned = record { entry = entry new-kind; owner = owner }
+    }
+
+pub advances : (b : List ℕ) → Good b → (n y r p e₁ e₂ : ℕ) → Typed (advance n y r p e₁ e₂) → advanceRefusal b n y r p e₁ e₂ ≡ 0
+  → (findUser b n ≡ 0 → ⊥)
+  × ((y ≡ accountAt b (findUser b n) .«open_year»)
+  × NewAdvance b (advanced (findUser b n) y r (paidBy b n y r p e₁ e₂) b) (findUser b n)
+    (accountAdvanced r (paidBy b n y r p e₁ e₂) (accountAt b (findUser b n))) (advanceEntry b (findUser b n) y r (paidBy b n y r p e₁ e₂)))
+unfolding advanceEntry runOpen
+advances b g n y r p e₁ e₂ t z =
+    let k = advance-keeps b n y r p e₁ e₂ (g .bytes) z in
+    let a = advance-accepted b n y r p e₁ e₂ z in
+    let i = findUser b n in
+    let paid = paidBy b n y r p e₁ e₂ in
+    let b′ = advanced i y r paid b in
+    let x = accountAt b i in
+    let tests = and-left ((eqb y (x .«open_year») && leb y lastActivation) && isRun r) (due (halvesPaid (x .details .year) (x .details .month) y r) && not (runMade x r)) (a .run-open) in
+    let year = eqb-true y (x .«open_year») (and-left (eqb y (x .«open_year»)) (leb y lastActivation) (and-left (eqb y (x .«open_year») && leb y lastActivation) (isRun r) tests)) in
+    let apart : userKind ≡ advanceKind → ⊥ = omega arith in
+    let count = k .after .head .used-is in
+    let new-kind = kind-of b′ advanceKind (used b) (sizes b g .some) (omega (arith, count)) (k .entry .kind) in
+    (is-there b n (a .found), (year, record {
+      entry =
+      entered b b′ g i (accountAdvanced r paid x) advanceKind (k .after) apart (k .entry .kind) (advance-entry b′ (used b)) (k .entry .entry .next-is)
+      (k .entry .entry .owner-is);
+      advance = new-kind;
+      noClosing = kinds-apart b′ advanceKind closingKind (used b) (omega arith) new-kind;
+      contents = k .entry .advance
+    }))
+
+passed : (s : List ℕ) → not (refused11 s) ≡ true → not (refused13 s) ≡ true → Passed s
+passed s p q = record { past11 = not-true (refused11 s) p; past13 = not-true (refused13 s) q }
+
+pub closes : ((s : List ℕ) → Passed s → (d : Details) → ValuesFit (yearValues s d)) → (b : List ℕ) → Good b → (s : List ℕ) → Typed (close s) → closeRefusal b s ≡ 0
+  → (findUser b (sheetUser s) ≡ 0 → ⊥)
+  × ((sheetYear s ≡ accountAt b (findUser b (sheetUser s)) .«open_year»)
+  × ((contribution (accountAt b (findUser b (sheetUser s))) s < 2 ^ 63)
+  × ((accountAt b (findUser b (sheetUser s)) .advances .0 < 2 ^ 63)
+  × NewClosing b (closed (findUser b (sheetUser s)) (valuesOf b s) b) (findUser b (sheetUser s))
+    (accountClosed (valuesOf b s) (accountAt b (findUser b (sheetUser s)))) (closingEntry b (findUser b (sheetUser s)) (valuesOf b s)))))
+unfolding closingEntry yearOpen valuesOf yearValues sheetValue sheetFlatRate
+closes fits b g s t z =
+    let a = close-accepted b s z in
+    let i = findUser b (sheetUser s) in
+    let x = accountAt b i in
+    let values = fits s (passed s (a .header) (a .numbers)) (x .details) in
+    let k = close-keeps b s (g .bytes) values z in
+    let b′ = closed i (valuesOf b s) b in
+    let year = eqb-true (sheetYear s) (x .«open_year») (and-left (eqb (sheetYear s) (x .«open_year»)) (leb (sheetYear s) lastActivation) (a .year)) in
+    let there = is-there b (sheetUser s) (a .found) in
+    let account = account-within x (g .faultless .user i (named-user b (sheetUser s) (a .found) .user) .fits) in
+    let small = contribution-capped (x .option) (x .credit .0) (sheetValue (x .details) s) (costOf s) (sheetFlatRate (x .details) s) (values .cost) (values .flatRate) in
+    let count = k .after .head .used-is in
+    let new-kind = kind-of b′ closingKind (used b) (sizes b g .some) (omega (arith, count)) (k .entry .kind) in
+    (there, (year, (omega arith, (omega (arith, account .advances), record {
+      entry =
+      entered b b′ g i (accountClosed (valuesOf b s) x) closingKind (k .after) (omega arith) (k .entry .kind) (closing-entry b′ (used b)) (k .entry .entry .next-is)
+      (k .entry .entry .owner-is);
+      closing = new-kind;
+      noAdvance = kinds-apart b′ closingKind advanceKind (used b) (omega arith) new-kind;
+      contents = k .entry .closing
+    }))))
