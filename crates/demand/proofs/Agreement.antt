@@ -29,7 +29,7 @@ itemIn c =
       contribution = c .contribution .0;
       liquidation = c .liquidation .0;
       lapsed = c .lapsed .0;
-      balance = toZ w64 (c .balance .0)
+      balance = toZ w64 (c .balance .0);
     }
 
 abbrev pub advanceAt : List ℕ → ℕ → Advance
@@ -46,13 +46,13 @@ advancesOf b (e ∷ es) = cond (isAdvance b e) (advanceAt b e ∷ advancesOf b e
 
 -- sums over the chain are sums over the items and the advances
 pub sum-items : (f : ClosingRecord → ℕ) (g : Item → ℕ) → ((c : ClosingRecord) → f c ≡ g (itemIn c)) → (b es : List ℕ)
-  → sumOver (closingPart f b) es ≡ sumItems g (itemsOf b es)
+    → sumOver (closingPart f b) es ≡ sumItems g (itemsOf b es)
 unfolding sumOver closingPart sumItems itemsOf
 sum-items f g h b [] = refl
 sum-items f g h b (e ∷ es) = by-kind (isClosing b e) (sum-items f g h b es)
   where
     by-kind : (t : Bool) → sumOver (closingPart f b) es ≡ sumItems g (itemsOf b es) → cond t (f (closingIn (recordAt b e))) 0 + sumOver (closingPart f b) es
-      ≡ sumItems g (cond t (itemIn (closingIn (recordAt b e)) ∷ itemsOf b es) (itemsOf b es))
+        ≡ sumItems g (cond t (itemIn (closingIn (recordAt b e)) ∷ itemsOf b es) (itemsOf b es))
     by-kind true rest = ap₂ _+_ (h (closingIn (recordAt b e))) rest
     by-kind false rest = zero-add (sumOver (closingPart f b) es) ∙ rest
 
@@ -62,7 +62,7 @@ sum-balances b [] = refl
 sum-balances b (e ∷ es) = by-kind (isClosing b e) (sum-balances b es)
   where
     by-kind : (t : Bool) → sumOverℤ (balancePart b) es ≡ sumBalances (itemsOf b es) → cond t (toZ w64 (closingIn (recordAt b e) .balance .0)) (pos 0) +ℤ sumOverℤ (balancePart b) es
-      ≡ sumBalances (cond t (itemIn (closingIn (recordAt b e)) ∷ itemsOf b es) (itemsOf b es))
+        ≡ sumBalances (cond t (itemIn (closingIn (recordAt b e)) ∷ itemsOf b es) (itemsOf b es))
     by-kind true rest = ap (λ (z : ℤ). toZ w64 (closingIn (recordAt b e) .balance .0) +ℤ z) rest
     by-kind false rest = +ℤ-idl (sumOverℤ (balancePart b) es) ∙ rest
 
@@ -72,7 +72,7 @@ sum-advances p b [] = refl
 sum-advances p b (e ∷ es) = by-kind (isAdvance b e) (sum-advances p b es)
   where
     by-kind : (t : Bool) → sumOver (advancePart p b) es ≡ sumAdvances p (advancesOf b es) → cond (t && p (advanceIn (recordAt b e) .year)) (advanceIn (recordAt b e) .ticks .0) 0 + sumOver (advancePart p b) es
-      ≡ sumAdvances p (cond t (advanceAt b e ∷ advancesOf b es) (advancesOf b es))
+        ≡ sumAdvances p (cond t (advanceAt b e ∷ advancesOf b es) (advancesOf b es))
     by-kind true rest = ap (λ (n : ℕ). cond (p (advanceIn (recordAt b e) .year)) (advanceIn (recordAt b e) .ticks .0) 0 + n) rest
     by-kind false rest = zero-add (sumOver (advancePart p b) es) ∙ rest
 
@@ -94,7 +94,7 @@ unfolding statementAt statementOf
 same-statement b i l a =
     let es = entriesOf b i in
     let total : (f : ClosingRecord → ℕ) (g : Item → ℕ) → ((c : ClosingRecord) → f c ≡ g (itemIn c)) → sumOver (closingPart f b) es ≡ sumItems g (l .items) =
-          λ f g h. sum-items f g h b es ∙ ap (sumItems g) (a .items) in
+    λ f g h. sum-items f g h b es ∙ ap (sumItems g) (a .items) in
     let value = total (λ c. c .value .0) (λ x. x .value) (λ c. refl) in
     let cost = total (λ c. c .cost .0) (λ x. x .cost) (λ c. refl) in
     let flat = total (λ c. c .«flat_rate» .0) (λ x. x .flatRate) (λ c. refl) in
@@ -116,5 +116,5 @@ same-statement b i l a =
       lapsed = lapsed k;
       balance = balance k;
       advances = all k;
-      closedAdvances = before k
+      closedAdvances = before k;
     }

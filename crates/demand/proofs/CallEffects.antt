@@ -53,50 +53,54 @@ unfolding numberFree
 is-free b number h = eqb-true (findUser b number) 0 (and-right (not (eqb number 0)) (eqb (findUser b number) 0) h)
 
 pub enrols : (b : List ℕ) → Good b → (n : ℕ) (d : Details) (o : ℕ) → Typed (enrol n d o) → enrolRefusal b n d o ≡ 0
-  → (findUser b n ≡ 0) × NewUser b (enrolled n d o b) (newAccount n d o)
+    → (findUser b n ≡ 0) × NewUser b (enrolled n d o b) (newAccount n d o)
 unfolding Typed
 enrols b g n d o t r =
     let k = enrol-keeps b n d o (g .bytes) (t .0) r in
     let b′ = enrolled n d o b in
     let count = k .head .used-is in
     let place : (j : ℕ) → isUser b′ j ≡ true → Dec (j < used b) → (isUser b j ≡ true) ⊎ (j ≡ used b) =
-          λ j u. elim [ yes l ↦ inl (old-user b b′ (used b) (k .frame) j l u) | no m ↦ inr (let p = kind-index b′ userKind j u in omega (arith, m, count)) ] in
-    (is-free b n (enrol-accepted b n d o r .free), record {
-      good = k .good;
-      frame = k .frame;
-      users = λ j u. place j u (decLt j (used b));
-      user = kind-of b′ userKind (used b) (sizes b g .some) (omega (arith, count)) (k .user .kind);
-      account = k .user .account;
-      first = k .user .first
-    })
+    λ j u. elim [ yes l ↦ inl (old-user b b′ (used b) (k .frame) j l u) | no m ↦ inr (let p = kind-index b′ userKind j u in omega (arith, m, count)) ] in (
+      is-free b n (enrol-accepted b n d o r .free),
+      record {
+        good = k .good;
+        frame = k .frame;
+        users = λ j u. place j u (decLt j (used b));
+        user = kind-of b′ userKind (used b) (sizes b g .some) (omega (arith, count)) (k .user .kind);
+        account = k .user .account;
+        first = k .user .first;
+      },
+    )
 
 pub elects : (b : List ℕ) → Good b → (n o y m d : ℕ) → Typed (elect n o y m d) → electRefusal b n o y m d ≡ 0
-  → (findUser b n ≡ 0 → ⊥) × NewAccount b (elected (findUser b n) o b) (findUser b n) (accountElected o (accountAt b (findUser b n)))
+    → (findUser b n ≡ 0 → ⊥) × NewAccount b (elected (findUser b n) o b) (findUser b n) (accountElected o (accountAt b (findUser b n)))
 elects b g n o y m d t r =
     let k = elect-keeps b n o y m d (g .bytes) r in
-    let b′ = elected (findUser b n) o b in
-    (is-there b n (elect-accepted b n o y m d r .found), record {
-      good = k .good;
-      frame = k .frame;
-      users = λ j u. old-user b b′ (findUser b n) (k .frame) j (let p = kind-index b′ userKind j u in omega (arith, k .used-same)) u;
-      account = k .user .account;
-      first = k .user .first
-    })
+    let b′ = elected (findUser b n) o b in (
+      is-there b n (elect-accepted b n o y m d r .found),
+      record {
+        good = k .good;
+        frame = k .frame;
+        users = λ j u. old-user b b′ (findUser b n) (k .frame) j (let p = kind-index b′ userKind j u in omega (arith, k .used-same)) u;
+        account = k .user .account;
+        first = k .user .first;
+      },
+    )
 
 -- a new entry of either kind
 entered : (b b′ : List ℕ) → Good b → (i : ℕ) (a : Account) (kind : ℕ) → Entered b b′ i a → (userKind ≡ kind → ⊥) → kindAt b′ (used b) ≡ kind
-  → (hasKind b′ kind (used b) ≡ true → isEntry b′ (used b) ≡ true) → nextOf b′ (used b) ≡ firstEntryOf b i → ownerOf b′ (used b) ≡ i → NewEntry b b′ i a
+    → (hasKind b′ kind (used b) ≡ true → isEntry b′ (used b) ≡ true) → nextOf b′ (used b) ≡ firstEntryOf b i → ownerOf b′ (used b) ≡ i → NewEntry b b′ i a
 entered b b′ g i a kind e apart k entry next owner =
     let count = e .head .used-is in
     let new-kind = kind-of b′ kind (used b) (sizes b g .some) (omega (arith, count)) k in
     let place : (j : ℕ) → isUser b′ j ≡ true → Dec (j < used b) → isUser b j ≡ true =
-          λ j u. elim [
-            yes l ↦ old-user b b′ i (e .frame) j l u
-          | no m ↦
-            let p = kind-index b′ userKind j u in
-            let same : j ≡ used b = omega (arith, m, count) in
-            absurd (false≢true (sym (kinds-apart b′ kind userKind (used b) (λ q. apart (sym q)) new-kind) ∙ subst (λ x. isUser b′ x ≡ true) same u))
-          ] in
+    λ j u. elim [
+      | yes l ↦ old-user b b′ i (e .frame) j l u
+      | no m ↦
+          let p = kind-index b′ userKind j u in
+          let same : j ≡ used b = omega (arith, m, count) in
+          absurd (false≢true (sym (kinds-apart b′ kind userKind (used b) (λ q. apart (sym q)) new-kind) ∙ subst (λ x. isUser b′ x ≡ true) same u))
+    ] in
     record {
       good = e .good;
       frame = e .frame;
@@ -104,13 +108,13 @@ entered b b′ g i a kind e apart k entry next owner =
       account = e .user .account;
       first = e .user .first;
       next = next;
-      owned = record { entry = entry new-kind; owner = owner }
+      owned = record { entry = entry new-kind; owner = owner };
     }
 
 pub advances : (b : List ℕ) → Good b → (n y r p e₁ e₂ : ℕ) → Typed (advance n y r p e₁ e₂) → advanceRefusal b n y r p e₁ e₂ ≡ 0
-  → (findUser b n ≡ 0 → ⊥)
-  × ((y ≡ accountAt b (findUser b n) .«open_year»)
-  × NewAdvance b (advanced (findUser b n) y r (paidBy b n y r p e₁ e₂) b) (findUser b n)
+    → (findUser b n ≡ 0 → ⊥)
+    × ((y ≡ accountAt b (findUser b n) .«open_year»)
+    × NewAdvance b (advanced (findUser b n) y r (paidBy b n y r p e₁ e₂) b) (findUser b n)
     (accountAdvanced r (paidBy b n y r p e₁ e₂) (accountAt b (findUser b n))) (advanceEntry b (findUser b n) y r (paidBy b n y r p e₁ e₂)))
 unfolding advanceEntry runOpen
 advances b g n y r p e₁ e₂ t z =
@@ -124,25 +128,30 @@ advances b g n y r p e₁ e₂ t z =
     let year = eqb-true y (x .«open_year») (and-left (eqb y (x .«open_year»)) (leb y lastActivation) (and-left (eqb y (x .«open_year») && leb y lastActivation) (isRun r) tests)) in
     let apart : userKind ≡ advanceKind → ⊥ = omega arith in
     let count = k .after .head .used-is in
-    let new-kind = kind-of b′ advanceKind (used b) (sizes b g .some) (omega (arith, count)) (k .entry .kind) in
-    (is-there b n (a .found), (year, record {
-      entry =
-      entered b b′ g i (accountAdvanced r paid x) advanceKind (k .after) apart (k .entry .kind) (advance-entry b′ (used b)) (k .entry .entry .next-is)
-      (k .entry .entry .owner-is);
-      advance = new-kind;
-      noClosing = kinds-apart b′ advanceKind closingKind (used b) (omega arith) new-kind;
-      contents = k .entry .advance
-    }))
+    let new-kind = kind-of b′ advanceKind (used b) (sizes b g .some) (omega (arith, count)) (k .entry .kind) in (
+      is-there b n (a .found),
+      (
+        year,
+        record {
+          entry =
+              entered b b′ g i (accountAdvanced r paid x) advanceKind (k .after) apart (k .entry .kind) (advance-entry b′ (used b)) (k .entry .entry .next-is)
+              (k .entry .entry .owner-is);
+          advance = new-kind;
+          noClosing = kinds-apart b′ advanceKind closingKind (used b) (omega arith) new-kind;
+          contents = k .entry .advance;
+        },
+      ),
+    )
 
 passed : (s : List ℕ) → not (refused11 s) ≡ true → not (refused13 s) ≡ true → Passed s
 passed s p q = record { past11 = not-true (refused11 s) p; past13 = not-true (refused13 s) q }
 
 pub closes : ((s : List ℕ) → Passed s → (d : Details) → ValuesFit (yearValues s d)) → (b : List ℕ) → Good b → (s : List ℕ) → Typed (close s) → closeRefusal b s ≡ 0
-  → (findUser b (sheetUser s) ≡ 0 → ⊥)
-  × ((sheetYear s ≡ accountAt b (findUser b (sheetUser s)) .«open_year»)
-  × ((contribution (accountAt b (findUser b (sheetUser s))) s < 2 ^ 63)
-  × ((accountAt b (findUser b (sheetUser s)) .advances .0 < 2 ^ 63)
-  × NewClosing b (closed (findUser b (sheetUser s)) (valuesOf b s) b) (findUser b (sheetUser s))
+    → (findUser b (sheetUser s) ≡ 0 → ⊥)
+    × ((sheetYear s ≡ accountAt b (findUser b (sheetUser s)) .«open_year»)
+    × ((contribution (accountAt b (findUser b (sheetUser s))) s < 2 ^ 63)
+    × ((accountAt b (findUser b (sheetUser s)) .advances .0 < 2 ^ 63)
+    × NewClosing b (closed (findUser b (sheetUser s)) (valuesOf b s) b) (findUser b (sheetUser s))
     (accountClosed (valuesOf b s) (accountAt b (findUser b (sheetUser s)))) (closingEntry b (findUser b (sheetUser s)) (valuesOf b s)))))
 unfolding closingEntry yearOpen valuesOf yearValues sheetValue sheetFlatRate
 closes fits b g s t z =
@@ -157,12 +166,23 @@ closes fits b g s t z =
     let account = account-within x (g .faultless .user i (named-user b (sheetUser s) (a .found) .user) .fits) in
     let small = contribution-capped (x .option) (x .credit .0) (sheetValue (x .details) s) (costOf s) (sheetFlatRate (x .details) s) (values .cost) (values .flatRate) in
     let count = k .after .head .used-is in
-    let new-kind = kind-of b′ closingKind (used b) (sizes b g .some) (omega (arith, count)) (k .entry .kind) in
-    (there, (year, (omega arith, (omega (arith, account .advances), record {
-      entry =
-      entered b b′ g i (accountClosed (valuesOf b s) x) closingKind (k .after) (omega arith) (k .entry .kind) (closing-entry b′ (used b)) (k .entry .entry .next-is)
-      (k .entry .entry .owner-is);
-      closing = new-kind;
-      noAdvance = kinds-apart b′ closingKind advanceKind (used b) (omega arith) new-kind;
-      contents = k .entry .closing
-    }))))
+    let new-kind = kind-of b′ closingKind (used b) (sizes b g .some) (omega (arith, count)) (k .entry .kind) in (
+      there,
+      (
+        year,
+        (
+          omega arith,
+          (
+            omega (arith, account .advances),
+            record {
+              entry =
+                  entered b b′ g i (accountClosed (valuesOf b s) x) closingKind (k .after) (omega arith) (k .entry .kind) (closing-entry b′ (used b)) (k .entry .entry .next-is)
+                  (k .entry .entry .owner-is);
+              closing = new-kind;
+              noAdvance = kinds-apart b′ closingKind advanceKind (used b) (omega arith) new-kind;
+              contents = k .entry .closing;
+            },
+          ),
+        ),
+      ),
+    )

@@ -56,27 +56,28 @@ enrol-own b b′ n d o w =
       user = w .user;
       number = number-in b′ u (newAccount n d o) (w .account);
       agrees =
-      record {
-        details = ap (λ (x : Account). x .details) (w .account);
-        option = field (λ x. x .option);
-        credit = field (λ x. x .credit .0);
-        half1 = field (λ x. x .half1 .0);
-        half2 = field (λ x. x .half2 .0);
-        open-year = field (λ x. x .«open_year»);
-        advances = field (λ x. x .advances .0);
-        items = ap (itemsOf b′) none-yet;
-        paid = ap (advancesOf b′) none-yet
-      };
-      kept = kept-enrolled d o
+          record {
+            details = ap (λ (x : Account). x .details) (w .account);
+            option = field (λ x. x .option);
+            credit = field (λ x. x .credit .0);
+            half1 = field (λ x. x .half1 .0);
+            half2 = field (λ x. x .half2 .0);
+            open-year = field (λ x. x .«open_year»);
+            advances = field (λ x. x .advances .0);
+            items = ap (itemsOf b′) none-yet;
+            paid = ap (advancesOf b′) none-yet;
+          };
+      kept = kept-enrolled d o;
     })
 
 pub enrol-other : (b b′ : List ℕ) → Good b → (n number : ℕ) (d : Details) (o : ℕ) → (number ≡ n → ⊥) → NewUser b b′ (newAccount number d o)
-  → {m : Option Ledger} {v : ℕ} → State b n m v → State b′ n m v
+    → {m : Option Ledger} {v : ℕ} → State b n m v → State b′ n m v
 unfolding newAccount
 enrol-other b b′ g n number d o apart w (unknown nobody) = unknown (λ j u e. ⊎-elim (old j e) (fresh j e) (w .users j u))
   where
     old : (j : ℕ) → numberOf b′ j ≡ n → isUser b j ≡ true → ⊥
     old j e u = nobody j u (sym (w .frame .number j u) ∙ e)
+
     fresh : (j : ℕ) → numberOf b′ j ≡ n → j ≡ used b → ⊥
     fresh j e same = apart (sym (number-in b′ (used b) (newAccount number d o) (w .account)) ∙ ap (numberOf b′) (sym same) ∙ e)
 enrol-other b b′ g n number d o apart w (known i h) =
@@ -85,7 +86,7 @@ enrol-other b b′ g n number d o apart w (known i h) =
 
 -- ELECT
 pub elect-own : (b b′ : List ℕ) → Good b → (n i o : ℕ) {l : Ledger} {v : ℕ} → NewAccount b b′ i (accountElected o (accountAt b i)) → Held b n l v i
-  → State b′ n (some (elected o l)) v
+    → State b′ n (some (elected o l)) v
 elect-own b b′ g n i o {l} {v} w h =
     let u = h .user in
     known i
@@ -93,15 +94,15 @@ elect-own b b′ g n i o {l} {v} w h =
       user = kind-stays b b′ i (w .frame) userKind i u;
       number = w .frame .number i u ∙ h .number;
       agrees =
-      agrees-elected b b′ i i l (h .agrees) o (w .account) (items-kept b b′ i (w .frame) (g .faultless) i u (w .first))
-      (paid-kept b b′ i (w .frame) (g .faultless) i u (w .first));
-      kept = kept-elected o (h .kept)
+          agrees-elected b b′ i i l (h .agrees) o (w .account) (items-kept b b′ i (w .frame) (g .faultless) i u (w .first))
+          (paid-kept b b′ i (w .frame) (g .faultless) i u (w .first));
+      kept = kept-elected o (h .kept);
     })
 
 -- ADVANCE
 pub advance-own : (b b′ : List ℕ) → Good b → (n i y r p e₁ e₂ : ℕ) {l : Ledger} {v : ℕ} → y ≡ accountAt b i .«open_year»
-  → NewAdvance b b′ i (accountAdvanced r (runAmount (accountAt b i) y r p e₁ e₂) (accountAt b i)) (advanceEntry b i y r (runAmount (accountAt b i) y r p e₁ e₂))
-  → Held b n l v i → State b′ n (some (advanced y r p e₁ e₂ l)) v
+    → NewAdvance b b′ i (accountAdvanced r (runAmount (accountAt b i) y r p e₁ e₂) (accountAt b i)) (advanceEntry b i y r (runAmount (accountAt b i) y r p e₁ e₂))
+    → Held b n l v i → State b′ n (some (advanced y r p e₁ e₂ l)) v
 unfolding advanceEntry
 advance-own b b′ g n i y r p e₁ e₂ {l} {v} year w h =
     let u = h .user in
@@ -115,9 +116,9 @@ advance-own b b′ g n i y r p e₁ e₂ {l} {v} year w h =
       user = kind-stays b b′ i f userKind i u;
       number = f .number i u ∙ h .number;
       agrees =
-      agrees-advanced b b′ i i l (h .agrees) y r p e₁ e₂ paid open-year (same-amount b b′ i i l (h .agrees) y r p e₁ e₂) (w .entry .account) (joins .0)
-      (joins .1 ∙ ap (λ (x : Advance). x ∷ paidAt b i) contents);
-      kept = kept-advanced y r p e₁ e₂ open-year (h .kept)
+          agrees-advanced b b′ i i l (h .agrees) y r p e₁ e₂ paid open-year (same-amount b b′ i i l (h .agrees) y r p e₁ e₂) (w .entry .account) (joins .0)
+          (joins .1 ∙ ap (λ (x : Advance). x ∷ paidAt b i) contents);
+      kept = kept-advanced y r p e₁ e₂ open-year (h .kept);
     })
   where
     as-advance : ℕ → ℕ → Advance
@@ -125,9 +126,9 @@ advance-own b b′ g n i y r p e₁ e₂ {l} {v} year w h =
 
 -- CLOSE
 pub close-own : (b b′ : List ℕ) → Good b → (n i : ℕ) (s : List ℕ) {l : Ledger} {v : ℕ} → sheetYear s ≡ accountAt b i .«open_year»
-  → contribution (accountAt b i) s < 2 ^ 63 → accountAt b i .advances .0 < 2 ^ 63
-  → NewClosing b b′ i (accountClosed (yearValues s (accountAt b i .details)) (accountAt b i)) (closingEntry b i (yearValues s (accountAt b i .details)))
-  → Held b n l v i → State b′ n (some (closed s l)) (v + sheetValue (l .details) s)
+    → contribution (accountAt b i) s < 2 ^ 63 → accountAt b i .advances .0 < 2 ^ 63
+    → NewClosing b b′ i (accountClosed (yearValues s (accountAt b i .details)) (accountAt b i)) (closingEntry b i (yearValues s (accountAt b i .details)))
+    → Held b n l v i → State b′ n (some (closed s l)) (v + sheetValue (l .details) s)
 close-own b b′ g n i s {l} {v} year small field w h =
     let u = h .user in
     let f = w .entry .frame in
@@ -139,5 +140,5 @@ close-own b b′ g n i s {l} {v} year small field w h =
       user = kind-stays b b′ i f userKind i u;
       number = f .number i u ∙ h .number;
       agrees = agrees-closed b b′ i i l (h .agrees) v s (h .kept) open-year (w .entry .account) (joins .0 ∙ ap (λ x. x ∷ itemsAt b i) item) (joins .1);
-      kept = kept-closed s open-year (h .kept)
+      kept = kept-closed s open-year (h .kept);
     })

@@ -79,14 +79,14 @@ module _ (b b′ : List ℕ) (k : ℕ) (f : Frame b b′ k) where
 
       -- an advance joins the advances
       pub advance-joins : isAdvance b′ new ≡ true → isClosing b′ new ≡ false
-        → (itemsAt b′ i ≡ itemsAt b i) × (paidAt b′ i ≡ advanceAt b′ new ∷ paidAt b i)
+          → (itemsAt b′ i ≡ itemsAt b i) × (paidAt b′ i ≡ advanceAt b′ new ∷ paidAt b i)
       unfolding itemsOf advancesOf
       advance-joins a c =
           (ap (itemsOf b′) entries-added ∙ rw c (items-stay (entriesOf b i) are-entries), ap (advancesOf b′) entries-added ∙ rw (a, paid-stay (entriesOf b i) are-entries))
 
       -- a closing joins the items
       pub closing-joins : isAdvance b′ new ≡ false → isClosing b′ new ≡ true
-        → (itemsAt b′ i ≡ itemIn (closingIn (recordAt b′ new)) ∷ itemsAt b i) × (paidAt b′ i ≡ paidAt b i)
+          → (itemsAt b′ i ≡ itemIn (closingIn (recordAt b′ new)) ∷ itemsAt b i) × (paidAt b′ i ≡ paidAt b i)
       unfolding itemsOf advancesOf
       closing-joins a c =
           (ap (itemsOf b′) entries-added ∙ rw (c, items-stay (entriesOf b i) are-entries), ap (advancesOf b′) entries-added ∙ rw a (paid-stay (entriesOf b i) are-entries))

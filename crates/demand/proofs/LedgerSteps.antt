@@ -45,8 +45,8 @@ contribution x s = contributionOf (x .option) (x .credit .0) (sheetValue (x .det
 
 -- a closing entry, as an item worked from the account
 entry-item : (b : List ℕ) (i : ℕ) (s : List ℕ) → contribution (accountAt b i) s < 2 ^ 63 → accountAt b i .advances .0 < 2 ^ 63
-  → itemIn (closingEntry b i (yearValues s (accountAt b i .details)))
-  ≡ itemOf (accountAt b i .«open_year») (accountAt b i .option) (accountAt b i .credit .0) (accountAt b i .advances .0) (sheetValue (accountAt b i .details) s) (costOf s) (sheetFlatRate (accountAt b i .details) s)
+    → itemIn (closingEntry b i (yearValues s (accountAt b i .details)))
+    ≡ itemOf (accountAt b i .«open_year») (accountAt b i .option) (accountAt b i .credit .0) (accountAt b i .advances .0) (sheetValue (accountAt b i .details) s) (costOf s) (sheetFlatRate (accountAt b i .details) s)
 unfolding closingEntry itemOf yearValues sheetValue sheetFlatRate
 entry-item b i s small field =
     let x = accountAt b i in
@@ -62,7 +62,7 @@ entry-item b i s small field =
       contribution = total;
       liquidation = liquidationOf (x .option) (v .value .0) (costOf s);
       lapsed = lapsedOf (x .option) (x .credit .0);
-      balance = balance-back total (x .advances .0) small field k
+      balance = balance-back total (x .advances .0) small field k;
     }
 
 module _ (b b′ : List ℕ) (i i′ : ℕ) (l : Ledger) (a : Agrees b i l) where
@@ -78,11 +78,11 @@ module _ (b b′ : List ℕ) (i i′ : ℕ) (l : Ledger) (a : Agrees b i l) wher
         open-year = ap (λ (x : Account). x .«open_year») account ∙ a .open-year;
         advances = ap (λ (x : Account). x .advances .0) account ∙ a .advances;
         items = items ∙ a .items;
-        paid = paid ∙ a .paid
+        paid = paid ∙ a .paid;
       }
 
   pub agrees-elected : (o : ℕ) → accountAt b′ i′ ≡ accountElected o (accountAt b i) → itemsAt b′ i′ ≡ itemsAt b i → paidAt b′ i′ ≡ paidAt b i
-    → Agrees b′ i′ (elected o l)
+      → Agrees b′ i′ (elected o l)
   unfolding accountElected elected
   agrees-elected o account items paid =
       record {
@@ -94,17 +94,17 @@ module _ (b b′ : List ℕ) (i i′ : ℕ) (l : Ledger) (a : Agrees b i l) wher
         open-year = ap (λ (x : Account). x .«open_year») account ∙ a .open-year;
         advances = ap (λ (x : Account). x .advances .0) account ∙ a .advances;
         items = items ∙ a .items;
-        paid = paid ∙ a .paid
+        paid = paid ∙ a .paid;
       }
 
   -- an advance of the open year
   pub agrees-advanced : (y r p e₁ e₂ paid : ℕ) → y ≡ openYear l → paid ≡ advanceAmount y r p e₁ e₂ l
-    → accountAt b′ i′ ≡ accountAdvanced r paid (accountAt b i) → itemsAt b′ i′ ≡ itemsAt b i
-    → paidAt b′ i′ ≡ record { year = y; ticks = paid } ∷ paidAt b i → Agrees b′ i′ (advanced y r p e₁ e₂ l)
+      → accountAt b′ i′ ≡ accountAdvanced r paid (accountAt b i) → itemsAt b′ i′ ≡ itemsAt b i
+      → paidAt b′ i′ ≡ record { year = y; ticks = paid } ∷ paidAt b i → Agrees b′ i′ (advanced y r p e₁ e₂ l)
   unfolding accountAdvanced advanced sumAdvances
   agrees-advanced y r p e₁ e₂ paid year amount account items history =
       let joined : accountAt b i .advances .0 + paid ≡ cond (eqb (openYear l) y) (advanceAmount y r p e₁ e₂ l) 0 + sumAdvances (eqb (openYear l)) (l .advances) =
-            rw (eq-eqb (openYear l) y (sym year)) (omega (arith, a .advances)) in
+      rw (eq-eqb (openYear l) y (sym year)) (omega (arith, a .advances)) in
       record {
         details = ap (λ (x : Account). x .details) account ∙ a .details;
         option = ap (λ (x : Account). x .option) account ∙ a .option;
@@ -114,7 +114,7 @@ module _ (b b′ : List ℕ) (i i′ : ℕ) (l : Ledger) (a : Agrees b i l) wher
         open-year = ap (λ (x : Account). x .«open_year») account ∙ a .open-year;
         advances = ap (λ (x : Account). x .advances .0) account ∙ joined;
         items = items ∙ a .items;
-        paid = history ∙ ap₂ (advance-before y) amount (a .paid)
+        paid = history ∙ ap₂ (advance-before y) amount (a .paid);
       }
 
   -- the amount of a run, by the account and by the ledger
@@ -124,19 +124,19 @@ module _ (b b′ : List ℕ) (i i′ : ℕ) (l : Ledger) (a : Agrees b i l) wher
 
   -- the closing of a year, by the entry and by the ledger
   pub same-item : (s : List ℕ) → sheetYear s ≡ openYear l → contribution (accountAt b i) s < 2 ^ 63 → accountAt b i .advances .0 < 2 ^ 63
-    → itemIn (closingEntry b i (yearValues s (accountAt b i .details)))
-    ≡ itemOf (sheetYear s) (l .option) (l .credit) (sumAdvances (eqb (sheetYear s)) (l .advances)) (sheetValue (l .details) s) (costOf s) (sheetFlatRate (l .details) s)
+      → itemIn (closingEntry b i (yearValues s (accountAt b i .details)))
+      ≡ itemOf (sheetYear s) (l .option) (l .credit) (sumAdvances (eqb (sheetYear s)) (l .advances)) (sheetValue (l .details) s) (costOf s) (sheetFlatRate (l .details) s)
   same-item s year small field =
       entry-item b i s small field
       ∙ rw (year, a .open-year, a .option, a .credit, a .advances, a .details)
 
   -- a closing of the open year
   pub agrees-closed : (injected : ℕ) (s : List ℕ) → Kept injected l → sheetYear s ≡ openYear l
-    → accountAt b′ i′ ≡ accountClosed (yearValues s (accountAt b i .details)) (accountAt b i)
-    → itemsAt b′ i′
-    ≡ itemOf (sheetYear s) (l .option) (l .credit) (sumAdvances (eqb (sheetYear s)) (l .advances)) (sheetValue (l .details) s) (costOf s) (sheetFlatRate (l .details) s)
+      → accountAt b′ i′ ≡ accountClosed (yearValues s (accountAt b i .details)) (accountAt b i)
+      → itemsAt b′ i′
+      ≡ itemOf (sheetYear s) (l .option) (l .credit) (sumAdvances (eqb (sheetYear s)) (l .advances)) (sheetValue (l .details) s) (costOf s) (sheetFlatRate (l .details) s)
       ∷ itemsAt b i
-    → paidAt b′ i′ ≡ paidAt b i → Agrees b′ i′ (closed s l)
+      → paidAt b′ i′ ≡ paidAt b i → Agrees b′ i′ (closed s l)
   unfolding accountClosed yearValues closed sheetValue itemOf yearAfter
   agrees-closed injected s k year account items paid =
       record {
@@ -148,5 +148,5 @@ module _ (b b′ : List ℕ) (i i′ : ℕ) (l : Ledger) (a : Agrees b i l) wher
         open-year = ap (λ (x : Account). x .«open_year») account ∙ rw (a .open-year, year);
         advances = ap (λ (x : Account). x .advances .0) account ∙ sym (no-advance-yet s year k);
         items = items ∙ ap (item-before (itemOf (sheetYear s) (l .option) (l .credit) (sumAdvances (eqb (sheetYear s)) (l .advances)) (sheetValue (l .details) s) (costOf s) (sheetFlatRate (l .details) s))) (a .items);
-        paid = paid ∙ a .paid
+        paid = paid ∙ a .paid;
       }

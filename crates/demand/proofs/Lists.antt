@@ -38,7 +38,7 @@ known-held b n l (known {l = k} {v = v} i h) e = let same : k ≡ l = cc in (i, 
 
 module _ (fx : Effects) (n : ℕ) where
   pub run : (cs : List Call) (b : List ℕ) → Good b → AllTyped cs → {m : Option Ledger} {v : ℕ} → State b n m v → (l : Ledger) → ledgerAfter n b cs m ≡ some l
-    → After b n m v cs l
+      → After b n m v cs l
   unfolding bookAfterAll ledgerAfter valueIn AllTyped
   run [] b g t {m} {v} st l e =
       let there = known-held b n l st e in
@@ -46,7 +46,7 @@ module _ (fx : Effects) (n : ℕ) where
         at = there .0;
         good = g;
         held = subst (λ k. Held b n l k (there .0)) (sym (add-zero v)) (there .1);
-        notes = subst (λ k. Notes k (l .details)) (sym e) refl
+        notes = subst (λ k. Notes k (l .details)) (sym e) refl;
       }
   run (c ∷ cs) b g t {m} {v} st l e =
       let one = moves fx b g n c (t .0) st in
@@ -56,12 +56,12 @@ module _ (fx : Effects) (n : ℕ) where
         at = rest .at;
         good = rest .good;
         held = subst (λ k. Held (bookAfterAll (bookAfter b c) cs) n l k (rest .at)) (omega (arith, gained)) (rest .held);
-        notes = one .same (l .details) (rest .notes)
+        notes = one .same (l .details) (rest .notes);
       }
 
   -- from a book without a user
   pub demand : (cs : List Call) (b : List ℕ) → Good b → ((i : ℕ) → isUser b i ≡ true → ⊥) → AllTyped cs → (l : Ledger) → ledgerAfter n b cs none ≡ some l
-    → Demand b cs n l
+      → Demand b cs n l
   unfolding statementRefusal present
   demand cs b g empty t l e =
       let after = run cs b g t (unknown (λ i u q. empty i u)) l e in
@@ -76,5 +76,5 @@ module _ (fx : Effects) (n : ℕ) where
         conservedSum = kept-conserved value;
         standingCredit = kept-standing value;
         years = value .years;
-        lapsedCredit = kept-lapsed value
+        lapsedCredit = kept-lapsed value;
       }

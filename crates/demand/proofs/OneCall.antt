@@ -29,20 +29,20 @@ use Rattle.demand.proofs.CallSteps.{enrol-own, enrol-other, elect-own, 
 -- what acceptance of each call brings about
 pub record Effects : Type 0 where
   pub enrols : (b : List ℕ) → Good b → (n : ℕ) (d : Details) (o : ℕ) → Typed (enrol n d o) → enrolRefusal b n d o ≡ 0
-    → (findUser b n ≡ 0) × NewUser b (enrolled n d o b) (newAccount n d o)
+      → (findUser b n ≡ 0) × NewUser b (enrolled n d o b) (newAccount n d o)
   pub elects : (b : List ℕ) → Good b → (n o y m d : ℕ) → Typed (elect n o y m d) → electRefusal b n o y m d ≡ 0
-    → (findUser b n ≡ 0 → ⊥) × NewAccount b (elected (findUser b n) o b) (findUser b n) (accountElected o (accountAt b (findUser b n)))
+      → (findUser b n ≡ 0 → ⊥) × NewAccount b (elected (findUser b n) o b) (findUser b n) (accountElected o (accountAt b (findUser b n)))
   pub advances : (b : List ℕ) → Good b → (n y r p e₁ e₂ : ℕ) → Typed (advance n y r p e₁ e₂) → advanceRefusal b n y r p e₁ e₂ ≡ 0
-    → (findUser b n ≡ 0 → ⊥)
-    × ((y ≡ accountAt b (findUser b n) .«open_year»)
-    × NewAdvance b (advanced (findUser b n) y r (paidBy b n y r p e₁ e₂) b) (findUser b n)
+      → (findUser b n ≡ 0 → ⊥)
+      × ((y ≡ accountAt b (findUser b n) .«open_year»)
+      × NewAdvance b (advanced (findUser b n) y r (paidBy b n y r p e₁ e₂) b) (findUser b n)
       (accountAdvanced r (paidBy b n y r p e₁ e₂) (accountAt b (findUser b n))) (advanceEntry b (findUser b n) y r (paidBy b n y r p e₁ e₂)))
   pub closes : (b : List ℕ) → Good b → (s : List ℕ) → Typed (close s) → closeRefusal b s ≡ 0
-    → (findUser b (sheetUser s) ≡ 0 → ⊥)
-    × ((sheetYear s ≡ accountAt b (findUser b (sheetUser s)) .«open_year»)
-    × ((contribution (accountAt b (findUser b (sheetUser s))) s < 2 ^ 63)
-    × ((accountAt b (findUser b (sheetUser s)) .advances .0 < 2 ^ 63)
-    × NewClosing b (closed (findUser b (sheetUser s)) (valuesOf b s) b) (findUser b (sheetUser s))
+      → (findUser b (sheetUser s) ≡ 0 → ⊥)
+      × ((sheetYear s ≡ accountAt b (findUser b (sheetUser s)) .«open_year»)
+      × ((contribution (accountAt b (findUser b (sheetUser s))) s < 2 ^ 63)
+      × ((accountAt b (findUser b (sheetUser s)) .advances .0 < 2 ^ 63)
+      × NewClosing b (closed (findUser b (sheetUser s)) (valuesOf b s) b) (findUser b (sheetUser s))
       (accountClosed (valuesOf b s) (accountAt b (findUser b (sheetUser s)))) (closingEntry b (findUser b (sheetUser s)) (valuesOf b s)))))
 
 -- the details that a ledger notes, if there is one
@@ -70,7 +70,7 @@ module _ (b : List ℕ) (g : Good b) (n : ℕ) (m : Option Ledger) (v : ℕ) (st
         good = subst Good (sym same-book) g;
         state = subst (λ b′. State b′ n (fed n b c m) (v + 0)) (sym same-book) (subst (λ k. State b n k (v + 0)) (sym same-ledger) (no-gain b st));
         same = λ d h. subst (λ k. Notes k d) same-ledger h;
-        gained = λ d h. sym (nothing d)
+        gained = λ d h. sym (nothing d);
       }
 
   refused : (c : Call) → eqb (refusalOf b c) 0 ≡ false → Moved b n m v c
@@ -88,12 +88,12 @@ module _ (b : List ℕ) (g : Good b) (n : ℕ) (m : Option Ledger) (v : ℕ) (st
         good = subst Good (sym book) good;
         state = subst (λ b′. State b′ n (fed n b c m) (v + 0)) (sym book) (subst (λ k. State (booked b c) n k (v + 0)) (sym ledger-same) (no-gain (booked b c) s));
         same = λ d h. subst (λ k. Notes k d) ledger-same h;
-        gained = λ d h. rw (r, o)
+        gained = λ d h. rw (r, o);
       }
 
   -- an accepted call for this number
   for-own : (c : Call) → eqb (refusalOf b c) 0 ≡ true → eqb (namedBy c) n ≡ true → Good (booked b c) → (gain : ℕ) → State (booked b c) n (posted c m) (v + gain)
-    → ((d : Details) → Notes (posted c m) d → Notes m d) → ((d : Details) → Notes (posted c m) d → gain ≡ valueBy d c) → Moved b n m v c
+      → ((d : Details) → Notes (posted c m) d → Notes m d) → ((d : Details) → Notes (posted c m) d → gain ≡ valueBy d c) → Moved b n m v c
   unfolding bookAfter fed isAccepted
   for-own c r o good gain s same gained =
       let book : cond (eqb (refusalOf b c) 0) (booked b c) b ≡ booked b c = rw r in
@@ -103,7 +103,7 @@ module _ (b : List ℕ) (g : Good b) (n : ℕ) (m : Option Ledger) (v : ℕ) (st
         good = subst Good (sym book) good;
         state = subst (λ b′. State b′ n (fed n b c m) (v + gain)) (sym book) (subst (λ k. State (booked b c) n k (v + gain)) (sym ledger-moved) s);
         same = λ d h. same d (subst (λ k. Notes k d) ledger-moved h);
-        gained = λ d h. gained d (subst (λ k. Notes k d) ledger-moved h) ∙ rw (r, o)
+        gained = λ d h. gained d (subst (λ k. Notes k d) ledger-moved h) ∙ rw (r, o);
       }
 
 -- the user that an accepted call names bears the number, so that another number is not booked
@@ -120,12 +120,13 @@ module _ (b : List ℕ) (g : Good b) (number n : ℕ) (there : findUser b number
 
 module _ (fx : Effects) (b : List ℕ) (g : Good b) (n : ℕ) where
   enrol-moves : (number : ℕ) (d : Details) (o : ℕ) → Typed (enrol number d o) → enrolRefusal b number d o ≡ 0 → {m : Option Ledger} {v : ℕ} → State b n m v
-    → Moved b n m v (enrol number d o)
+      → Moved b n m v (enrol number d o)
   unfolding refusalOf booked namedBy posted valueBy
   enrol-moves number d o t r {m} {v} st = by-number (eqb number n) refl st
     where
       w : (findUser b number ≡ 0) × NewUser b (enrolled number d o b) (newAccount number d o)
       w = fx .enrols b g number d o t r
+
       by-number : (x : Bool) → eqb number n ≡ x → {k : Option Ledger} {u : ℕ} → State b n k u → Moved b n k u (enrol number d o)
       by-number false other {k} {u} s =
           for-other b g n k u s (enrol number d o) (eq-eqb (enrolRefusal b number d o) 0 r) other (w .1 .good)
@@ -137,14 +138,13 @@ module _ (fx : Effects) (b : List ℕ) (g : Good b) (n : ℕ) where
       by-number true own (known i h) = absurd (none-found b number (w .0) i (h .user) (h .number ∙ sym (eqb-true number n own)))
 
   elect-moves : (number o y mo d : ℕ) → Typed (elect number o y mo d) → electRefusal b number o y mo d ≡ 0 → {m : Option Ledger} {v : ℕ} → State b n m v
-    → Moved b n m v (elect number o y mo d)
+      → Moved b n m v (elect number o y mo d)
   unfolding refusalOf booked namedBy posted valueBy ledger.elected
   elect-moves number o y mo d t r {m} {v} st = by-number (eqb number n) refl st
     where
-
-
       w : (findUser b number ≡ 0 → ⊥) × NewAccount b (elected (findUser b number) o b) (findUser b number) (accountElected o (accountAt b (findUser b number)))
       w = fx .elects b g number o y mo d t r
+
       by-number : (x : Bool) → eqb number n ≡ x → {k : Option Ledger} {u : ℕ} → State b n k u → Moved b n k u (elect number o y mo d)
       by-number false other {k} {u} s =
           for-other b g n k u s (elect number o y mo d) (eq-eqb (electRefusal b number o y mo d) 0 r) other (w .1 .good)
@@ -157,24 +157,24 @@ module _ (fx : Effects) (b : List ℕ) (g : Good b) (n : ℕ) where
           (λ e p. p) (λ e p. refl)
 
   advance-moves : (number y r p e₁ e₂ : ℕ) → Typed (advance number y r p e₁ e₂) → advanceRefusal b number y r p e₁ e₂ ≡ 0 → {m : Option Ledger} {v : ℕ} → State b n m v
-    → Moved b n m v (advance number y r p e₁ e₂)
+      → Moved b n m v (advance number y r p e₁ e₂)
   unfolding refusalOf booked namedBy posted valueBy paidBy ledger.advanced
   advance-moves number y r p e₁ e₂ t z {m} {v} st =
       let w = fx .advances b g number y r p e₁ e₂ t z in
       let after = advanced (findUser b number) y r (paidBy b number y r p e₁ e₂) b in
       let by-number : (x : Bool) → eqb number n ≡ x → Moved b n m v (advance number y r p e₁ e₂) =
-            elim [
-              true ↦ λ own. own-case own (w .0) (w .1 .0) (w .1 .1) m v st
-            | false ↦ λ other.
-              for-other b g n m v st (advance number y r p e₁ e₂) (eq-eqb (advanceRefusal b number y r p e₁ e₂) 0 z) other (w .1 .1 .entry .good)
-              (state-kept b after (findUser b number) (w .1 .1 .entry .frame) g n (w .1 .1 .entry .users) (names-other b g number n (w .0) other) st)
-            ] in
+      elim [
+        | true ↦ λ own. own-case own (w .0) (w .1 .0) (w .1 .1) m v st
+        | false ↦ λ other.
+            for-other b g n m v st (advance number y r p e₁ e₂) (eq-eqb (advanceRefusal b number y r p e₁ e₂) 0 z) other (w .1 .1 .entry .good)
+            (state-kept b after (findUser b number) (w .1 .1 .entry .frame) g n (w .1 .1 .entry .users) (names-other b g number n (w .0) other) st)
+      ] in
       by-number (eqb number n) refl
     where
       own-case : eqb number n ≡ true → (findUser b number ≡ 0 → ⊥) → y ≡ accountAt b (findUser b number) .«open_year»
-        → NewAdvance b (advanced (findUser b number) y r (paidBy b number y r p e₁ e₂) b) (findUser b number)
+          → NewAdvance b (advanced (findUser b number) y r (paidBy b number y r p e₁ e₂) b) (findUser b number)
           (accountAdvanced r (paidBy b number y r p e₁ e₂) (accountAt b (findUser b number))) (advanceEntry b (findUser b number) y r (paidBy b number y r p e₁ e₂))
-        → (k : Option Ledger) (u : ℕ) → State b n k u → Moved b n k u (advance number y r p e₁ e₂)
+          → (k : Option Ledger) (u : ℕ) → State b n k u → Moved b n k u (advance number y r p e₁ e₂)
       own-case own there year w k u (unknown nobody) = absurd (names-own b g number n there own nobody)
       own-case own there year w k u (known {l} j h) =
           for-own b g n k u (known j h) (advance number y r p e₁ e₂) (eq-eqb (advanceRefusal b number y r p e₁ e₂) 0 z) own (w .entry .good) 0
@@ -187,20 +187,20 @@ module _ (fx : Effects) (b : List ℕ) (g : Good b) (n : ℕ) where
   close-moves s t z {m} {v} st =
       let w = fx .closes b g s t z in
       let by-number : (x : Bool) → eqb (sheetUser s) n ≡ x → Moved b n m v (close s) =
-            elim [
-              true ↦ λ own. own-case own (w .0) (w .1 .0) (w .1 .1 .0) (w .1 .1 .1 .0) (w .1 .1 .1 .1) m v st
-            | false ↦ λ other.
-              for-other b g n m v st (close s) (eq-eqb (closeRefusal b s) 0 z) other (w .1 .1 .1 .1 .entry .good)
-              (state-kept b (closed (findUser b (sheetUser s)) (valuesOf b s) b) (findUser b (sheetUser s)) (w .1 .1 .1 .1 .entry .frame) g n (w .1 .1 .1 .1 .entry .users)
-              (names-other b g (sheetUser s) n (w .0) other) st)
-            ] in
+      elim [
+        | true ↦ λ own. own-case own (w .0) (w .1 .0) (w .1 .1 .0) (w .1 .1 .1 .0) (w .1 .1 .1 .1) m v st
+        | false ↦ λ other.
+            for-other b g n m v st (close s) (eq-eqb (closeRefusal b s) 0 z) other (w .1 .1 .1 .1 .entry .good)
+            (state-kept b (closed (findUser b (sheetUser s)) (valuesOf b s) b) (findUser b (sheetUser s)) (w .1 .1 .1 .1 .entry .frame) g n (w .1 .1 .1 .1 .entry .users)
+            (names-other b g (sheetUser s) n (w .0) other) st)
+      ] in
       by-number (eqb (sheetUser s) n) refl
     where
       own-case : eqb (sheetUser s) n ≡ true → (findUser b (sheetUser s) ≡ 0 → ⊥) → sheetYear s ≡ accountAt b (findUser b (sheetUser s)) .«open_year»
-        → contribution (accountAt b (findUser b (sheetUser s))) s < 2 ^ 63 → accountAt b (findUser b (sheetUser s)) .advances .0 < 2 ^ 63
-        → NewClosing b (closed (findUser b (sheetUser s)) (valuesOf b s) b) (findUser b (sheetUser s))
+          → contribution (accountAt b (findUser b (sheetUser s))) s < 2 ^ 63 → accountAt b (findUser b (sheetUser s)) .advances .0 < 2 ^ 63
+          → NewClosing b (closed (findUser b (sheetUser s)) (valuesOf b s) b) (findUser b (sheetUser s))
           (accountClosed (valuesOf b s) (accountAt b (findUser b (sheetUser s)))) (closingEntry b (findUser b (sheetUser s)) (valuesOf b s))
-        → (k : Option Ledger) (u : ℕ) → State b n k u → Moved b n k u (close s)
+          → (k : Option Ledger) (u : ℕ) → State b n k u → Moved b n k u (close s)
       own-case own there year small field w k u (unknown nobody) = absurd (names-own b g (sheetUser s) n there own nobody)
       own-case own there year small field w k u (known {l} j h) =
           for-own b g n k u (known j h) (close s) (eq-eqb (closeRefusal b s) 0 z) own (w .entry .good) (sheetValue (l .details) s)
@@ -216,6 +216,7 @@ module _ (fx : Effects) (b : List ℕ) (g : Good b) (n : ℕ) where
       unmoved : (x : Bool) (k : Option Ledger) → cond x k k ≡ k
       unmoved true k = refl
       unmoved false k = refl
+
       nothing : (x : Bool) → cond {A = ℕ} x 0 0 ≡ 0
       nothing true = refl
       nothing false = refl
@@ -231,6 +232,7 @@ module _ (fx : Effects) (b : List ℕ) (g : Good b) (n : ℕ) where
       accepted (advance number y r p e₁ e₂) t z = advance-moves number y r p e₁ e₂ t (eqb-true (advanceRefusal b number y r p e₁ e₂) 0 z) st
       accepted (close s) t r = close-moves s t (eqb-true (closeRefusal b s) 0 r) st
       accepted (statement number) t r = statement-moves number r st
+
       by-answer : (x : Bool) → eqb (refusalOf b c) 0 ≡ x → Moved b n m v c
       by-answer true r = accepted c t r
       by-answer false r = refused b g n m v st c r

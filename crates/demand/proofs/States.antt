@@ -48,12 +48,12 @@ module _ (b b′ : List ℕ) (k : ℕ) (f : Frame b b′ k) (g : Good b) (n : �
         user = kind-stays b b′ k f userKind i u;
         number = f .number i u ∙ h .number;
         agrees = agrees-kept b b′ i i l (h .agrees) (account-kept b b′ k f (g .faultless) i u other) (items-kept b b′ k f (g .faultless) i u first) (paid-kept b b′ k f (g .faultless) i u first);
-        kept = h .kept
+        kept = h .kept;
       }
 
   -- a number that is not the booked user's, where every user was one before
   pub state-kept : {m : Option Ledger} {v : ℕ} → ((j : ℕ) → isUser b′ j ≡ true → isUser b j ≡ true) → (isUser b k ≡ true → numberOf b k ≡ n → ⊥)
-    → State b n m v → State b′ n m v
+      → State b n m v → State b′ n m v
   state-kept users other (unknown nobody) = unknown (λ j u e. nobody j (users j u) (sym (f .number j (users j u)) ∙ e))
   state-kept users other (known i h) =
       known i (held-kept i (λ same. other (subst (λ j. isUser b j ≡ true) same (h .user)) (subst (λ j. numberOf b j ≡ n) same (h .number))) h)

@@ -5,8 +5,8 @@ ghost use mathlib.Core.Bool.{cond, _&&_};
 ghost use lib.Dec.{eqb};
 ghost use Rattle.book.specs.Book.{isUser, numberOf};
 ghost use Rattle.calls.specs.Bookings.{findUser};
-
-use units::{RecordIndex, UserNumber};
+use units::RecordIndex;
+use units::UserNumber;
 
 fn is_named(book: &[u8], index: RecordIndex, number: UserNumber) -> bool
     ensures { λ r. ⌜ r ≡ (isUser (now (book .entry)) (index .0) && eqb (numberOf (now (book .entry)) (index .0)) (number .0)) ⌝ }

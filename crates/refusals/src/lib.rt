@@ -2,15 +2,20 @@
 ghost use mathlib.Core.Path.{_≡_};
 ghost use Rattle.calls.specs.Refusals.{refuse, hasRoom, dayAndOption, electionOpen, runOpen, orderFits, yearOpen};
 ghost use Rattle.refusals.specs.Objections.{enrolObjection, electObjection, advanceObjection, closeObjection};
-
 use account::Account;
-use units::{Rate, RecordIndex, UserNumber, WideKwh};
+use units::Rate;
+use units::RecordIndex;
+use units::UserNumber;
+use units::WideKwh;
 use values::Details;
 
 // The last year that an election's window, a run or a closing may name.
 const LAST_YEAR: u32 = 2099;
+
 const LAST_OPEN_YEAR: u16 = 2100;
+
 const MAX_PRICE: u64 = 500_000;
+
 const MAX_ESTIMATE: u64 = 360_000_000;
 
 fn refuse(fits: bool, number: u32, later: u32) -> u32
@@ -60,26 +65,60 @@ fn year_open(a: Account, year: u16) -> bool
 }
 
 // 4 5 3
-pub fn enrol_objection(number: UserNumber, user: RecordIndex, details: Details, option: u8, room: bool) -> u32
+pub fn enrol_objection(
+    number: UserNumber,
+    user: RecordIndex,
+    details: Details,
+    option: u8,
+    room: bool,
+) -> u32
     ensures { λ r. ⌜ r ≡ enrolObjection (number .0) (user .0) details option room ⌝ }
 {
     let free = !(number.0 == 0) & (user.0 == 0);
-    refuse(free, 4, refuse(book::details_fit(details, option), 5, refuse(room, 3, 0)))
+    refuse(
+        free,
+        4,
+        refuse(book::details_fit(details, option), 5, refuse(room, 3, 0)),
+    )
 }
 
 // 6 7 8
-pub fn elect_objection(user: RecordIndex, a: Account, option: u8, year: u32, month: u32, day: u32) -> u32
+pub fn elect_objection(
+    user: RecordIndex,
+    a: Account,
+    option: u8,
+    year: u32,
+    month: u32,
+    day: u32,
+) -> u32
     ensures { λ r. ⌜ r ≡ electObjection (user .0) a option year month day ⌝ }
 {
     let window = refuse(election_open(a, year, month, day), 8, 0);
-    refuse(!(user.0 == 0), 6, refuse(day_and_option(option, year, month, day), 7, window))
+    refuse(
+        !(user.0 == 0),
+        6,
+        refuse(day_and_option(option, year, month, day), 7, window),
+    )
 }
 
 // 6 9 10 3
-pub fn advance_objection(user: RecordIndex, a: Account, year: u32, run: u8, price: Rate, estimate1: WideKwh, estimate2: WideKwh, room: bool) -> u32
+pub fn advance_objection(
+    user: RecordIndex,
+    a: Account,
+    year: u32,
+    run: u8,
+    price: Rate,
+    estimate1: WideKwh,
+    estimate2: WideKwh,
+    room: bool,
+) -> u32
     ensures { λ r. ⌜ r ≡ advanceObjection (user .0) a year run (price .0) (estimate1 .0) (estimate2 .0) room ⌝ }
 {
-    let order = refuse(order_fits(price, estimate1, estimate2), 10, refuse(room, 3, 0));
+    let order = refuse(
+        order_fits(price, estimate1, estimate2),
+        10,
+        refuse(room, 3, 0),
+    );
     refuse(!(user.0 == 0), 6, refuse(run_open(a, year, run), 9, order))
 }
 
@@ -87,7 +126,11 @@ pub fn advance_objection(user: RecordIndex, a: Account, year: u32, run: u8, pric
 pub fn close_objection(s: &[u8], user: RecordIndex, a: Account, room: bool) -> u32
     ensures { λ r. ⌜ r ≡ closeObjection (now (s .entry)) (user .0) a room ⌝ }
 {
-    let excess = refuse(!sheet::domestic_excess(a.details.class, s), 14, refuse(room, 3, 0));
+    let excess = refuse(
+        !sheet::domestic_excess(a.details.class, s),
+        14,
+        refuse(room, 3, 0),
+    );
     let numbers = refuse(!sheet::number_wrong(s), 13, excess);
     let year = refuse(year_open(a, sheet::year(s)), 12, numbers);
     refuse(!sheet::header_wrong(s), 11, refuse(!(user.0 == 0), 6, year))

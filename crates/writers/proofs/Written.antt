@@ -11,9 +11,9 @@ use Rattle.book.specs.Book.{used, firstUser, nextOf}
 use Rattle.calls.specs.Bookings.{withEntry}
 
 pub entry-written : (b b₁ b₂ b₃ entry user head : List ℕ) (i new : ℕ) (a : Account) (next newest : RecordIndex)
-  → new ≡ used b → newest ≡ recordIndex (firstUser b) → next ≡ recordIndex (nextOf b i)
-  → b₁ ≡ putRecord new entry b → user ≡ userImage (record { next = next; first = recordIndex new; account = a })
-  → b₂ ≡ putRecord i user b₁ → head ≡ headImage (new + 1) (newest .0) → b₃ ≡ putRecord 0 head b₂
-  → b₃ ≡ withEntry i a entry b
+    → new ≡ used b → newest ≡ recordIndex (firstUser b) → next ≡ recordIndex (nextOf b i)
+    → b₁ ≡ putRecord new entry b → user ≡ userImage (record { next = next; first = recordIndex new; account = a })
+    → b₂ ≡ putRecord i user b₁ → head ≡ headImage (new + 1) (newest .0) → b₃ ≡ putRecord 0 head b₂
+    → b₃ ≡ withEntry i a entry b
 unfolding withEntry
 entry-written b b₁ b₂ b₃ entry user head i new a next newest u f n e₁ x e₂ h e₃ = rw (e₃, h, e₂, x, e₁, n, f, u)

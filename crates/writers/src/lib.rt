@@ -5,7 +5,6 @@ ghost use lib.ListN.{length};
 ghost use Rattle.layout.specs.Fields.{recordLength};
 ghost use Rattle.book.specs.Book.{used};
 ghost use Rattle.calls.specs.Bookings.{enrolledAs, withAccount, withEntry};
-
 use account::Account;
 use records::UserRecord;
 use units::RecordIndex;
@@ -17,7 +16,15 @@ pub fn write_account(book: &mut [u8], user: RecordIndex, account: Account)
 {
     let next = links::next_of(book, user);
     let first = links::first_entry_of(book, user);
-    layout::store(book, user, records::user_image(UserRecord { next, first, account }));
+    layout::store(
+        book,
+        user,
+        records::user_image(UserRecord {
+            next,
+            first,
+            account,
+        }),
+    );
 }
 
 // A new entry in front of a user's chain, and the user's account after it.
@@ -32,7 +39,15 @@ pub fn write_entry(book: &mut [u8], user: RecordIndex, account: Account, entry: 
     let next = links::next_of(book, user);
     let first = RecordIndex(new);
     layout::store(book, RecordIndex(new), entry);
-    layout::store(book, user, records::user_image(UserRecord { next, first, account }));
+    layout::store(
+        book,
+        user,
+        records::user_image(UserRecord {
+            next,
+            first,
+            account,
+        }),
+    );
     layout::store(book, RecordIndex(0), records::head_image(new + 1, newest));
 }
 
@@ -45,6 +60,18 @@ pub fn write_user(book: &mut [u8], account: Account)
     let new = links::used(book);
     let next = links::first_user(book);
     let first = RecordIndex(0);
-    layout::store(book, RecordIndex(new), records::user_image(UserRecord { next, first, account }));
-    layout::store(book, RecordIndex(0), records::head_image(new + 1, RecordIndex(new)));
+    layout::store(
+        book,
+        RecordIndex(new),
+        records::user_image(UserRecord {
+            next,
+            first,
+            account,
+        }),
+    );
+    layout::store(
+        book,
+        RecordIndex(0),
+        records::head_image(new + 1, RecordIndex(new)),
+    );
 }

@@ -17,7 +17,7 @@ use Rattle.lookup.proofs.find_user.Tie as tie
 
 -- one record more
 found-next : (b : List ℕ) (number i : ℕ) (found : RecordIndex) (t : Bool) → t ≡ (isUser b i && eqb (numberOf b i) number)
-  → found ≡ recordIndex (findBelow b number i) → cond t (recordIndex i) found ≡ recordIndex (findBelow b number (i + 1))
+    → found ≡ recordIndex (findBelow b number i) → cond t (recordIndex i) found ≡ recordIndex (findBelow b number (i + 1))
 unfolding findBelow
 found-next b number i found t e f = rw (add-one, e, f) (by-value (isUser b i && eqb (numberOf b i) number))
   where
@@ -52,14 +52,14 @@ loop-less : tie.Need-loop-less Inv-loop μ-loop
 loop-less c = search needs
 
 loop-again : tie.Need-loop-again Inv-loop μ-loop
-loop-again c = 
+loop-again c =
     let l = c .before .before .before .loop in
     let a = c .before .before .before .before .before .before .args in
     (search needs, c .choose .ensures ∙ found-next (now (a .book)) (a .number .0) (l .i) (l .found) (c .before .is-named .result) (c .before .is-named .ensures) (l .inv .1))
 
 returns : tie.Need-returns Inv-loop μ-loop
 unfolding findUser
-returns c = 
+returns c =
     let l = c .before .loop in
     let a = c .before .before .before .before .args in
     let all : l .i ≡ c .before .before .used .result = omega arith in

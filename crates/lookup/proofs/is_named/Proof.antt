@@ -14,7 +14,7 @@ number-of-requires : tie.Need-number-of-requires
 number-of-requires c κs = search needs
 
 returns : tie.Need-returns
-returns c = 
+returns c =
     let a = c .before .before .before .before .before .args in
     ap₂ (λ (t : Bool) (n : UserNumber). t && eqb (n .0) (a .number .0)) (c .before .before .before .is-user .ensures) (c .before .before .number-of .ensures)
 
