@@ -21,7 +21,9 @@ pub fn read_u16(s: &[u8], at: usize) -> u16
     requires { ⌜ at < 2 ^ 40 ⌝ }
     ensures { λ r. ⌜ r ≡ number 2 at (now (s .entry)) ⌝ }
 {
-    (wide(byte_at(s, at)) + wide(byte_at(s, at + 1)) * 256) as u16
+    let low = wide(byte_at(s, at));
+    let high = wide(byte_at(s, at + 1));
+    (low + high * 256) as u16
 }
 
 pub fn read_u32(s: &[u8], at: usize) -> u32

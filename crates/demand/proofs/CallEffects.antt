@@ -14,7 +14,8 @@ use Rattle.sheet.specs.YearSheet.{sheetUser, sheetYear, refused11, refused13, P
 use Rattle.calendar.specs.ElectionAndAdvances.{due, halvesPaid}
 use Rattle.values.specs.declared.Details.{Details}
 use Rattle.values.specs.declared.YearValues.{YearValues}
-use Rattle.values.specs.YearsValues.{ValuesFit, yearValues}
+use Rattle.values.specs.YearsValues.{yearValues}
+use Rattle.demand.proofs.Ranges.{values-fit}
 use Rattle.account.specs.declared.Account.{Account}
 use Rattle.account.specs.Account.{accountElected, accountAdvanced, accountClosed}
 use Rattle.account.proofs.Closing.{contribution-capped}
@@ -146,7 +147,7 @@ advances b g n y r p e₁ e₂ t z =
 passed : (s : List ℕ) → not (refused11 s) ≡ true → not (refused13 s) ≡ true → Passed s
 passed s p q = record { past11 = not-true (refused11 s) p; past13 = not-true (refused13 s) q }
 
-pub closes : ((s : List ℕ) → Passed s → (d : Details) → ValuesFit (yearValues s d)) → (b : List ℕ) → Good b → (s : List ℕ) → Typed (close s) → closeRefusal b s ≡ 0
+pub closes : (b : List ℕ) → Good b → (s : List ℕ) → Typed (close s) → closeRefusal b s ≡ 0
     → (findUser b (sheetUser s) ≡ 0 → ⊥)
     × ((sheetYear s ≡ accountAt b (findUser b (sheetUser s)) .«open_year»)
     × ((contribution (accountAt b (findUser b (sheetUser s))) s < 2 ^ 63)
@@ -154,11 +155,11 @@ pub closes : ((s : List ℕ) → Passed s → (d : Details) → ValuesFit (yearV
     × NewClosing b (closed (findUser b (sheetUser s)) (valuesOf b s) b) (findUser b (sheetUser s))
     (accountClosed (valuesOf b s) (accountAt b (findUser b (sheetUser s)))) (closingEntry b (findUser b (sheetUser s)) (valuesOf b s)))))
 unfolding closingEntry yearOpen valuesOf yearValues sheetValue sheetFlatRate
-closes fits b g s t z =
+closes b g s t z =
     let a = close-accepted b s z in
     let i = findUser b (sheetUser s) in
     let x = accountAt b i in
-    let values = fits s (passed s (a .header) (a .numbers)) (x .details) in
+    let values = values-fit s (passed s (a .header) (a .numbers)) (x .details) in
     let k = close-keeps b s (g .bytes) values z in
     let b′ = closed i (valuesOf b s) b in
     let year = eqb-true (sheetYear s) (x .«open_year») (and-left (eqb (sheetYear s) (x .«open_year»)) (leb (sheetYear s) lastActivation) (a .year)) in

@@ -1,3 +1,4 @@
+pub mod Ranges
 pub mod Agreement
 pub mod LedgerSteps
 pub mod Histories
@@ -9,3 +10,4 @@ pub mod OneCall
 pub mod Lists
 pub mod Undamaged
 pub mod CallEffects
+pub mod Theorem

@@ -11,7 +11,7 @@ use units::UserNumber;
 fn is_named(book: &[u8], index: RecordIndex, number: UserNumber) -> bool
     ensures { λ r. ⌜ r ≡ (isUser (now (book .entry)) (index .0) && eqb (numberOf (now (book .entry)) (index .0)) (number .0)) ⌝ }
 {
-    links::is_user(book, index) & (links::number_of(book, index).0 == number.0)
+    view::is_user(book, index) & (view::number_of(book, index).0 == number.0)
 }
 
 fn choose(test: bool, a: RecordIndex, b: RecordIndex) -> RecordIndex
@@ -25,7 +25,7 @@ pub fn find_user(book: &[u8], number: UserNumber) -> RecordIndex
     ensures { λ r. ⌜ r ≡ recordIndex (findUser (now (book .entry)) (number .0)) ⌝ }
 {
     let mut found = RecordIndex(0);
-    let end = links::used(book);
+    let end = view::used(book);
     for i in 0..end {
         let index = RecordIndex(i);
         found = choose(is_named(book, index, number), index, found);

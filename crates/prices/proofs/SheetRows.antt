@@ -16,12 +16,12 @@ use Rattle.sheet.proofs.Limits.{passed-energy, passed-price}
 use Rattle.prices.specs.Arrays.{energyRow, priceRow, RowFits, rowValue, EnergyRows, PriceRows, energyAt, priceAt}
 use Rattle.prices.specs.ValueAndCost.{bandPrice, singlePrice, costIn, costOf, valueIn, valueOf}
 
-band-price-fits : (s : List ℕ) → Passed s → (island : Bool) (m b : ℕ) → m < 12 → b < 3 → bandPrice s island m b ≤ maxPrice
+pub band-price-fits : (s : List ℕ) → Passed s → (island : Bool) (m b : ℕ) → m < 12 → b < 3 → bandPrice s island m b ≤ maxPrice
 unfolding bandPrice
 band-price-fits s h true m b hm hb = passed-price s (h .past13) m (6 + b) hm (omega arith) (omega arith)
 band-price-fits s h false m b hm hb = passed-price s (h .past13) m (10 + b) hm (omega arith) (omega arith)
 
-single-price-fits : (s : List ℕ) → Passed s → (island photovoltaic : Bool) (m : ℕ) → m < 12 → singlePrice s island photovoltaic m ≤ maxPrice
+pub single-price-fits : (s : List ℕ) → Passed s → (island photovoltaic : Bool) (m : ℕ) → m < 12 → singlePrice s island photovoltaic m ≤ maxPrice
 unfolding singlePrice
 single-price-fits s h true p m hm = passed-price s (h .past13) m 9 hm (lit≤ tt) (lit< tt)
 single-price-fits s h false true m hm = passed-price s (h .past13) m 14 hm (lit≤ tt) (lit< tt)

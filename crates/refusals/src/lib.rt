@@ -27,7 +27,7 @@ fn refuse(fits: bool, number: u32, later: u32) -> u32
 pub fn has_room(book: &[u8]) -> bool
     ensures { λ r. ⌜ r ≡ hasRoom (now (book .entry)) ⌝ }
 {
-    !(links::used(book) as usize == book.len() / 80)
+    !(view::used(book) as usize == book.len() / 80)
 }
 
 fn day_and_option(option: u8, year: u32, month: u32, day: u32) -> bool

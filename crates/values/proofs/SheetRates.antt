@@ -14,10 +14,8 @@ use Rattle.tariff.proofs.Rates.{mean-rate-capped, tier-rate-capped}
 use Rattle.sheet.specs.YearSheet.{word, net, system, Passed}
 use Rattle.sheet.proofs.Limits.{passed-price}
 use Rattle.values.specs.Arrays.{Rates}
-use Rattle.values.specs.YearsValues.{monthRate, annualRate}
 
-pub month-rate-capped : (s : List ℕ) → Passed s → (plant power m t : ℕ) → m < 12 → t < 4 → monthRate s plant power m t ≤ maxTierRate
-unfolding monthRate
+pub month-rate-capped : (s : List ℕ) → Passed s → (plant power m t : ℕ) → m < 12 → t < 4 → tierRate plant power (net s m t) (system s m t) ≤ maxTierRate
 month-rate-capped s h plant power m t hm ht =
     tier-rate-capped plant power maxPrice (passed-price s (h .past13) m (15 + t) hm (omega arith) (omega arith))
     (passed-price s (h .past13) m (19 + t) hm (omega arith) (omega arith))
@@ -29,8 +27,7 @@ mean-capped s h from n place hn hf lo hi =
     (sum-capped n maxPrice (λ i. word s (from + i) place) (λ i l. passed-price s (h .past13) (from + i) place (omega arith) lo hi))
 
 pub annual-rate-capped : (s : List ℕ) → Passed s → (plant power from n t : ℕ) → 0 < n → from + n ≤ 12 → t < 4
-    → annualRate s plant power from n t ≤ maxTierRate
-unfolding annualRate
+    → tierRate plant power (meanRate n (sumBelow n (λ i. net s (from + i) t))) (meanRate n (sumBelow n (λ i. system s (from + i) t))) ≤ maxTierRate
 annual-rate-capped s h plant power from n t hn hf ht =
     tier-rate-capped plant power maxPrice (mean-capped s h from n (15 + t) hn hf (omega arith) (omega arith))
     (mean-capped s h from n (19 + t) hn hf (omega arith) (omega arith))

@@ -14,8 +14,8 @@ pub fn write_account(book: &mut [u8], user: RecordIndex, account: Account)
     requires { ⌜ recordLength * user .0 + recordLength ≤ length (now book) ⌝ }
     ensures { λ _. ⌜ now (book .exit) ≡ withAccount (user .0) account (now (book .entry)) ⌝ }
 {
-    let next = links::next_of(book, user);
-    let first = links::first_entry_of(book, user);
+    let next = view::next_of(book, user);
+    let first = view::first_entry_of(book, user);
     layout::store(
         book,
         user,
@@ -34,9 +34,9 @@ pub fn write_entry(book: &mut [u8], user: RecordIndex, account: Account, entry: 
     requires { ⌜ (length entry ≡ recordLength) × (used (now book) + 1 < 2 ^ 32) ⌝ }
     ensures { λ _. ⌜ now (book .exit) ≡ withEntry (user .0) account entry (now (book .entry)) ⌝ }
 {
-    let new = links::used(book);
-    let newest = links::first_user(book);
-    let next = links::next_of(book, user);
+    let new = view::used(book);
+    let newest = view::first_user(book);
+    let next = view::next_of(book, user);
     let first = RecordIndex(new);
     layout::store(book, RecordIndex(new), entry);
     layout::store(
@@ -57,8 +57,8 @@ pub fn write_user(book: &mut [u8], account: Account)
     requires { ⌜ used (now book) + 1 < 2 ^ 32 ⌝ }
     ensures { λ _. ⌜ now (book .exit) ≡ enrolledAs account (now (book .entry)) ⌝ }
 {
-    let new = links::used(book);
-    let next = links::first_user(book);
+    let new = view::used(book);
+    let next = view::first_user(book);
     let first = RecordIndex(0);
     layout::store(
         book,

@@ -19,6 +19,7 @@ annual-rates-requires : tie.Need-annual-rates-requires
 annual-rates-requires c κs = search needs
 
 flat-rate-of-requires : tie.Need-flat-rate-of-requires
+unfolding annualRate
 flat-rate-of-requires c κs =
     let start = c .before .before .before in
     let a = start .args in

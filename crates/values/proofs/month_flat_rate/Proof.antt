@@ -19,6 +19,7 @@ month-rates-requires : tie.Need-month-rates-requires
 month-rates-requires c κs = search needs
 
 flat-rate-of-requires : tie.Need-flat-rate-of-requires
+unfolding monthRate
 flat-rate-of-requires c κs =
     let start = c .before .before .before in
     let a = start .args in

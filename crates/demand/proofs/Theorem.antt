@@ -1,0 +1,58 @@
+-- THE THIRD DEMAND: over every list of calls from a fresh book.
+use Prim.Native.Nat.{ℕ, zero, suc, _-_, _≤_, _<_}
+use mathlib.Core.Path.{_≡_, refl, sym, _∙_}
+use mathlib.Core.Bool.{Bool, true, false}
+use mathlib.Core.List.{List}
+use mathlib.Core.Option.{Option, none, some}
+use native.Mathlib.Omega.{arith}
+use lib.ListN.{length, getD, replicate}
+use Rattle.layout.specs.Fields.{userKind}
+use Rattle.layout.proofs.ByteRanges.{Bytes}
+use Rattle.book.specs.Book.{lengthFits, freshBook, isUser}
+use Rattle.book.proofs.Faultless.{kind-index}
+use Rattle.soundness.specs.Verdicts.{Accepted, freshAfter}
+use Rattle.soundness.proofs.FreshBooks.{fresh-accepted, used-fresh}
+use Rattle.ledger.specs.Ledger.{Ledger}
+use Rattle.calls.specs.Calls.{Call}
+use Rattle.bookings.proofs.Good.{Good, sound-good, length-within}
+use Rattle.demand.specs.Demand.{ledgerAfter, AllTyped, Demand, NeverDamaged}
+use Rattle.demand.proofs.CallEffects.{enrols, elects, advances, closes}
+use Rattle.demand.proofs.OneCall.{Effects}
+use Rattle.demand.proofs.Lists as lists
+use Rattle.demand.proofs.Undamaged as undamaged
+
+effects : Effects
+effects = record { enrols = enrols; elects = elects; advances = advances; closes = closes }
+
+zero-bytes : (n k : ℕ) → getD (replicate n 0) k 0 ≡ 0
+zero-bytes zero k = refl
+zero-bytes (suc n) zero = refl
+zero-bytes (suc n) (suc k) = zero-bytes n k
+
+fresh-bytes : (n : ℕ) → Bytes (freshBook n)
+unfolding freshBook
+fresh-bytes n zero = omega arith
+fresh-bytes n (suc k) = let z = zero-bytes (n - 1) k in omega arith
+
+module _ (b : List ℕ) (fits : lengthFits b ≡ true) where
+  fresh-good : Good (freshBook (length b))
+  unfolding freshAfter
+  fresh-good =
+      let kept = fresh-accepted b fits in
+      let after : Accepted (freshBook (length b)) = rw← fits kept in
+      sound-good (freshBook (length b)) (fresh-bytes (length b)) (after .fits) (after .isSound)
+
+  fresh-empty : (i : ℕ) → isUser (freshBook (length b)) i ≡ true → ⊥
+  fresh-empty i u =
+      let place = kind-index (freshBook (length b)) userKind i u in
+      let one = used-fresh (length b) (omega (arith, length-within b fits .0)) in
+      omega (arith, place .0, place .1 .0, one)
+
+  -- whatever is called, each user's statement is the ledger's, and the ledger's sums are right
+  pub third-demand : (cs : List Call) → AllTyped cs → (number : ℕ) (l : Ledger) → ledgerAfter number (freshBook (length b)) cs none ≡ some l
+      → Demand (freshBook (length b)) cs number l
+  third-demand cs typed number l fed = lists.demand effects number cs (freshBook (length b)) fresh-good fresh-empty typed l fed
+
+  -- and no call finds the book damaged
+  pub never-damaged : (cs : List Call) → AllTyped cs → NeverDamaged (freshBook (length b)) cs
+  never-damaged cs typed = undamaged.never-damaged effects cs (freshBook (length b)) fresh-good fresh-empty typed

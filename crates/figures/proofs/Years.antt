@@ -1,0 +1,38 @@
+-- The three years of figure (10) are within the ranges of a closing.
+use Prim.Native.Nat.{ℕ, _≤_, _<_}
+use native.Mathlib.Omega.{arith}
+use Rattle.values.specs.declared.YearValues.{YearValues}
+use Rattle.account.specs.declared.Account.{Account}
+use Rattle.account.specs.declared.Closed.{Closed}
+use Rattle.account.specs.Closing.{creditAfter}
+use Rattle.account.specs.Account.{accountElected, accountClosed, closedOf, InRange}
+use Rattle.figures.specs.Accounts.{opened, yearOf}
+
+pub first-in-range : InRange (yearOf 10 4) opened
+first-in-range =
+    record {
+      sums = record { value = omega arith; cost = omega arith; flatRate = omega arith; credit = omega arith };
+      year = omega arith;
+    }
+
+abbrev second : Account
+second = closedOf (yearOf 10 4) opened .account
+
+pub second-in-range : InRange (yearOf 3 5) second
+unfolding closedOf accountClosed creditAfter
+second-in-range =
+    record {
+      sums = record { value = omega arith; cost = omega arith; flatRate = omega arith; credit = omega arith };
+      year = omega arith;
+    }
+
+abbrev third : Account
+third = accountElected 1 (closedOf (yearOf 3 5) second .account)
+
+pub third-in-range : InRange (yearOf 9 2) third
+unfolding closedOf accountClosed accountElected creditAfter
+third-in-range =
+    record {
+      sums = record { value = omega arith; cost = omega arith; flatRate = omega arith; credit = omega arith };
+      year = omega arith;
+    }

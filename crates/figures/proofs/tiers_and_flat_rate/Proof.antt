@@ -1,0 +1,84 @@
+-- The tiers add up to the exchanged energy, and the four rates are within their limit.
+use Prim.Native.Nat.{ℕ, zero, suc, _≤_}
+use mathlib.Core.List.{[], _∷_}
+use native.Mathlib.Omega.{arith}
+use lib.ListN.{getD}
+use Rattle.units.specs.Units.{rate}
+use Rattle.units.specs.Limits.{maxTierRate}
+use borrow.Author.Needs.{needs}
+use Rattle.figures.proofs.tiers_and_flat_rate.Statement.{statement}
+use Rattle.figures.proofs.tiers_and_flat_rate.Tie as tie
+
+rates-fit : (t : ℕ) → getD (rate 3000 ∷ rate 4000 ∷ rate 6000 ∷ rate 7000 ∷ []) t (rate 0) .0 ≤ maxTierRate
+rates-fit zero = omega arith
+rates-fit (suc zero) = omega arith
+rates-fit (suc (suc zero)) = omega arith
+rates-fit (suc (suc (suc zero))) = omega arith
+rates-fit (suc (suc (suc (suc t)))) = omega arith
+
+smaller-requires : tie.Need-smaller-requires
+smaller-requires c κs = search needs
+
+annual-tiers-requires : tie.Need-annual-tiers-requires
+annual-tiers-requires c κs = search needs
+
+begin-requires : tie.Need-begin-requires
+begin-requires c κs = search needs
+
+array-copy-out-show-energy : tie.Need-array-copy-out-show-energy
+array-copy-out-show-energy c = search needs
+
+show-energy-requires : tie.Need-show-energy-requires
+show-energy-requires c κs = search needs
+
+array-copy-out-show-energy-2 : tie.Need-array-copy-out-show-energy-2
+array-copy-out-show-energy-2 c = search needs
+
+show-energy-requires-2 : tie.Need-show-energy-requires-2
+show-energy-requires-2 c κs = search needs
+
+array-copy-out-show-energy-3 : tie.Need-array-copy-out-show-energy-3
+array-copy-out-show-energy-3 c = search needs
+
+show-energy-requires-3 : tie.Need-show-energy-requires-3
+show-energy-requires-3 c κs = search needs
+
+array-copy-out-show-energy-4 : tie.Need-array-copy-out-show-energy-4
+array-copy-out-show-energy-4 c = search needs
+
+show-energy-requires-4 : tie.Need-show-energy-requires-4
+show-energy-requires-4 c κs = search needs
+
+end-requires : tie.Need-end-requires
+end-requires c κs = search needs
+
+flat-rate-of-requires : tie.Need-flat-rate-of-requires
+flat-rate-of-requires c κs =
+    let tiers = c .before .before .before .before .before .before .before .before .before .before in
+    (λ t l. rates-fit t, omega (arith, tiers .annual-tiers .ensures .1, tiers .before .smaller .ensures))
+
+line-requires : tie.Need-line-requires
+line-requires c κs = search needs
+
+returns : tie.Need-returns
+returns c = search needs
+
+pub tiers-and-flat-rate-spec : {M : Type 1} → statement M
+tiers-and-flat-rate-spec =
+    tie.close
+    (tie.spec
+    smaller-requires
+    annual-tiers-requires
+    begin-requires
+    array-copy-out-show-energy
+    show-energy-requires
+    array-copy-out-show-energy-2
+    show-energy-requires-2
+    array-copy-out-show-energy-3
+    show-energy-requires-3
+    array-copy-out-show-energy-4
+    show-energy-requires-4
+    end-requires
+    flat-rate-of-requires
+    line-requires
+    returns)

@@ -1,0 +1,24 @@
+-- The account and the years of figure (10), as the program holds them.
+use Prim.Native.Nat.{ℕ}
+use Rattle.units.specs.Units.{kwh, ticks, userNumber}
+use Rattle.values.specs.declared.YearValues.{YearValues}
+use Rattle.account.specs.declared.Account.{Account}
+
+-- an account on credit, before its first closing
+abbrev pub opened : Account
+opened =
+    record {
+      number = userNumber 7;
+      details = record { class = 1; plant = 1; power = 3000; year = 2014; month = 1; island = 0 };
+      option = 0;
+      «open_year» = 2014;
+      runs = 0;
+      credit = ticks 0;
+      advances = ticks 0;
+      half1 = kwh 0;
+      half2 = kwh 0;
+    }
+
+-- a year of C and O, with F 0
+abbrev pub yearOf : ℕ → ℕ → YearValues
+yearOf c o = record { value = ticks c; cost = ticks o; «flat_rate» = ticks 0; half1 = kwh 0; half2 = kwh 0 }

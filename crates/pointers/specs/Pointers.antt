@@ -1,0 +1,20 @@
+-- The pointers that each record holds, at most two: its next (the head's is the first user) and a user's first entry. 0 is no
+-- pointer, and a record of no known kind points nowhere.
+use Prim.Native.Nat.{ℕ}
+use mathlib.Core.Bool.{cond, not, _&&_, _||_}
+use mathlib.Core.List.{List}
+use lib.Dec.{eqb, ltb}
+use Rattle.layout.specs.Fields.{userKind, advanceKind, closingKind}
+use Rattle.book.specs.Book.{firstUser, kindAt, nextOf, firstEntryOf}
+
+-- "Records of 80 bytes, 2 to 800 of them"
+abbrev pub mostRecords : ℕ
+mostRecords = 800
+
+unfoldable pub nextPointer : List ℕ → ℕ → ℕ
+nextPointer b j =
+    cond (eqb j 0) (firstUser b)
+    (cond (eqb (kindAt b j) userKind || (eqb (kindAt b j) advanceKind || eqb (kindAt b j) closingKind)) (nextOf b j) 0)
+
+unfoldable pub firstPointer : List ℕ → ℕ → ℕ
+firstPointer b j = cond (ltb 0 j && eqb (kindAt b j) userKind) (firstEntryOf b j) 0

@@ -1,0 +1,99 @@
+-- Which records are faulty, case by case, and that a sound book is one without a faulty record.
+use Prim.Native.Nat.{ℕ, _+_, _*_, _/_, _%_, _≤_, _<_}
+use mathlib.Core.Path.{_≡_, refl, sym, ap, _∙_}
+use mathlib.Core.Bool.{Bool, true, false, cond, not, _&&_, true≢false}
+use mathlib.Core.List.{List}
+use native.Mathlib.Decide.{decLt}
+use native.Mathlib.Omega.{arith}
+use borrow.Author.Tests.{leb-true, lt-ltb, le-ltb, ne-eqb, eqb-true, not-true}
+use lib.Dec.{leb, ltb, eqb}
+use lib.ListN.{length}
+use Rattle.units.proofs.Bools.{and-left, and-right}
+use Rattle.units.proofs.Folds.{none-at, none-of, any-of}
+use Rattle.layout.specs.Fields.{recordLength, capacity}
+use Rattle.book.specs.Book.{lengthFits, used, usedFits, goodRecord, goodHead, faulty, sound}
+
+-- what a length that fits says
+module _ (b : List ℕ) (fits : lengthFits b ≡ true) where
+  within-length : (leb 160 (length b) && leb (length b) 64000) ≡ true
+  unfolding lengthFits
+  within-length = and-left (leb 160 (length b) && leb (length b) 64000) (eqb (length b % recordLength) 0) fits
+
+  pub length-least : 160 ≤ length b
+  length-least = leb-true 160 (length b) (and-left (leb 160 (length b)) (leb (length b) 64000) within-length)
+
+  pub length-most : length b ≤ 64000
+  length-most = leb-true (length b) 64000 (and-right (leb 160 (length b)) (leb (length b) 64000) within-length)
+
+  pub length-whole : length b % recordLength ≡ 0
+  unfolding lengthFits
+  length-whole = eqb-true (length b % recordLength) 0 (and-right (leb 160 (length b) && leb (length b) 64000) (eqb (length b % recordLength) 0) fits)
+
+  pub capacity-least : 2 ≤ capacity b
+  capacity-least = let l = length-least in omega arith
+
+  pub capacity-most : capacity b ≤ 800
+  capacity-most = let l = length-most in omega arith
+
+-- where u is outside 1 to capacity the head alone is faulty
+pub faulty-unfit : (b : List ℕ) (i : ℕ) → usedFits b ≡ false → faulty b i ≡ eqb i 0
+unfolding faulty
+faulty-unfit b i u = rw u
+
+module _ (b : List ℕ) (u : usedFits b ≡ true) where
+  pub used-least : 1 ≤ used b
+  unfolding usedFits
+  used-least = leb-true 1 (used b) (and-left (leb 1 (used b)) (leb (used b) (capacity b)) u)
+
+  pub used-most : used b ≤ capacity b
+  unfolding usedFits
+  used-most = leb-true (used b) (capacity b) (and-right (leb 1 (used b)) (leb (used b) (capacity b)) u)
+
+  pub faulty-head : faulty b 0 ≡ not (goodHead b)
+  unfolding faulty
+  faulty-head = rw (u, lt-ltb 0 (used b) used-least)
+
+  pub faulty-record : (i : ℕ) → 1 ≤ i → i < used b → faulty b i ≡ not (goodRecord b i)
+  unfolding faulty
+  faulty-record i p h = rw (u, lt-ltb i (used b) h, ne-eqb i 0 (omega arith))
+
+  pub faulty-past : (i : ℕ) → used b ≤ i → faulty b i ≡ false
+  unfolding faulty
+  faulty-past i h = rw (u, le-ltb i (used b) h)
+
+-- "A book is sound if no record is faulty."
+pub sound-faultless : (b : List ℕ) → sound b ≡ true → (i : ℕ) → i < capacity b → faulty b i ≡ false
+unfolding sound
+sound-faultless b s = none-at (capacity b) (faulty b) (not-true _ s)
+
+pub faultless-sound : (b : List ℕ) → ((i : ℕ) → i < capacity b → faulty b i ≡ false) → sound b ≡ true
+unfolding sound
+faultless-sound b h = rw (none-of (capacity b) (faulty b) h)
+
+-- a book is sound if u, the head and every other record are good
+pub good-sound : (b : List ℕ) → usedFits b ≡ true → goodHead b ≡ true → ((i : ℕ) → 1 ≤ i → i < used b → goodRecord b i ≡ true)
+    → sound b ≡ true
+good-sound b u head records = faultless-sound b (λ i _. by-index i (decLt i (used b)) (decLt 0 i))
+  where
+    by-index : (i : ℕ) → Dec (i < used b) → Dec (0 < i) → faulty b i ≡ false
+    by-index i (no past) d = faulty-past b u i (omega (arith, past))
+    by-index i (yes h) (yes p) = faulty-record b u i p h ∙ ap not (records i p h)
+    by-index i (yes h) (no z) = let e : i ≡ 0 = omega (arith, z) in rw e (faulty-head b u ∙ ap not head)
+
+-- a faulty record lies in the book, so that a book with one is not sound
+pub faulty-below : (b : List ℕ) → lengthFits b ≡ true → (i : ℕ) → faulty b i ≡ true → i < capacity b
+faulty-below b fits i f = by-used (usedFits b) refl
+  where
+    by-order : usedFits b ≡ true → Dec (i < used b) → i < capacity b
+    by-order u (yes h) = omega (arith, used-most b u)
+    by-order u (no past) = absurd (true≢false (sym f ∙ faulty-past b u i (omega (arith, past))))
+
+    by-used : (t : Bool) → usedFits b ≡ t → i < capacity b
+    by-used true u = by-order u (decLt i (used b))
+    by-used false u =
+        let z : i ≡ 0 = eqb-true i 0 (sym (faulty-unfit b i u) ∙ f) in
+        omega (arith, capacity-least b fits)
+
+pub faulty-not-sound : (b : List ℕ) → lengthFits b ≡ true → (i : ℕ) → faulty b i ≡ true → sound b ≡ false
+unfolding sound
+faulty-not-sound b fits i f = rw (any-of (capacity b) (faulty b) i (faulty-below b fits i f) f)

@@ -1,0 +1,86 @@
+-- Every record is judged at its home: a user at its own index, an entry at that of its owner, where that is a user with a
+-- smaller index. A record that has neither is faulty by itself.
+use Prim.Native.Nat.{ℕ, _+_, _≤_, _<_}
+use mathlib.Core.Path.{_≡_, refl, sym, ap, _∙_}
+use mathlib.Core.Bool.{Bool, true, false, not, _&&_, true≢false}
+use mathlib.Core.List.{List}
+use native.Mathlib.Omega.{arith}
+use borrow.Author.Count.{below-more}
+use borrow.Author.Tests.{eq-eqb}
+use lib.Dec.{eqb}
+use Rattle.units.proofs.Bools.{and-left, and-right, and-both}
+use Rattle.layout.specs.Fields.{userKind}
+use Rattle.book.specs.Book.{used, usedFits, isUser, isEntry, ownerOf, ownerFits, goodRecord, faulty}
+use Rattle.view.proofs.RecordKinds.{kind-from-one, kind-below, no-user, no-advance, no-closing}
+use Rattle.soundness.proofs.Faults.{faulty-record}
+use Rattle.soundness.proofs.GoodRecords.{owner-user, owner-before, ownerless-bad, unknown-bad}
+
+-- an entry of a user
+abbrev pub belongs : List ℕ → ℕ → ℕ → Bool
+belongs b user e = isEntry b e && eqb (ownerOf b e) user
+
+-- what the turn of index j has seen
+pub record Home (b : List ℕ) (j : ℕ) : Type 0 where
+  pub user : isUser b j ≡ true → goodRecord b j ≡ true
+  pub entries : isUser b j ≡ true → (e : ℕ) → j < e → e < used b → belongs b j e ≡ true → goodRecord b e ≡ true
+  pub owned : isUser b j ≡ false → (isEntry b j && ownerFits b j) ≡ true
+
+pub home-user : (b : List ℕ) (j : ℕ) → isUser b j ≡ true → goodRecord b j ≡ true
+    → ((e : ℕ) → j < e → e < used b → belongs b j e ≡ true → goodRecord b e ≡ true) → Home b j
+home-user b j u g es = record { user = λ _. g; entries = λ _. es; owned = λ n. absurd (true≢false (sym u ∙ n)) }
+
+pub home-other : (b : List ℕ) (j : ℕ) → isUser b j ≡ false → (isEntry b j && ownerFits b j) ≡ true → Home b j
+home-other b j n o =
+    record { user = λ u. absurd (true≢false (sym u ∙ n)); entries = λ u. absurd (true≢false (sym u ∙ n)); owned = λ _. o }
+
+-- where every index has had its turn, every record is good
+pub homes-good : (b : List ℕ) → ((j : ℕ) → 1 ≤ j → j < used b → Home b j) → (i : ℕ) → 1 ≤ i → i < used b → goodRecord b i ≡ true
+homes-good b homes i p h = by-user (isUser b i) refl
+  where
+    at-owner : isEntry b i ≡ true → isUser b (ownerOf b i) ≡ true → ownerOf b i < i → goodRecord b i ≡ true
+    at-owner e u l =
+        homes (ownerOf b i) (kind-from-one b userKind (ownerOf b i) u) (kind-below b userKind (ownerOf b i) u)
+        .entries u i l h (and-both e (eq-eqb (ownerOf b i) (ownerOf b i) refl))
+
+    by-user : (t : Bool) → isUser b i ≡ t → goodRecord b i ≡ true
+    by-user true u = homes i p h .user u
+    by-user false n =
+        let o = homes i p h .owned n in
+        let f = and-right (isEntry b i) (ownerFits b i) o in
+        at-owner (and-left (isEntry b i) (ownerFits b i) o) (owner-user b i f) (owner-before b i f)
+
+-- a record that is neither a user nor an entry of a user before it is not good
+pub stray-bad : (b : List ℕ) (i : ℕ) → 1 ≤ i → i < used b → isUser b i ≡ false → (isEntry b i && ownerFits b i) ≡ false
+    → goodRecord b i ≡ false
+stray-bad b i p h n o = by-tests (isEntry b i) (ownerFits b i) refl refl o
+  where
+    by-tests : (e f : Bool) → isEntry b i ≡ e → ownerFits b i ≡ f → (e && f) ≡ false → goodRecord b i ≡ false
+    by-tests true true q r z = absurd (true≢false z)
+    by-tests true false q r z = ownerless-bad b i (no-user b i p h n) r
+    by-tests false f q r z = unknown-bad b i (no-user b i p h n) (no-advance b i p h q) (no-closing b i p h q)
+
+-- one entry more, and one index more
+pub entries-next : (b : List ℕ) (user e : ℕ) → ((k : ℕ) → user < k → k < e → belongs b user k ≡ true → goodRecord b k ≡ true)
+    → (belongs b user e ≡ true → goodRecord b e ≡ true)
+    → (k : ℕ) → user < k → k < e + 1 → belongs b user k ≡ true → goodRecord b k ≡ true
+entries-next b user e before here k p h =
+    below-more (λ m. user < m → belongs b user m ≡ true → goodRecord b m ≡ true) e (λ m l q. before m q l) (λ _. here) k h p
+
+pub homes-next : (b : List ℕ) (i : ℕ) → ((j : ℕ) → 1 ≤ j → j < i → Home b j) → Home b i → (j : ℕ) → 1 ≤ j → j < i + 1 → Home b j
+homes-next b i before here j p h = below-more (λ m. 1 ≤ m → Home b m) i (λ m l q. before m q l) (λ _. here) j h p
+
+-- what the loops leave: no faulty record, or the index of one
+pub record Outcome (b : List ℕ) (bad : ℕ) : Type 0 where
+  pub none : bad ≡ 0 → (i : ℕ) → 1 ≤ i → i < used b → goodRecord b i ≡ true
+  pub some : (bad ≡ 0 → ⊥) → faulty b bad ≡ true
+
+pub outcome-none : (b : List ℕ) (bad n : ℕ) → bad ≡ 0 → used b ≤ n → ((j : ℕ) → 1 ≤ j → j < n → Home b j) → Outcome b bad
+outcome-none b bad n z l homes =
+    record { none = λ _. homes-good b (λ j p h. homes j p (omega arith)); some = λ f. absurd (f z) }
+
+pub outcome-some : (b : List ℕ) (bad i : ℕ) → usedFits b ≡ true → bad ≡ i → 1 ≤ i → i < used b → goodRecord b i ≡ false → Outcome b bad
+outcome-some b bad i u e p h g =
+    record {
+      none = λ z. let f : ⊥ = omega arith in absurd f;
+      some = λ _. rw e (faulty-record b u i p h ∙ ap not g);
+    }
