@@ -1,0 +1,66 @@
+-- How a call's answer comes about: by refusal 1 or 2, by a later refusal, or accepted.
+use Prim.Native.Nat.{ℕ}
+use mathlib.Core.Path.{_≡_, refl, sym, _∙_}
+use mathlib.Core.Bool.{Bool, true, false, cond}
+use mathlib.Core.List.{List}
+use native.Mathlib.Omega.{arith}
+use borrow.Author.Tests.{eq-eqb, ne-eqb}
+use lib.Dec.{eqb}
+use Rattle.book.specs.Book.{lengthFits, sound, faulty}
+use Rattle.soundness.specs.Verdicts.{Objected}
+use Rattle.soundness.proofs.Faults.{faulty-not-sound}
+use Rattle.calls.specs.Refusals.{enrolRefusal, electRefusal, advanceRefusal, closeRefusal, statementRefusal}
+use Rattle.calls.specs.Calls.{Call, enrol, elect, advance, close, statement, refusalOf, booked, bookAfter, Names}
+use Rattle.answers.specs.Answers.{Answered}
+
+module _ (b : List ℕ) (c : Call) where
+  left-as-found : (refusalOf b c ≡ 0 → ⊥) → bookAfter b c ≡ b
+  unfolding bookAfter
+  left-as-found refused = rw (ne-eqb (refusalOf b c) 0 refused)
+
+  -- a refusal other than 2 answers zero beside its number
+  pub refused : (answered n : ℕ) → n ≡ refusalOf b c → (n ≡ 0 → ⊥) → (n ≡ 2 → ⊥) → Answered b c answered n 0 b
+  refused answered n e some other =
+      record {
+        refusal-is = e;
+        names = record { damaged = λ two. absurd (other two); else = λ p. rw (ne-eqb n 0 some) };
+        book-is = sym (left-as-found (λ z. some (e ∙ z)));
+      }
+
+  pub accepted : (answered : ℕ) (after : List ℕ) → refusalOf b c ≡ 0 → after ≡ booked b c → Answered b c answered 0 answered after
+  unfolding bookAfter
+  accepted answered after e k =
+      record {
+        refusal-is = sym e;
+        names = record { damaged = λ two. let z : ⊥ = omega (arith, two) in absurd z; else = λ p. refl };
+        book-is = k ∙ rw (eq-eqb (refusalOf b c) 0 e);
+      }
+
+-- every call looks at 1 and 2 first
+length-refusal : (b : List ℕ) (c : Call) → lengthFits b ≡ false → refusalOf b c ≡ 1
+unfolding refusalOf enrolRefusal electRefusal advanceRefusal closeRefusal statementRefusal
+length-refusal b (enrol n d o) f = rw f
+length-refusal b (elect n o y m d) f = rw f
+length-refusal b (advance n y r p e₁ e₂) f = rw f
+length-refusal b (close s) f = rw f
+length-refusal b (statement n) f = rw f
+
+unsound-refusal : (b : List ℕ) (c : Call) → lengthFits b ≡ true → sound b ≡ false → refusalOf b c ≡ 2
+unfolding refusalOf enrolRefusal electRefusal advanceRefusal closeRefusal statementRefusal
+unsound-refusal b (enrol n d o) f u = rw (f, u)
+unsound-refusal b (elect n o y m d) f u = rw (f, u)
+unsound-refusal b (advance n y r p e₁ e₂) f u = rw (f, u)
+unsound-refusal b (close s) f u = rw (f, u)
+unsound-refusal b (statement n) f u = rw (f, u)
+
+pub refused-length : (b : List ℕ) (c : Call) (answered : ℕ) → lengthFits b ≡ false → Answered b c answered 1 0 b
+refused-length b c answered f = refused b c answered 1 (sym (length-refusal b c f)) (omega arith) (omega arith)
+
+pub refused-unsound : (b : List ℕ) (c : Call) (answered i : ℕ) → Objected b i → Answered b c answered 2 i b
+refused-unsound b c answered i o =
+    let two = unsound-refusal b c (o .fits) (faulty-not-sound b (o .fits) i (o .isFaulty)) in
+    record {
+      refusal-is = sym two;
+      names = record { damaged = λ e. o .isFaulty; else = λ other. absurd (other refl) };
+      book-is = sym (left-as-found b c (λ z. let w : ⊥ = omega (arith, two, z) in w));
+    }

@@ -1,0 +1,4 @@
+pub mod Digits
+pub mod HexDigits
+pub mod Fields
+pub mod HexTexts

@@ -1,0 +1,103 @@
+-- Each number passed stands at its place.
+use Prim.Native.Nat.{ℕ, _+_, _-_, _≤_, _<_}
+use mathlib.Core.Path.{_≡_, refl, ap, sym, _∙_}
+use native.Mathlib.Nat.{not-suc-le-zero}
+use native.Mathlib.Omega.{arith}
+use borrow.Author.Count.{below-more}
+use borrow.Author.Needs.{needs}
+use denote.Ref.{now}
+use lib.ListN.{length, getD, length-set}
+use lib.Seq.{getD-set-same, getD-set-other}
+use Rattle.text.specs.declared.Number.the-variants as number
+use Rattle.text.specs.Text.{fieldAt, afterFields}
+use Rattle.text.proofs.Fields.{Each, no-fields, field-more, each-more}
+use Rattle.text.proofs.fields_from.Statement.{statement}
+use Rattle.text.proofs.fields_from.Tie as tie
+
+abbrev Inv-loop : tie.InvT-loop
+Inv-loop s at count values₀ next₀ k₀ values next k =
+    ((k ≤ count) × (length values ≡ 8))
+    × (((at ≤ length s → next ≤ length s) × (next ≡ afterFields s at k))
+    × Each s at k values)
+
+abbrev μ-loop : tie.MeasureT-loop
+μ-loop s at count values₀ next₀ k₀ values next k = count - k
+
+loop-holds : tie.Need-loop-holds Inv-loop μ-loop
+loop-holds c = ((search needs, refl), ((λ h. h, no-fields (now (c .before .args .s)) (c .before .args .at)), λ j l. absurd (not-suc-le-zero l)))
+
+field-at-requires : tie.Need-field-at-requires Inv-loop μ-loop
+field-at-requires c κs = search needs
+
+enum-known-value : tie.Need-enum-known-value Inv-loop μ-loop
+enum-known-value c = search needs
+
+mul-values : tie.Need-mul-values Inv-loop μ-loop
+mul-values c = search needs
+
+array-write-values : tie.Need-array-write-values Inv-loop μ-loop
+array-write-values c = search needs
+
+enum-told : tie.Need-enum-told Inv-loop μ-loop
+enum-told c = search needs
+
+returns : tie.Need-returns Inv-loop μ-loop
+returns c =
+    let l = c .before .before .before .before .loop in
+    let field = c .before .before .field-at in
+    record {
+      most = search needs;
+      within = l .inv .1 .0 .0;
+      place = l .inv .1 .0 .1;
+      each = l .inv .1 .1;
+      stopped = λ m. sym (field .ensures .0) ∙ c .enum-told .given .1;
+    }
+
+add-k : tie.Need-add-k Inv-loop μ-loop
+add-k c = search needs
+
+loop-less : tie.Need-loop-less Inv-loop μ-loop
+loop-less c = search needs
+
+loop-again : tie.Need-loop-again Inv-loop μ-loop
+loop-again c =
+    let l = c .before .before .before .before .before .loop in
+    let a = c .before .before .before .before .before .before .before .args in
+    let s = now (a .s) in
+    let field = c .before .before .before .field-at in
+    let value = c .before .value .given .0 .0 in
+    let after = c .before .value .given .0 .1 .0 in
+    let read = sym (field .ensures .0) ∙ c .before .value .given .1 in
+    let place = l .inv .1 .0 .1 in
+    ((search needs, simp length-set (l .inv .0 .1)), ((λ h. rw (c .before .value .given .1) at (field .ensures .1), field-more s (a .at) (l .k) (l .next) value after place read), each-more s (a .at) (l .k) (l .next) value after place read (l .values) (search needs) (l .inv .1 .1)))
+
+returns-2 : tie.Need-returns-2 Inv-loop μ-loop
+returns-2 c =
+    let l = c .before .loop in
+    let a = c .before .before .before .args in
+    let end : l .k ≡ a .count = omega arith in
+    record {
+      most = search needs;
+      within = l .inv .1 .0 .0;
+      place = l .inv .1 .0 .1 ∙ ap (afterFields (now (a .s)) (a .at)) end;
+      each = λ j m. l .inv .1 .1 j (omega arith);
+      stopped = λ m. let z : ⊥ = omega arith in absurd z;
+    }
+
+pub fields-from-spec : {M : Type 1} → statement M
+fields-from-spec =
+    tie.close
+    (tie.spec
+    Inv-loop
+    μ-loop
+    loop-holds
+    field-at-requires
+    enum-known-value
+    mul-values
+    array-write-values
+    enum-told
+    returns
+    add-k
+    loop-less
+    loop-again
+    returns-2)

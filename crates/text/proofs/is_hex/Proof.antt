@@ -1,0 +1,76 @@
+-- The digits by a running test.
+use Prim.Native.Nat.{ℕ, _+_, _-_, _%_, _/_, _≤_, _<_}
+use mathlib.Core.Path.{_≡_, refl, ap, sym, _∙_}
+use native.Mathlib.Omega.{arith}
+use borrow.Author.Needs.{needs}
+use denote.Ref.{now}
+use lib.ListN.{length, getD, drop, length-drop}
+use lib.Seq.{getD-drop}
+use Rattle.units.specs.Folds.{allBelow}
+use Rattle.units.proofs.Folds.{all-zero, all-next}
+use Rattle.text.specs.Text.{isHexDigit, isHex}
+use Rattle.text.proofs.is_hex.Statement.{statement}
+use Rattle.text.proofs.is_hex.Tie as tie
+
+abbrev Inv-loop : tie.InvT-loop
+Inv-loop s at room digits all₀ i₀ all i =
+    (i ≤ digits) × (all ≡ allBelow i (λ j. isHexDigit (getD (drop at s) j 0)))
+
+abbrev μ-loop : tie.MeasureT-loop
+μ-loop s at room digits all₀ i₀ all i = digits - i
+
+rest-from-requires : tie.Need-rest-from-requires Inv-loop μ-loop
+rest-from-requires c κs = search needs
+
+loop-holds : tie.Need-loop-holds Inv-loop μ-loop
+loop-holds c = (search needs, sym (all-zero (λ j. isHexDigit (getD (drop (c .before .before .args .at) (now (c .before .before .args .s))) j 0))))
+
+add-byte-at : tie.Need-add-byte-at Inv-loop μ-loop
+add-byte-at c =
+    let a = c .before .before .before .before .args in
+    omega (arith, c .before .before .rest-from .ensures, length-drop (a .at) (now (a .s)))
+
+byte-at-requires : tie.Need-byte-at-requires Inv-loop μ-loop
+byte-at-requires c κs = search needs
+
+is-hex-digit-requires : tie.Need-is-hex-digit-requires Inv-loop μ-loop
+is-hex-digit-requires c κs = search needs
+
+add-i : tie.Need-add-i Inv-loop μ-loop
+add-i c = search needs
+
+loop-less : tie.Need-loop-less Inv-loop μ-loop
+loop-less c = search needs
+
+loop-again : tie.Need-loop-again Inv-loop μ-loop
+loop-again c =
+    let l = c .before .before .before .loop in
+    let a = c .before .before .before .before .before .before .args in
+    let s = now (a .s) in
+    (search needs, all-next (l .i) (λ j. isHexDigit (getD (drop (a .at) s) j 0)) (l .inv .1) (c .is-hex-digit .ensures ∙ ap isHexDigit (c .before .byte-at .ensures ∙ sym (getD-drop (a .at) s (l .i) 0))))
+
+returns : tie.Need-returns Inv-loop μ-loop
+unfolding isHex
+returns c =
+    let l = c .before .loop in
+    let a = c .before .before .before .before .args in
+    let t = drop (a .at) (now (a .s)) in
+    let count = c .before .before .rest-from .ensures in
+    let end : l .i ≡ length t = omega arith in
+    rw (count, l .inv .1 ∙ ap (λ (n : ℕ). allBelow n (λ j. isHexDigit (getD t j 0))) end)
+
+pub is-hex-spec : {M : Type 1} → statement M
+is-hex-spec =
+    tie.close
+    (tie.spec
+    Inv-loop
+    μ-loop
+    rest-from-requires
+    loop-holds
+    add-byte-at
+    byte-at-requires
+    is-hex-digit-requires
+    add-i
+    loop-less
+    loop-again
+    returns)

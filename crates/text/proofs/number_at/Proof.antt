@@ -1,0 +1,138 @@
+-- The digits passed and those to come are the digits at the place, and so are the numbers that they stand for.
+use Prim.Native.Nat.{ℕ, suc, _+_, _-_, _*_, _^_, _/_, _≤_, _<_}
+use mathlib.Core.Path.{_≡_, refl, ap, sym, _∙_}
+use mathlib.Core.Bool.{true, false}
+use native.Mathlib.Omega.{arith}
+use borrow.Author.Needs.{needs}
+use denote.Ref.{now}
+use lib.ListN.{length, getD, drop}
+use Rattle.text.specs.Text.{isDigit, digits, decimal}
+use Rattle.text.proofs.Digits.{digit-bounds, digit-inside, digits-more, decimal-more, digits-none, decimal-none, decimal-least, number-read, number-none, number-large}
+use Rattle.text.proofs.number_at.Statement.{statement}
+use Rattle.text.proofs.number_at.Tie as tie
+
+abbrev Inv-loop : tie.InvT-loop
+Inv-loop s at value₀ next₀ value next =
+    (((at ≤ next) × (value < 2 ^ 64)) × (at < next → next ≤ length s))
+    × ((next + digits (drop next s) ≡ at + digits (drop at s)) × (decimal value (drop next s) ≡ decimal 0 (drop at s)))
+
+abbrev μ-loop : tie.MeasureT-loop
+μ-loop s at value₀ next₀ value next = length s - next
+
+loop-holds : tie.Need-loop-holds Inv-loop μ-loop
+loop-holds c = (((search needs, search needs), λ l. omega arith), (refl, refl))
+
+byte-at-requires : tie.Need-byte-at-requires Inv-loop μ-loop
+byte-at-requires c κs = search needs
+
+is-digit-requires : tie.Need-is-digit-requires Inv-loop μ-loop
+is-digit-requires c κs = search needs
+
+byte-at-requires-2 : tie.Need-byte-at-requires-2 Inv-loop μ-loop
+byte-at-requires-2 c κs = search needs
+
+sub-digit : tie.Need-sub-digit Inv-loop μ-loop
+sub-digit c =
+    let t = c .before in
+    let l = t .before .before .before .loop in
+    let s = now (t .before .before .before .before .before .args .s) in
+    let at = t .before .before .before .before .before .args .at in
+    let d = sym (ap isDigit (t .before .before .byte-at .ensures)) ∙ sym (t .before .is-digit .ensures) ∙ t .if1 .taken in
+    omega (arith, digit-bounds (getD s (l .next) 0) d .0, c .byte-at2 .ensures)
+
+cast-digit : tie.Need-cast-digit Inv-loop μ-loop
+cast-digit c = search needs
+
+sub-if2 : tie.Need-sub-if2 Inv-loop μ-loop
+sub-if2 c = search needs
+
+returns : tie.Need-returns Inv-loop μ-loop
+returns c =
+    let t = c .before .before in
+    let l = t .before .before .before .loop in
+    let s = now (t .before .before .before .before .before .args .s) in
+    let at = t .before .before .before .before .before .args .at in
+    let d = sym (ap isDigit (t .before .before .byte-at .ensures)) ∙ sym (t .before .is-digit .ensures) ∙ t .if1 .taken in
+    let b = c .before .byte-at2 .ensures in
+    let more = decimal-more (l .value) s (l .next) d in
+    let least = decimal-least (l .value * 10 + (getD s (l .next) 0 - 48)) (drop (l .next + 1) s) in
+    (number-large s at (omega (arith, digit-bounds (getD s (l .next) 0) d .1, l .inv .1 .1)), tt)
+
+mul-value : tie.Need-mul-value Inv-loop μ-loop
+mul-value c = search needs
+
+add-value : tie.Need-add-value Inv-loop μ-loop
+add-value c = search needs
+
+add-next : tie.Need-add-next Inv-loop μ-loop
+add-next c =
+    let t = c .before .before in
+    let l = t .before .before .before .loop in
+    let s = now (t .before .before .before .before .before .args .s) in
+    let at = t .before .before .before .before .before .args .at in
+    let d = sym (ap isDigit (t .before .before .byte-at .ensures)) ∙ sym (t .before .is-digit .ensures) ∙ t .if1 .taken in
+    omega (arith, digit-inside s (l .next) d)
+
+loop-less : tie.Need-loop-less Inv-loop μ-loop
+loop-less c =
+    let t = c .before .before in
+    let l = t .before .before .before .loop in
+    let s = now (t .before .before .before .before .before .args .s) in
+    let at = t .before .before .before .before .before .args .at in
+    let d = sym (ap isDigit (t .before .before .byte-at .ensures)) ∙ sym (t .before .is-digit .ensures) ∙ t .if1 .taken in
+    omega (arith, digit-inside s (l .next) d)
+
+loop-again : tie.Need-loop-again Inv-loop μ-loop
+loop-again c =
+    let t = c .before .before in
+    let l = t .before .before .before .loop in
+    let s = now (t .before .before .before .before .before .args .s) in
+    let at = t .before .before .before .before .before .args .at in
+    let d = sym (ap isDigit (t .before .before .byte-at .ensures)) ∙ sym (t .before .is-digit .ensures) ∙ t .if1 .taken in
+    let inside = digit-inside s (l .next) d in
+    let b = c .before .byte-at2 .ensures in
+    let count = digits-more s (l .next) d in
+    (((search needs, omega arith), λ m. omega arith), (omega (arith, l .inv .1 .0), rw b (sym (decimal-more (l .value) s (l .next) d) ∙ l .inv .1 .1)))
+
+returns-2 : tie.Need-returns-2 Inv-loop μ-loop
+returns-2 c =
+    let t = c .before in
+    let l = t .before .before .before .loop in
+    let s = now (t .before .before .before .before .before .args .s) in
+    let at = t .before .before .before .before .before .args .at in
+    let d = sym (ap isDigit (t .before .before .byte-at .ensures)) ∙ sym (t .before .is-digit .ensures) ∙ t .if1 .left in
+    let none = digits-none s (l .next) d in
+    (number-none s at (omega (arith, l .inv .1 .0, c .if3 .taken)), tt)
+
+returns-3 : tie.Need-returns-3 Inv-loop μ-loop
+returns-3 c =
+    let t = c .before in
+    let l = t .before .before .before .loop in
+    let s = now (t .before .before .before .before .before .args .s) in
+    let at = t .before .before .before .before .before .args .at in
+    let d = sym (ap isDigit (t .before .before .byte-at .ensures)) ∙ sym (t .before .is-digit .ensures) ∙ t .if1 .left in
+    let none = digits-none s (l .next) d in
+    let more : at < l .next = omega (arith, c .if3 .left) in
+    (number-read s at (l .next) (l .value) more (l .inv .0 .0 .1) (omega (arith, l .inv .1 .0)) (sym (decimal-none (l .value) s (l .next) d) ∙ l .inv .1 .1), l .inv .0 .1 more)
+
+pub number-at-spec : {M : Type 1} → statement M
+number-at-spec =
+    tie.close
+    (tie.spec
+    Inv-loop
+    μ-loop
+    loop-holds
+    byte-at-requires
+    is-digit-requires
+    byte-at-requires-2
+    sub-digit
+    cast-digit
+    sub-if2
+    returns
+    mul-value
+    add-value
+    add-next
+    loop-less
+    loop-again
+    returns-2
+    returns-3)

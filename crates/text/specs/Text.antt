@@ -1,0 +1,125 @@
+-- What a text holds: decimal numbers, bytes in hexadecimal, lines. A text is a list of bytes in ASCII; a byte past its end
+-- reads as 0, which is no digit, no blank and no line feed.
+use Prim.Native.Nat.{ℕ, zero, suc, _+_, _-_, _*_, _^_, _/_, _%_, _≤_, _<_}
+use mathlib.Core.Path.{_≡_}
+use mathlib.Core.Bool.{Bool, true, false, cond, _&&_, _||_}
+use mathlib.Core.List.{List, [], _∷_}
+use lib.Dec.{leb, ltb, eqb}
+use lib.ListN.{length, getD, take, drop}
+use Rattle.units.specs.Folds.{allBelow}
+use Rattle.text.specs.declared.Number.{Number}
+use Rattle.text.specs.declared.Number.the-variants as number
+use Rattle.text.specs.declared.Numbers.{Numbers}
+use Rattle.text.specs.declared.Line.{Line}
+use Rattle.text.specs.declared.Bytes.{Bytes}
+use Rattle.text.specs.declared.Bytes.the-variants as bytes
+
+-- `0`–`9` and `a`–`f`, and what a digit stands for
+unfoldable pub isDigit : ℕ → Bool
+isDigit b = leb 48 b && leb b 57
+
+unfoldable pub isHexDigit : ℕ → Bool
+isHexDigit b = isDigit b || (leb 97 b && leb b 102)
+
+unfoldable pub hexDigit : ℕ → ℕ
+hexDigit b = cond (isDigit b) (b - 48) (b - 87)
+
+-- how many digits stand at the front of a text, and the number that they stand for after the digits of n
+unfoldable pub digits : List ℕ → ℕ
+digits [] = 0
+digits (b ∷ bs) = cond (isDigit b) (suc (digits bs)) 0
+
+unfoldable pub decimal : ℕ → List ℕ → ℕ
+decimal n [] = n
+decimal n (b ∷ bs) = cond (isDigit b) (decimal (n * 10 + (b - 48)) bs) n
+
+-- the number at a place, if a digit stands there and the number is below 2^64; and the number after one blank
+unfoldable pub numberAt : List ℕ → ℕ → Number
+numberAt s at =
+    cond (ltb 0 (digits (drop at s)) && ltb (decimal 0 (drop at s)) (2 ^ 64))
+    (number.Read (decimal 0 (drop at s)) (at + digits (drop at s)))
+    number.Missing
+
+abbrev pub isBlankAt : List ℕ → ℕ → Bool
+isBlankAt s at = eqb (getD s at 0) 32
+
+unfoldable pub afterBlank : List ℕ → ℕ → ℕ
+afterBlank s at = cond (isBlankAt s at) (at + 1) at
+
+unfoldable pub fieldAt : List ℕ → ℕ → Number
+fieldAt s at = cond (isBlankAt s at) (numberAt s (at + 1)) number.Missing
+
+-- the place after a number is within n bytes
+abbrev pub NextWithin : ℕ → Number → Type 0
+NextWithin n (number.Read value next) = next ≤ n
+NextWithin n number.Missing = Unit {0}
+
+-- the place after k numbers, each after one blank
+abbrev pub nextOf : ℕ → Number → ℕ
+nextOf at (number.Read value next) = next
+nextOf at number.Missing = at
+
+unfoldable pub afterFields : List ℕ → ℕ → ℕ → ℕ
+afterFields s at zero = at
+afterFields s at (suc k) = nextOf (afterFields s at k) (fieldAt s (afterFields s at k))
+
+-- the numbers that were read are those that stand there; where they are fewer than asked, none stands after them
+pub record FieldsRead (s : List ℕ) (at count : ℕ) (r : Numbers) : Type 0 where
+  pub most : r .count ≤ count
+  pub within : at ≤ length s → r .next ≤ length s
+  pub place : r .next ≡ afterFields s at (r .count)
+  pub each : (k : ℕ) → k < r .count → fieldAt s (afterFields s at k) ≡ number.Read (getD (r .values) k 0) (afterFields s at (k + 1))
+  pub stopped : r .count < count → fieldAt s (r .next) ≡ number.Missing
+
+-- a number below a bound, else 0
+abbrev pub narrow : ℕ → ℕ → ℕ
+narrow bound n = cond (ltb n bound) n 0
+
+-- the byte that the two digits at a place spell
+unfoldable pub hexByte : List ℕ → ℕ → ℕ
+hexByte s at = 16 * hexDigit (getD s at 0) + hexDigit (getD s (at + 1) 0)
+
+-- a text that is all hexadecimal digits, two for each byte, and spells at most `room` bytes
+unfoldable pub isHex : List ℕ → ℕ → Bool
+isHex t room = (eqb (length t % 2) 0 && leb (length t / 2) room) && allBelow (length t) (λ i. isHexDigit (getD t i 0))
+
+-- n bytes were read from t into a buffer: they stand at its front, and the rest of it stays
+pub record HexFilled (t before after : List ℕ) (n : ℕ) : Type 0 where
+  pub hex : isHex t (length before) ≡ true
+  pub count : length t ≡ 2 * n
+  pub room : n ≤ length after
+  pub same : length after ≡ length before
+  pub front : (i : ℕ) → i < n → getD after i 0 ≡ hexByte t (2 * i)
+  pub rest : (i : ℕ) → n ≤ i → getD after i 0 ≡ getD before i 0
+
+abbrev pub HexRead : List ℕ → List ℕ → List ℕ → Bytes → Type 0
+HexRead t before after (bytes.Read n) = HexFilled t before after n
+HexRead t before after bytes.Wrong = isHex t (length before) ≡ false
+
+-- the first line feed from a place on, or the end of the text where there is none
+pub record LineEnd (s : List ℕ) (from r : ℕ) : Type 0 where
+  pub within : r ≤ length s
+  pub after : from ≤ length s → from ≤ r
+  pub before : (k : ℕ) → from ≤ k → k < r → getD s k 0 ≡ 10 → ⊥
+  pub found : r < length s → getD s r 0 ≡ 10
+
+-- the bytes between two places stand at the front
+pub record RestKept (before : List ℕ) (from to : ℕ) (after : List ℕ) : Type 0 where
+  pub same : length after ≡ length before
+  pub front : (i : ℕ) → i < to - from → getD after i 0 ≡ getD before (from + i) 0
+
+-- a text that was read after what is kept: that stays
+pub record ReadOn (before : List ℕ) (kept r : ℕ) (after : List ℕ) : Type 0 where
+  pub most : r ≤ length after
+  pub least : kept ≤ r
+  pub same : length after ≡ length before
+  pub front : take kept after ≡ take kept before
+
+-- a line that is held: no line feed stands in it, and one stands before what comes after it
+pub record LineHeld (held : List ℕ) (r : Line) : Type 0 where
+  pub from : r .from ≤ r .to
+  pub to : r .to ≤ r .next
+  pub next : r .next ≤ r .filled
+  pub filled : r .filled ≤ length held
+  pub one : (k : ℕ) → r .from ≤ k → k < r .to → getD held k 0 ≡ 10 → ⊥
+  pub feed : r .to < r .next → getD held (r .to) 0 ≡ 10
