@@ -1,6 +1,6 @@
 -- THE THIRD DEMAND: over every list of calls from a fresh book.
 use Prim.Native.Nat.{ℕ, zero, suc, _-_, _≤_, _<_}
-use mathlib.Core.Path.{_≡_, refl, sym, _∙_}
+use mathlib.Core.Path.{_≡_, refl, subst}
 use mathlib.Core.Bool.{Bool, true, false}
 use mathlib.Core.List.{List}
 use mathlib.Core.Option.{Option, none, some}
@@ -24,7 +24,7 @@ use Rattle.demand.proofs.Undamaged as undamaged
 effects : Effects
 effects = record { enrols = enrols; elects = elects; advances = advances; closes = closes }
 
-zero-bytes : (n k : ℕ) → getD (replicate n 0) k 0 ≡ 0
+zero-bytes : (n k : ℕ) → _≡_ {A = ℕ} (getD (replicate n 0) k 0) 0
 zero-bytes zero k = refl
 zero-bytes (suc n) zero = refl
 zero-bytes (suc n) (suc k) = zero-bytes n k
@@ -35,11 +35,13 @@ fresh-bytes n zero = omega arith
 fresh-bytes n (suc k) = let z = zero-bytes (n - 1) k in omega arith
 
 module _ (b : List ℕ) (fits : lengthFits b ≡ true) where
-  fresh-good : Good (freshBook (length b))
+  after-fresh : freshAfter b ≡ freshBook (length b)
   unfolding freshAfter
+  after-fresh = rw fits
+
+  fresh-good : Good (freshBook (length b))
   fresh-good =
-      let kept = fresh-accepted b fits in
-      let after : Accepted (freshBook (length b)) = rw← fits kept in
+      let after = subst Accepted after-fresh (fresh-accepted b fits) in
       sound-good (freshBook (length b)) (fresh-bytes (length b)) (after .fits) (after .isSound)
 
   fresh-empty : (i : ℕ) → isUser (freshBook (length b)) i ≡ true → ⊥

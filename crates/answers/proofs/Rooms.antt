@@ -1,0 +1,39 @@
+-- In a sound book a user's record stands whole, and so does the next record where there is room.
+use Prim.Native.Nat.{ℕ, _+_, _*_, _^_, _≤_, _<_}
+use mathlib.Core.Path.{_≡_}
+use mathlib.Core.Bool.{Bool, true, false, not}
+use mathlib.Core.List.{List}
+use native.Mathlib.Omega.{arith}
+use borrow.Author.Tests.{eqb-false, not-true}
+use lib.Dec.{eqb}
+use lib.ListN.{length}
+use Rattle.layout.specs.Fields.{recordLength, userKind, capacity}
+use Rattle.book.specs.Book.{used, isUser}
+use Rattle.book.proofs.Faultless.{kind-index, used-within, sound-faultless}
+use Rattle.soundness.specs.Verdicts.{Accepted}
+use Rattle.bookings.proofs.Good.{length-within}
+use Rattle.calls.specs.Refusals.{refuse, hasRoom}
+
+module _ (b : List ℕ) (a : Accepted b) where
+  used-most : used b ≤ capacity b
+  used-most =
+      let from = length-within b (a .fits) .0 in
+      used-within b (sound-faultless b (omega arith) (a .isSound) .used-fits) .1
+
+  pub user-stands : (i : ℕ) → isUser b i ≡ true → recordLength * i + recordLength ≤ length b
+  user-stands i u = omega (arith, kind-index b userKind i u .1 .0, used-most)
+
+  pub room-stands : hasRoom b ≡ true → recordLength * used b + recordLength ≤ length b
+  unfolding hasRoom
+  room-stands h =
+      let other = eqb-false (used b) (capacity b) (not-true (eqb (used b) (capacity b)) h) in
+      let least : used b < capacity b = omega (arith, other, used-most) in
+      omega (arith, least)
+
+  pub used-small : used b + 1 < 2 ^ 32
+  used-small = omega (arith, used-most, length-within b (a .fits) .1)
+
+-- a refusal of another number
+pub refuse-apart : (fits : Bool) (k n later : ℕ) → (n ≡ k → ⊥) → (later ≡ k → ⊥) → refuse fits n later ≡ k → ⊥
+refuse-apart true k n later p q = q
+refuse-apart false k n later p q = p

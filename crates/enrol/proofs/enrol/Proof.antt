@@ -1,0 +1,67 @@
+use borrow.Author.Needs.{needs}
+use Rattle.enrol.proofs.enrol.Statement.{statement}
+use Rattle.enrol.proofs.enrol.Tie as tie
+use Rattle.enrol.proofs.enrol.Reads as reads
+use Rattle.enrol.proofs.enrol.Lts as lts
+use Rattle.enrol.proofs.enrol_sound.Reads as enrol-sound-reads
+use Rattle.soundness.proofs.check.Reads as check-reads
+
+-- src/lib.rt:56:11
+check-requires : tie.Need-check-requires
+check-requires c κs = search needs
+
+-- src/lib.rt:59:21
+enum-told : tie.Need-enum-told
+enum-told c = search needs
+
+-- src/lib.rt:61:25
+enum-known-index : tie.Need-enum-known-index
+enum-known-index c = search needs
+
+-- src/lib.rt:65:39
+enum-told-2 : tie.Need-enum-told-2
+enum-told-2 c = search needs
+
+-- src/lib.rt:65:27
+enrol-sound-requires : tie.Need-enrol-sound-requires
+enrol-sound-requires c κs = ?
+
+-- src/lib.rt:53:1
+same-length : tie.Need-same-length
+same-length c = search needs
+
+-- src/lib.rt:53:1
+returns : tie.Need-returns
+returns c = ?
+
+-- src/lib.rt:53:1
+same-length-2 : tie.Need-same-length-2
+same-length-2 c = search needs
+
+-- src/lib.rt:53:1
+returns-2 : tie.Need-returns-2
+returns-2 c = ?
+
+-- src/lib.rt:53:1
+same-length-3 : tie.Need-same-length-3
+same-length-3 c = search needs
+
+-- src/lib.rt:53:1
+returns-3 : tie.Need-returns-3
+returns-3 c = search needs
+
+pub enrol-spec : {M : Type 1} → statement M
+enrol-spec =
+    tie.close
+    (tie.spec
+    check-requires
+    enum-told
+    enum-known-index
+    enum-told-2
+    enrol-sound-requires
+    same-length
+    returns
+    same-length-2
+    returns-2
+    same-length-3
+    returns-3)
