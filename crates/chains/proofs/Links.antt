@@ -89,10 +89,11 @@ module _ (b : List ℕ) (f : Faultless b) where
   unfolding entryNextFits
   entry-next e h =
       let n = nextOf b e in
-      let owned = isEntry b n && eqb (ownerOf b n) (ownerOf b e) in
-      ⊎-map (eqb-true n 0)
-      (λ t. let o = and-left owned (ltb n e) t in
-      (record { entry = and-left (isEntry b n) (eqb (ownerOf b n) (ownerOf b e)) o; owner = eqb-true (ownerOf b n) (ownerOf b e) (and-right (isEntry b n) (eqb (ownerOf b n) (ownerOf b e)) o) }, ltb-true n e (and-right owned (ltb n e) t)))
+      let same = eqb (ownerOf b n) (ownerOf b e) in
+      let owned = isEntry b n && same in
+      let links : owned ≡ true → Owned b (ownerOf b e) n = λ o.
+      record { entry = and-left (isEntry b n) same o; owner = eqb-true (ownerOf b n) (ownerOf b e) (and-right (isEntry b n) same o) } in
+      ⊎-map (eqb-true n 0) (λ t. (links (and-left owned (ltb n e) t), ltb-true n e (and-right owned (ltb n e) t)))
       (or-cases (eqb n 0) (owned && ltb n e) (entry-links e h .next))
 
   -- "its owner is a user with a smaller index"

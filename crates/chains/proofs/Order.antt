@@ -23,6 +23,12 @@ pub data Ordered (b : List ℕ) (activation : ℕ) : ℕ → List ℕ → Type 0
   advance : {y e : ℕ} {es : List ℕ} → isAdvance b e ≡ true → rankOf b e ≡ y → Ordered b activation (rankOf b e) es → Ordered b activation y (e ∷ es)
   closing : {y e : ℕ} {es : List ℕ} → isClosing b e ≡ true → rankOf b e + 1 ≡ y → Ordered b activation (rankOf b e) es → Ordered b activation y (e ∷ es)
 
+-- an entry from the activation year to y, and a closing of a year before y
+pub record InYears (b : List ℕ) (activation y e : ℕ) : Type 0 where
+  pub since : activation ≤ rankOf b e
+  pub until : rankOf b e ≤ y
+  pub before : isClosing b e ≡ true → rankOf b e < y
+
 -- one for a closing
 unfoldable pub closingCount : List ℕ → ℕ → ℕ
 closingCount b e = cond (isClosing b e) 1 0
@@ -73,22 +79,21 @@ module _ (b : List ℕ) (activation : ℕ) where
   activation-first (advance a e o) = let t = activation-first o in omega arith
   activation-first (closing c e o) = let t = activation-first o in omega arith
 
-  -- no entry is of a later year than may stand there, and a closing is of an earlier one: years of closings fall
-  pub years-within : {y : ℕ} {es : List ℕ} → Ordered b activation y es → All (λ e. (activation ≤ rankOf b e) × (rankOf b e ≤ y)) es
+  later : (r y : ℕ) (es : List ℕ) → r ≤ y → All (InYears b activation r) es → All (InYears b activation y) es
+  later r y es l a =
+      all-map (InYears b activation r) (InYears b activation y) es
+      (λ e t. record { since = t .since; until = omega arith; before = λ c. let p = t .before c in omega arith }) a
+
+  -- so the years of closings fall along a chain
+  pub years-within : {y : ℕ} {es : List ℕ} → Ordered b activation y es → All (InYears b activation y) es
   years-within (nothing e) = tt
   years-within {y} (advance {e = k} {es = es} a e o) =
       let first = activation-first o in
-      ((omega arith, omega arith), all-map (λ j. (activation ≤ rankOf b j) × (rankOf b j ≤ rankOf b k)) (λ j. (activation ≤ rankOf b j) × (rankOf b j ≤ y)) es (λ j t. omega arith) (years-within o))
+      let none = kinds-apart b advanceKind closingKind k (λ p. omega arith) a in
+      (record { since = omega arith; until = omega arith; before = λ c. absurd (true≢false (sym c ∙ none)) }, later (rankOf b k) y es (omega arith) (years-within o))
   years-within {y} (closing {e = k} {es = es} c e o) =
       let first = activation-first o in
-      ((omega arith, omega arith), all-map (λ j. (activation ≤ rankOf b j) × (rankOf b j ≤ rankOf b k)) (λ j. (activation ≤ rankOf b j) × (rankOf b j ≤ y)) es (λ j t. omega arith) (years-within o))
-
-  pub closings-below : {y : ℕ} {es : List ℕ} → Ordered b activation y es → All (λ e. isClosing b e ≡ true → rankOf b e < y) es
-  closings-below (nothing e) = tt
-  closings-below {y} (advance {e = k} {es = es} a e o) =
-      (λ c. absurd (true≢false (sym c ∙ kinds-apart b advanceKind closingKind k (λ p. omega arith) a)), all-map (λ j. isClosing b j ≡ true → rankOf b j < rankOf b k) (λ j. isClosing b j ≡ true → rankOf b j < y) es (λ j h c. let t = h c in omega arith) (closings-below o))
-  closings-below {y} (closing {e = k} {es = es} c e o) =
-      (λ p. omega arith, all-map (λ j. isClosing b j ≡ true → rankOf b j < rankOf b k) (λ j. isClosing b j ≡ true → rankOf b j < y) es (λ j h p. let t = h p in omega arith) (closings-below o))
+      (record { since = omega arith; until = omega arith; before = λ p. omega arith }, later (rankOf b k) y es (omega arith) (years-within o))
 
   -- a closing for every closed year
   pub closings-counted : {y : ℕ} {es : List ℕ} → Ordered b activation y es → activation + sumOver (closingCount b) es ≡ y

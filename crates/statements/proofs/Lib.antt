@@ -1,4 +1,5 @@
 pub mod Bits
 pub mod Steps
+pub mod Joins
 pub mod Toward
 pub mod Walk

@@ -2,11 +2,11 @@
 -- at the end the statement.
 use Prim.Native.Nat.{ℕ, _+_, _*_, _^_, _≤_, _<_}
 use mathlib.Core.Path.{_≡_, sym, ap, _∙_}
-use mathlib.Core.Bool.{Bool, true, cond}
+use mathlib.Core.Bool.{true}
 use mathlib.Core.List.{List, [], _∷_}
 use native.Mathlib.Omega.{arith}
 use lib.Dec.{ltb}
-use lib.IntN.{ℤ, pos, negsuc, natAbs, _+ℤ_, +ℤ-assoc, +ℤ-idl, +ℤ-idr}
+use lib.IntN.{ℤ, pos, negsuc, natAbs, _+ℤ_, +ℤ-assoc, +ℤ-idr}
 use lib.Signed.{mag}
 use mir.Syntax.{w64}
 use mir.Val.{ofZ, toZ}
@@ -14,17 +14,17 @@ use mir.Facts.{ofZ-toZ, fits-ofZ}
 use Rattle.units.specs.Units.{ticks}
 use Rattle.units.specs.Limits.{maxContribution}
 use Rattle.account.proofs.Balances.{signed-back}
-use Rattle.layout.specs.Fields.{recordAt, advanceKind, closingKind}
+use Rattle.layout.specs.Fields.{recordAt}
 use Rattle.records.specs.declared.AdvanceRecord.{AdvanceRecord}
 use Rattle.records.specs.declared.ClosingRecord.{ClosingRecord}
 use Rattle.records.specs.Records.{advanceIn, closingIn}
 use Rattle.book.specs.Book.{isAdvance, isClosing}
 use Rattle.ledger.specs.Ledger.{Statement}
 use Rattle.chains.specs.Statements.{closingPart, advancePart, balancePart, sumOver, sumOverℤ}
-use Rattle.chains.proofs.Links.{kinds-apart}
 use Rattle.chains.proofs.Sums.{size-before, size-of-sum}
 use Rattle.chains.proofs.Ranges.{mostYears}
 use Rattle.chains.proofs.Fit.{SumsFit}
+use Rattle.statements.proofs.Joins.{closing-joins, closing-passes, balance-part, advance-joins, advance-passes, advance-keeps-balance}
 use Rattle.statements.specs.declared.Sums.{Sums}
 use Rattle.statements.specs.Walk.{sumsOf, closingAdded, advanceAdded, ClosingRoom, AdvanceRoom}
 
@@ -43,46 +43,6 @@ pub record Toward (b : List ℕ) (whole : Statement) (es : List ℕ) (s : Sums) 
   pub advances : s .advances .0 + sumOver (advancePart (λ y. true) b) es ≡ whole .advances
   pub closedAdvances : s .«closed_advances» .0 + sumOver (advancePart (λ y. ltb y (whole .openYear)) b) es ≡ whole .closedAdvances
 
--- ONE SUM
-module _ (b : List ℕ) (e : ℕ) (es : List ℕ) where
-  -- a closing joins the sums over closings and passes those over advances
-  module _ (closing : isClosing b e ≡ true) where
-    closing-joins : (g : ClosingRecord → ℕ) (x w : ℕ) → x + sumOver (closingPart g b) (e ∷ es) ≡ w → x + g (closingIn (recordAt b e)) + sumOver (closingPart g b) es ≡ w
-    unfolding sumOver closingPart
-    closing-joins g x w h = let t : x + (g (closingIn (recordAt b e)) + sumOver (closingPart g b) es) ≡ w = rw closing at h in omega arith
-
-    closing-passes : (p : ℕ → Bool) (x w : ℕ) → x + sumOver (advancePart p b) (e ∷ es) ≡ w → x + sumOver (advancePart p b) es ≡ w
-    unfolding sumOver advancePart
-    closing-passes p x w h =
-        let t : x + (0 + sumOver (advancePart p b) es) ≡ w = rw (kinds-apart b closingKind advanceKind e (λ q. omega arith) closing) at h in omega arith
-
-    balance-part : balancePart b e ≡ toZ w64 (closingIn (recordAt b e) .balance .0)
-    unfolding balancePart
-    balance-part = rw closing
-
-  -- an advance the other way round
-  module _ (advance : isAdvance b e ≡ true) where
-    advance-joins : (p : ℕ → Bool) (x w : ℕ) → x + sumOver (advancePart p b) (e ∷ es) ≡ w
-        → x + cond (p (advanceIn (recordAt b e) .year)) (advanceIn (recordAt b e) .ticks .0) 0 + sumOver (advancePart p b) es ≡ w
-    unfolding sumOver advancePart
-    advance-joins p x w h =
-        let t : x + (cond (p (advanceIn (recordAt b e) .year)) (advanceIn (recordAt b e) .ticks .0) 0 + sumOver (advancePart p b) es) ≡ w = rw advance at h in omega arith
-
-    advance-passes : (g : ClosingRecord → ℕ) (x w : ℕ) → x + sumOver (closingPart g b) (e ∷ es) ≡ w → x + sumOver (closingPart g b) es ≡ w
-    unfolding sumOver closingPart
-    advance-passes g x w h =
-        let t : x + (0 + sumOver (closingPart g b) es) ≡ w = rw (kinds-apart b advanceKind closingKind e (λ q. omega arith) advance) at h in omega arith
-
-    no-balance : balancePart b e ≡ pos 0
-    unfolding balancePart
-    no-balance = rw (kinds-apart b advanceKind closingKind e (λ q. omega arith) advance)
-
-    advance-keeps-balance : (x w : ℤ) → x +ℤ sumOverℤ (balancePart b) (e ∷ es) ≡ w → x +ℤ sumOverℤ (balancePart b) es ≡ w
-    unfolding sumOverℤ
-    advance-keeps-balance x w h =
-        let rest = sumOverℤ (balancePart b) es in
-        ap (λ z. x +ℤ z) (sym (ap (λ z. z +ℤ rest) no-balance ∙ +ℤ-idl rest)) ∙ h
-
 -- THE NEXT ENTRY
 mag-size : (z : ℤ) → mag z ≤ natAbs z
 mag-size (pos n) = omega arith
@@ -93,7 +53,7 @@ unfolding sumOver
 fewer-sizes f e es cap h = omega arith
 
 module _ (b : List ℕ) (whole : Statement) (e : ℕ) (es : List ℕ) (s : Sums) (fit : SumsFit whole) (t : Toward b whole (e ∷ es) s) where
-  abbrev sizes-left : sumOver (λ k. natAbs (balancePart b k)) es ≤ maxContribution * mostYears
+  sizes-left : sumOver (λ k. natAbs (balancePart b k)) es ≤ maxContribution * mostYears
   sizes-left = fewer-sizes (λ k. natAbs (balancePart b k)) e es (maxContribution * mostYears) (t .sizes)
 
   module _ (closing : isClosing b e ≡ true) where

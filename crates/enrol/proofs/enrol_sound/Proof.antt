@@ -1,3 +1,6 @@
+-- As the objection says.
+use denote.Ref.{now}
+use Rattle.enrol.proofs.Enrolling.{enrol-refused, enrol-booked, enrol-room}
 use borrow.Author.Needs.{needs}
 use Rattle.enrol.proofs.enrol_sound.Statement.{statement}
 use Rattle.enrol.proofs.enrol_sound.Tie as tie
@@ -32,7 +35,14 @@ new-account-requires c κs = search needs
 
 -- src/lib.rt:43:9
 write-user-requires : tie.Need-write-user-requires
-write-user-requires c κs = ?
+write-user-requires c κs =
+    let s = c .before .before .before .before .before .before .before .before .before .before .before in
+    let a = s .args in
+    let b = now (a .book) in
+    let found = c .before .before .before .before .before .before .before .before .find-user in
+    let left = c .before .before .before .before .before .before .has-room in
+    let judged = c .before .before .before .before .before .enrol-objection in
+    enrol-room b (s .pre) (a .number .0) (a .details) (a .option) (found .result) (left .result) (found .ensures) (left .ensures) (judged .result) (judged .ensures) (c .before .before .before .before .if1 .taken)
 
 -- src/lib.rt:44:9
 same-length : tie.Need-same-length
@@ -40,7 +50,14 @@ same-length c = search needs
 
 -- src/lib.rt:44:9
 returns : tie.Need-returns
-returns c = ?
+returns c =
+    let s = c .before .before .before .before .before .before .before .before .before .before .before .before .before .before in
+    let a = s .args in
+    let b = now (a .book) in
+    let found = c .before .before .before .before .before .before .before .before .before .before .before .find-user in
+    let left = c .before .before .before .before .before .before .before .before .before .has-room in
+    let judged = c .before .before .before .before .before .before .before .before .enrol-objection in
+    enrol-booked b (s .pre) (a .number .0) (a .details) (a .option) (found .result) (left .result) (found .ensures) (left .ensures) (judged .result) (judged .ensures) (c .before .before .before .before .before .before .before .if1 .taken) (c .before .before .before .before .before .used .result) (c .before .before .before .before .before .used .ensures) (c .before .before .before .new-account .result) (c .before .before .before .new-account .ensures) _ (c .before .before .write-user .ensures)
 
 -- src/lib.rt:34:1
 same-length-2 : tie.Need-same-length-2
@@ -48,7 +65,14 @@ same-length-2 c = search needs
 
 -- src/lib.rt:34:1
 returns-2 : tie.Need-returns-2
-returns-2 c = ?
+returns-2 c =
+    let s = c .before .before .before .before .before .before .before in
+    let a = s .args in
+    let b = now (a .book) in
+    let found = c .before .before .before .before .find-user in
+    let left = c .before .before .has-room in
+    let judged = c .before .enrol-objection in
+    enrol-refused b (s .pre) (a .number .0) (a .details) (a .option) (found .result) (left .result) (found .ensures) (left .ensures) (judged .result) (judged .ensures) (c .if1 .left)
 
 pub enrol-sound-spec : {M : Type 1} → statement M
 enrol-sound-spec =

@@ -9,7 +9,10 @@ wrapping-add-u64-requires : tie.Need-wrapping-add-u64-requires
 wrapping-add-u64-requires c κs = search needs
 
 returns : tie.Need-returns
-returns c = ap (λ n. record { 0 = n }) (c .wrapping-add-u64 .ensures ∙ wrapped-sum _ _ (search needs) (search needs) (c .before .pre))
+returns c =
+    let a = c .before .args in
+    ap (λ n. record { 0 = n })
+    (c .wrapping-add-u64 .ensures ∙ wrapped-sum (a .a .0) (a .b .0) (search needs) (search needs) (c .before .pre))
 
 pub joined-spec : {M : Type 1} → statement M
 joined-spec = tie.close (tie.spec wrapping-add-u64-requires returns)

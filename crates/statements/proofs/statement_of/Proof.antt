@@ -1,6 +1,7 @@
 -- The walk of `Walk`: it begins with all entries ahead, each turn adds one, and the measure is the index.
-use Prim.Native.Nat.{_<_}
+use Prim.Native.Nat.{ℕ, _<_}
 use mathlib.Core.Path.{_≡_, ap, sym, subst, subst₂, _∙_}
+use mathlib.Core.List.{List}
 use denote.Ref.{now}
 use Rattle.layout.specs.Fields.{get, firstEntryField}
 use Rattle.records.specs.Records.{accountIn}
@@ -29,22 +30,31 @@ sums-before-requires c κs = search needs
 first-entry-of-requires : tie.Need-first-entry-of-requires Inv-loop μ-loop
 first-entry-of-requires c κs = search needs
 
-sums-begin : (c : tie.After-first-entry-of Inv-loop μ-loop) → c .before .sums-before .result ≡ sumsBefore (accountAt (now (c .before .before .before .before .before .args .book)) (c .before .before .before .before .before .args .user .0))
+-- where the loop begins: the function's start, the sums and the index
+abbrev Begun : Type 0
+Begun = tie.After-first-entry-of Inv-loop μ-loop
+
+abbrev book-of : Begun → List ℕ
+book-of c = now (c .before .before .before .before .before .args .book)
+
+abbrev user-of : Begun → ℕ
+user-of c = c .before .before .before .before .before .args .user .0
+
+sums-begin : (c : Begun) → c .before .sums-before .result ≡ sumsBefore (accountAt (book-of c) (user-of c))
 sums-begin c =
     c .before .sums-before .ensures
     ∙ ap sumsBefore (c .before .before .read-account .ensures ∙ ap accountIn (c .before .before .before .record .ensures))
 
-index-begins : (c : tie.After-first-entry-of Inv-loop μ-loop) → c .first-entry-of .result .0 ≡ firstEntryOf (now (c .before .before .before .before .before .args .book)) (c .before .before .before .before .before .args .user .0)
+index-begins : (c : Begun) → c .first-entry-of .result .0 ≡ firstEntryOf (book-of c) (user-of c)
 unfolding firstEntryOf
 index-begins c =
     ap (λ k. k .0) (c .first-entry-of .ensures) ∙ ap (get firstEntryField) (c .before .before .before .record .ensures)
 
 loop-holds : tie.Need-loop-holds Inv-loop μ-loop
 loop-holds c =
-    let start = c .before .before .before .before .before in
-    let b = now (start .args .book) in
-    subst₂ (λ s k. Walking b s k s k) (sym (sums-begin c)) (sym (index-begins c))
-    (begins b (start .args .user .0) (start .pre .0) (start .pre .1 .0) (start .pre .1 .1))
+    let given = c .before .before .before .before .before .pre in
+    subst₂ (λ s k. Walking (book-of c) s k s k) (sym (sums-begin c)) (sym (index-begins c))
+    (begins (book-of c) (user-of c) (given .0) (given .1 .0) (given .1 .1))
 
 link-at-requires : tie.Need-link-at-requires Inv-loop μ-loop
 link-at-requires c κs = search needs
@@ -53,9 +63,10 @@ with-entry-requires : tie.Need-with-entry-requires Inv-loop μ-loop
 unfolding linkAt
 with-entry-requires c κs =
     let l = c .before .before .before .loop in
-    let b = now (c .before .before .before .before .before .before .before .before .before .args .book) in
-    let s = c .before .before .before .before .before .sums-before .result in
-    let f = c .before .before .before .before .first-entry-of .result .0 in (
+    let first = c .before .before .before .before in
+    let b = book-of first in
+    let s = first .before .sums-before .result in
+    let f = first .first-entry-of .result .0 in (
       entry-here b s f (l .sums) (l .at .0) (l .inv) (c .before .if1 .taken),
       (
         ap (λ k. k .kind) (c .link-at .ensures),
@@ -67,9 +78,10 @@ loop-less : tie.Need-loop-less Inv-loop μ-loop
 unfolding linkAt
 loop-less c =
     let l = c .before .before .before .before .before .loop in
-    let b = now (c .before .before .before .before .before .before .before .before .before .before .before .args .book) in
-    let s = c .before .before .before .before .before .before .before .sums-before .result in
-    let f = c .before .before .before .before .before .before .first-entry-of .result .0 in
+    let first = c .before .before .before .before .before .before in
+    let b = book-of first in
+    let s = first .before .sums-before .result in
+    let f = first .first-entry-of .result .0 in
     subst (λ k. k < l .at .0) (sym (ap (λ k. k .next .0) (c .before .before .link-at .ensures)))
     (next-falls b s f (l .sums) (l .at .0) (l .inv) (c .before .before .before .if1 .taken))
 
@@ -77,9 +89,10 @@ loop-again : tie.Need-loop-again Inv-loop μ-loop
 unfolding linkAt
 loop-again c =
     let l = c .before .before .before .before .before .loop in
-    let b = now (c .before .before .before .before .before .before .before .before .before .before .before .args .book) in
-    let s = c .before .before .before .before .before .before .before .sums-before .result in
-    let f = c .before .before .before .before .before .before .first-entry-of .result .0 in
+    let first = c .before .before .before .before .before .before in
+    let b = book-of first in
+    let s = first .before .sums-before .result in
+    let f = first .first-entry-of .result .0 in
     subst₂ (Walking b s f) (sym (c .before .with-entry .ensures)) (sym (ap (λ k. k .next .0) (c .before .before .link-at .ensures)))
     (turned b s f (l .sums) (l .at .0) (l .inv) (c .before .before .before .if1 .taken))
 
@@ -87,10 +100,9 @@ returns : tie.Need-returns Inv-loop μ-loop
 returns c =
     let l = c .before .before .loop in
     let first = c .before .before .before in
-    let a = first .before .before .before .before .before .args in
-    let b = now (a .book) in
-    let at-start = subst₂ (λ s k. Walking b s k (l .sums) (l .at .0)) (sums-begin first) (index-begins first) (l .inv) in
-    ends b (a .user .0) (l .sums) (subst (Walking b (sumsBefore (accountAt b (a .user .0))) (firstEntryOf b (a .user .0)) (l .sums)) (c .if1 .left) at-start)
+    let b = book-of first in
+    let walked = subst₂ (λ s k. Walking b s k (l .sums) (l .at .0)) (sums-begin first) (index-begins first) (l .inv) in
+    ends b (user-of first) (l .sums) (rw (c .if1 .left) at walked)
 
 pub statement-of-spec : {M : Type 1} → statement M
 statement-of-spec =
