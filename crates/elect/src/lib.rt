@@ -24,6 +24,10 @@ fn elect_sound(
     let refusal = refusals::elect_objection(user, account, option, year, month, day);
     if refusal == 0 {
         writers::write_account(book, user, account.elected(option));
+        return Booked {
+            refusal: 0,
+            record: RecordIndex(0),
+        };
     }
     Booked {
         refusal,

@@ -1,9 +1,6 @@
 -- The three years of figure (10) are within the ranges of a closing.
-use Prim.Native.Nat.{ℕ, _≤_, _<_}
 use native.Mathlib.Omega.{arith}
-use Rattle.values.specs.declared.YearValues.{YearValues}
 use Rattle.account.specs.declared.Account.{Account}
-use Rattle.account.specs.declared.Closed.{Closed}
 use Rattle.account.specs.Closing.{creditAfter}
 use Rattle.account.specs.Account.{accountElected, accountClosed, closedOf, InRange}
 use Rattle.figures.specs.Accounts.{opened, yearOf}

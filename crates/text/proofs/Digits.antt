@@ -1,7 +1,7 @@
 -- A digit more or the end of the digits: what the number at a place becomes.
 use Prim.Native.Nat.{ℕ, suc, _+_, _-_, _*_, _^_, _≤_, _<_}
-use mathlib.Core.Path.{_≡_, refl, ap, sym, _∙_, subst}
-use mathlib.Core.Bool.{Bool, true, false, cond, _&&_, true≢false}
+use mathlib.Core.Path.{_≡_, refl}
+use mathlib.Core.Bool.{Bool, true, false, cond, _&&_}
 use mathlib.Core.List.{List, [], _∷_}
 use native.Mathlib.Decide.{decLt}
 use native.Mathlib.Numerals.{add-one}
@@ -11,9 +11,8 @@ use lib.Dec.{ltb, leb}
 use lib.ListN.{length, getD, drop, List·getD-eq-default, drop-of-length-le}
 use lib.Seq.{drop-cons}
 use Rattle.units.proofs.Bools.{and-left, and-right}
-use Rattle.text.specs.declared.Number.{Number}
 use Rattle.text.specs.declared.Number.the-variants as number
-use Rattle.text.specs.Text.{isDigit, digits, decimal, numberAt, NextWithin}
+use Rattle.text.specs.Text.{isDigit, digits, decimal, numberAt}
 
 -- a byte other than 0 stands within the text
 pub inside : (s : List ℕ) (k : ℕ) → (getD s k 0 ≡ 0 → ⊥) → k < length s

@@ -1,6 +1,6 @@
 -- One blank and a number: the same by the place after the blank.
-use Prim.Native.Nat.{ℕ, suc, _+_, _≤_, _<_}
-use mathlib.Core.Path.{_≡_, refl, ap, sym, _∙_}
+use Prim.Native.Nat.{ℕ, _+_, _<_}
+use mathlib.Core.Path.{_≡_, refl, ap, _∙_}
 use mathlib.Core.Bool.{Bool, true, false, cond}
 use mathlib.Core.List.{List}
 use native.Mathlib.Numerals.{add-one}
@@ -10,7 +10,7 @@ use lib.ListN.{length, getD, set}
 use lib.Seq.{getD-set-same, getD-set-other}
 use Rattle.text.specs.declared.Number.{Number}
 use Rattle.text.specs.declared.Number.the-variants as number
-use Rattle.text.specs.Text.{numberAt, isBlankAt, afterBlank, fieldAt, nextOf, afterFields}
+use Rattle.text.specs.Text.{numberAt, isBlankAt, afterBlank, fieldAt, afterFields}
 
 pub field-none : (s : List ℕ) (at start : ℕ) → start ≡ afterBlank s at → start ≡ at → number.Missing ≡ fieldAt s at
 unfolding afterBlank fieldAt

@@ -1,13 +1,13 @@
 -- What a hexadecimal digit is, on either side of `9`.
 use Prim.Native.Nat.{ℕ, _+_, _-_, _≤_, _<_}
-use mathlib.Core.Path.{_≡_, refl, sym, _∙_}
+use mathlib.Core.Path.{_≡_, refl}
 use mathlib.Core.Bool.{Bool, true, false, _||_, _&&_, true≢false, false≢true}
 use native.Mathlib.Omega.{arith}
-use borrow.Author.Tests.{leb-true, le-leb, lt-leb}
+use borrow.Author.Tests.{leb-true, lt-leb}
 use mathlib.Core.List.{List}
 use lib.Dec.{leb}
 use lib.ListN.{length, getD}
-use Rattle.units.proofs.Bools.{and-left, and-right, and-both}
+use Rattle.units.proofs.Bools.{and-left, and-right}
 use Rattle.text.specs.Text.{isDigit, isHexDigit, hexDigit}
 use Rattle.text.proofs.Digits.{inside, digit-bounds}
 

@@ -2,3 +2,4 @@ pub mod Digits
 pub mod HexDigits
 pub mod Fields
 pub mod HexTexts
+pub mod Lines

@@ -123,3 +123,19 @@ pub record LineHeld (held : List ℕ) (r : Line) : Type 0 where
   pub filled : r .filled ≤ length held
   pub one : (k : ℕ) → r .from ≤ k → k < r .to → getD held k 0 ≡ 10 → ⊥
   pub feed : r .to < r .next → getD held (r .to) 0 ≡ 10
+
+-- the line from a place on, of the bytes to `filled`: it is cut where the buffer ends before it does
+pub record LineFrom (held : List ℕ) (from filled : ℕ) (wasCut : Bool) (r : Line) : Type 0 where
+  pub line : LineHeld held r
+  pub start : r .from ≡ from
+  pub end : r .filled ≡ filled
+  pub cut : r .cut ≡ (eqb (r .to) filled && eqb filled (length held))
+  pub rest : r .rest ≡ wasCut
+  pub ended : r .ended ≡ eqb from filled
+
+-- the line after another: what was held after that one is where this one begins
+pub record LineAfter (before : List ℕ) (line : Line) (after : List ℕ) (r : Line) : Type 0 where
+  pub same : length after ≡ length before
+  pub next : LineFrom after (r .from) (r .filled) (line .cut) r
+  pub room : r .from + (line .filled - line .next) ≤ r .filled
+  pub kept : (i : ℕ) → i < line .filled - line .next → getD after (r .from + i) 0 ≡ getD before (line .next + i) 0

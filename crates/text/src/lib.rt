@@ -5,7 +5,7 @@ ghost use mathlib.Core.Bool.{true};
 ghost use mathlib.Core.List.{List};
 ghost use Prim.Native.Nat.{ℕ, _+_, _-_, _^_, _≤_};
 ghost use lib.ListN.{length, getD, drop};
-ghost use Rattle.text.specs.Text.{narrow, isDigit, isHexDigit, hexDigit, hexByte, isHex, numberAt, NextWithin, afterBlank, fieldAt, FieldsRead, HexRead, LineEnd, RestKept, ReadOn, LineHeld};
+ghost use Rattle.text.specs.Text.{narrow, isDigit, isHexDigit, hexDigit, hexByte, isHex, numberAt, NextWithin, afterBlank, fieldAt, FieldsRead, HexRead, LineEnd, RestKept, ReadOn, LineHeld, LineFrom, LineAfter};
 
 // A number that stands at a place, and the place after it.
 pub enum Number {
@@ -247,7 +247,7 @@ pub fn start() -> Line
 // The line from a place on, of the `filled` bytes that are held.
 fn line_from(held: &[u8], from: usize, filled: usize, rest: bool) -> Line
     requires { ⌜ (from ≤ filled) × (filled ≤ length (now held)) ⌝ }
-    ensures { λ r. ⌜ LineHeld (now (held .entry)) r ⌝ }
+    ensures { λ r. ⌜ LineFrom (now (held .entry)) from filled rest r ⌝ }
 {
     let to = line_end(&held[..filled], from);
     Line {
@@ -264,7 +264,7 @@ fn line_from(held: &[u8], from: usize, filled: usize, rest: bool) -> Line
 // The line after another. Where its end is not held yet, what is held of it moves to the front and more is read.
 pub fn next_line(fd: i32, held: &mut [u8], line: Line) -> Line
     requires { ⌜ LineHeld (now held) line ⌝ }
-    ensures { λ r. ⌜ LineHeld (now (held .exit)) r × (length (now (held .exit)) ≡ length (now (held .entry))) ⌝ }
+    ensures { λ r. ⌜ LineAfter (now (held .entry)) line (now (held .exit)) r ⌝ }
 {
     let next = line.next;
     let filled = line.filled;

@@ -4,36 +4,22 @@ use Rattle.enrol.proofs.Enrolling.{enrol-refused, enrol-booked, enrol-r
 use borrow.Author.Needs.{needs}
 use Rattle.enrol.proofs.enrol_sound.Statement.{statement}
 use Rattle.enrol.proofs.enrol_sound.Tie as tie
-use Rattle.enrol.proofs.enrol_sound.Reads as reads
-use Rattle.enrol.proofs.enrol_sound.Lts as lts
-use Rattle.enrol.proofs.new_account.Reads as new-account-reads
-use Rattle.lookup.proofs.find_user.Reads as find-user-reads
-use Rattle.refusals.proofs.enrol_objection.Reads as enrol-objection-reads
-use Rattle.refusals.proofs.has_room.Reads as has-room-reads
-use Rattle.view.proofs.used.Reads as used-reads
-use Rattle.writers.proofs.write_user.Reads as write-user-reads
 
--- src/lib.rt:38:9
 find-user-requires : tie.Need-find-user-requires
 find-user-requires c κs = search needs
 
--- src/lib.rt:39:9
 has-room-requires : tie.Need-has-room-requires
 has-room-requires c κs = search needs
 
--- src/lib.rt:40:9
 enrol-objection-requires : tie.Need-enrol-objection-requires
 enrol-objection-requires c κs = search needs
 
--- src/lib.rt:42:34
 used-requires : tie.Need-used-requires
 used-requires c κs = search needs
 
--- src/lib.rt:43:35
 new-account-requires : tie.Need-new-account-requires
 new-account-requires c κs = search needs
 
--- src/lib.rt:43:9
 write-user-requires : tie.Need-write-user-requires
 write-user-requires c κs =
     let s = c .before .before .before .before .before .before .before .before .before .before .before in
@@ -44,11 +30,9 @@ write-user-requires c κs =
     let judged = c .before .before .before .before .before .enrol-objection in
     enrol-room b (s .pre) (a .number .0) (a .details) (a .option) (found .result) (left .result) (found .ensures) (left .ensures) (judged .result) (judged .ensures) (c .before .before .before .before .if1 .taken)
 
--- src/lib.rt:44:9
 same-length : tie.Need-same-length
 same-length c = search needs
 
--- src/lib.rt:44:9
 returns : tie.Need-returns
 returns c =
     let s = c .before .before .before .before .before .before .before .before .before .before .before .before .before .before in
@@ -59,11 +43,9 @@ returns c =
     let judged = c .before .before .before .before .before .before .before .before .enrol-objection in
     enrol-booked b (s .pre) (a .number .0) (a .details) (a .option) (found .result) (left .result) (found .ensures) (left .ensures) (judged .result) (judged .ensures) (c .before .before .before .before .before .before .before .if1 .taken) (c .before .before .before .before .before .used .result) (c .before .before .before .before .before .used .ensures) (c .before .before .before .new-account .result) (c .before .before .before .new-account .ensures) _ (c .before .before .write-user .ensures)
 
--- src/lib.rt:34:1
 same-length-2 : tie.Need-same-length-2
 same-length-2 c = search needs
 
--- src/lib.rt:34:1
 returns-2 : tie.Need-returns-2
 returns-2 c =
     let s = c .before .before .before .before .before .before .before in

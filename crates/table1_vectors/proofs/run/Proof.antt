@@ -1,6 +1,5 @@
 -- A line that is held, from turn to turn.
-use mathlib.Core.Path.{_≡_, refl, _∙_}
-use native.Mathlib.Omega.{arith}
+use mathlib.Core.Path.{_≡_, refl}
 use borrow.Author.Needs.{needs}
 use denote.Ref.{now}
 use lib.ListN.{length}

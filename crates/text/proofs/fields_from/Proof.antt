@@ -1,15 +1,13 @@
 -- Each number passed stands at its place.
-use Prim.Native.Nat.{ℕ, _+_, _-_, _≤_, _<_}
+use Prim.Native.Nat.{_-_, _≤_}
 use mathlib.Core.Path.{_≡_, refl, ap, sym, _∙_}
 use native.Mathlib.Nat.{not-suc-le-zero}
 use native.Mathlib.Omega.{arith}
-use borrow.Author.Count.{below-more}
 use borrow.Author.Needs.{needs}
 use denote.Ref.{now}
-use lib.ListN.{length, getD, length-set}
-use lib.Seq.{getD-set-same, getD-set-other}
+use lib.ListN.{length, length-set}
 use Rattle.text.specs.declared.Number.the-variants as number
-use Rattle.text.specs.Text.{fieldAt, afterFields}
+use Rattle.text.specs.Text.{afterFields}
 use Rattle.text.proofs.Fields.{Each, no-fields, field-more, each-more}
 use Rattle.text.proofs.fields_from.Statement.{statement}
 use Rattle.text.proofs.fields_from.Tie as tie

@@ -1,5 +1,5 @@
 -- The bytes passed stand at the front, and the rest stays.
-use Prim.Native.Nat.{ℕ, _+_, _-_, _*_, _/_, _≤_, _<_}
+use Prim.Native.Nat.{ℕ, _-_, _*_, _/_, _≤_}
 use mathlib.Core.Path.{_≡_, refl, ap, sym, _∙_}
 use mathlib.Core.Bool.{true}
 use native.Mathlib.Nat.{not-suc-le-zero}

@@ -1,10 +1,9 @@
 -- The end of the line within what is held.
-use Prim.Native.Nat.{ℕ, _+_, _≤_, _<_}
-use mathlib.Core.Path.{_≡_, sym, _∙_}
+use Prim.Native.Nat.{_≤_, _<_}
+use mathlib.Core.Path.{refl, sym, _∙_}
 use mathlib.Core.Logic.{⊎-elim}
 use native.Mathlib.Omega.{arith}
 use denote.Ref.{now}
-use lib.ListN.{length, take}
 use lib.Seq.{length-take-le, getD-take}
 use borrow.Author.Needs.{needs}
 use Rattle.text.proofs.line_from.Statement.{statement}
@@ -30,12 +29,20 @@ returns c =
     let next : (to ≤ c .if1 .t16) × ((c .if1 .t16 ≤ a .filled) × (to < c .if1 .t16 → to < a .filled)) =
     ⊎-elim (λ w. (omega arith, (omega arith, λ l. omega arith))) (λ w. (omega arith, (omega arith, λ l. omega arith))) (c .if1 .came) in
     record {
-      from = end .after (omega arith);
-      to = next .0;
-      next = next .1 .0;
-      filled = start .pre .1;
-      one = λ k low high e. end .before k low high (getD-take (a .filled) held k 0 (omega arith) ∙ e);
-      feed = λ l. sym (getD-take (a .filled) held to 0 (next .1 .1 l)) ∙ end .found (omega (arith, next .1 .1 l));
+      line =
+          record {
+            from = end .after (omega arith);
+            to = next .0;
+            next = next .1 .0;
+            filled = start .pre .1;
+            one = λ k low high e. end .before k low high (getD-take (a .filled) held k 0 (omega arith) ∙ e);
+            feed = λ l. sym (getD-take (a .filled) held to 0 (next .1 .1 l)) ∙ end .found (omega (arith, next .1 .1 l));
+          };
+      start = refl;
+      end = refl;
+      cut = refl;
+      rest = refl;
+      ended = refl;
     }
 
 pub line-from-spec : {M : Type 1} → statement M

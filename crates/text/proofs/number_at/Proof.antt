@@ -1,7 +1,6 @@
 -- The digits passed and those to come are the digits at the place, and so are the numbers that they stand for.
-use Prim.Native.Nat.{ℕ, suc, _+_, _-_, _*_, _^_, _/_, _≤_, _<_}
+use Prim.Native.Nat.{_+_, _-_, _*_, _^_, _≤_, _<_}
 use mathlib.Core.Path.{_≡_, refl, ap, sym, _∙_}
-use mathlib.Core.Bool.{true, false}
 use native.Mathlib.Omega.{arith}
 use borrow.Author.Needs.{needs}
 use denote.Ref.{now}

@@ -1,5 +1,4 @@
 -- By the place.
-use mathlib.Core.Path.{sym}
 use native.Mathlib.Omega.{arith}
 use denote.Ref.{now}
 use lib.ListN.{length-drop}

@@ -1,5 +1,4 @@
 -- By the bound.
-use Prim.Native.Nat.{_^_}
 use borrow.Author.Tests.{lt-ltb, le-ltb}
 use borrow.Author.Needs.{needs}
 use Rattle.text.proofs.word_of.Statement.{statement}
