@@ -1,0 +1,49 @@
+-- A statement on a sound book: of a user that is found, or refused with 6.
+use Prim.Native.Nat.{ℕ}
+use mathlib.Core.Path.{_≡_, refl, sym, ap, _∙_}
+use mathlib.Core.Bool.{Bool, true, false, not}
+use mathlib.Core.List.{List}
+use native.Mathlib.Omega.{arith}
+use borrow.Author.Tests.{eq-eqb, ne-eqb}
+use lib.Dec.{eqb}
+use Rattle.units.specs.declared.RecordIndex.{RecordIndex}
+use Rattle.units.specs.Units.{recordIndex}
+use Rattle.book.specs.Book.{isUser}
+use Rattle.chains.specs.Statements.{statementAt}
+use Rattle.soundness.specs.Verdicts.{Accepted}
+use Rattle.calls.specs.Bookings.{findUser}
+use Rattle.calls.specs.Refusals.{present, statementRefusal}
+use Rattle.calls.specs.Calls.{statement, refusalOf, booked}
+use Rattle.bookings.proofs.Numbers.{found}
+use Rattle.statements.specs.declared.Sums.{Sums}
+use Rattle.statements.specs.Walk.{sumsOf}
+use Rattle.answers.specs.Answers.{Answered}
+use Rattle.answers.proofs.Answers.{refused, accepted}
+use Rattle.statement.specs.Stated.{noSums, sumsStated}
+
+-- beside a refusal there are no sums
+pub no-sums-stated : (b : List ℕ) (n r : ℕ) → (r ≡ 0 → ⊥) → (s : Sums) → s ≡ noSums → s ≡ sumsStated b n r
+unfolding sumsStated
+no-sums-stated b n r some s e = e ∙ rw (ne-eqb r 0 some)
+
+module _ (b : List ℕ) (a : Accepted b) (n : ℕ) (user : RecordIndex) (there : user ≡ recordIndex (findUser b n)) where
+  index-is : user .0 ≡ findUser b n
+  index-is = rw there
+
+  pub unknown : user .0 ≡ 0 → Answered b (statement n) 0 6 0 b
+  unfolding refusalOf statementRefusal present
+  unknown none =
+      refused b (statement n) 0 6 (rw (a .fits, a .isSound, eq-eqb (findUser b n) 0 (sym index-is ∙ none))) (omega arith) (omega arith)
+
+  module _ (some : user .0 ≡ 0 → ⊥) where
+    pub known : Answered b (statement n) 0 0 0 b
+    unfolding refusalOf statementRefusal present booked
+    known =
+        accepted b (statement n) 0 b (rw (a .fits, a .isSound, ne-eqb (findUser b n) 0 (λ z. some (index-is ∙ z)))) refl
+
+    pub known-user : isUser b (user .0) ≡ true
+    known-user = rw there (found b n (λ z. some (index-is ∙ z)) .user)
+
+    pub sums-stated : (s : Sums) → s ≡ sumsOf (statementAt b (user .0)) → s ≡ sumsStated b n 0
+    unfolding sumsStated
+    sums-stated s e = e ∙ ap (λ i. sumsOf (statementAt b i)) index-is
