@@ -1,9 +1,12 @@
 // The rules of document 01, "Book", that a record keeps: ranges and zero bytes by its kind, and where its links lead. Any bytes
 // are a book here.
 ghost use mathlib.Core.Path.{_≡_};
-ghost use Rattle.book.specs.Book.{rangesFit, zeroBytesFit, userNextFits, numberIsNew, firstEntryFits, entryNextFits, ownerFits, pointersTo, inOrder, firstInOrder, nextInOrder, linksFit, goodRecord, goodHead};
+ghost use mathlib.Core.Bool.{_&&_};
+ghost use lib.Dec.{eqb};
+ghost use Rattle.book.specs.Book.{isUser, numberOf, rangesFit, zeroBytesFit, userNextFits, numberIsNew, firstEntryFits, entryNextFits, ownerFits, pointersTo, inOrder, firstInOrder, nextInOrder, linksFit, goodRecord, goodHead};
 use layout::record;
 use units::RecordIndex;
+use units::UserNumber;
 use view::ADVANCE;
 use view::CLOSING;
 use view::USER;
@@ -62,6 +65,18 @@ pub fn user_next_fits(book: &[u8], index: RecordIndex) -> bool
     (next.0 == 0) | (is_user(book, next) & (next.0 < index.0))
 }
 
+// A user with the number. Most records have another.
+fn has_number(book: &[u8], index: RecordIndex, number: UserNumber) -> bool
+    ensures { λ r. ⌜ r ≡ (isUser (now (book .entry)) (index .0) && eqb (numberOf (now (book .entry)) (index .0)) (number .0)) ⌝ }
+{
+    let other = number_of(book, index);
+    if other.0 == number.0 {
+        is_user(book, index)
+    } else {
+        false
+    }
+}
+
 pub fn number_is_new(book: &[u8], index: RecordIndex) -> bool
     ensures { λ r. ⌜ r ≡ numberIsNew (now (book .entry)) (index .0) ⌝ }
 {
@@ -69,8 +84,7 @@ pub fn number_is_new(book: &[u8], index: RecordIndex) -> bool
     let below = index.0;
     let mut taken = false;
     for j in 0..below {
-        let other = RecordIndex(j);
-        taken = taken | (is_user(book, other) & (number_of(book, other).0 == number.0));
+        taken = taken | has_number(book, RecordIndex(j), number);
     }
     !taken
 }

@@ -1,7 +1,7 @@
 -- The pointers that each record holds, at most two: its next (the head's is the first user) and a user's first entry. 0 is no
 -- pointer, and a record of no known kind points nowhere.
 use Prim.Native.Nat.{ℕ}
-use mathlib.Core.Bool.{cond, not, _&&_, _||_}
+use mathlib.Core.Bool.{cond, _&&_, _||_}
 use mathlib.Core.List.{List}
 use lib.Dec.{eqb, ltb}
 use Rattle.layout.specs.Fields.{userKind, advanceKind, closingKind}

@@ -1,16 +1,17 @@
 -- Which records are faulty, case by case, and that a sound book is one without a faulty record.
-use Prim.Native.Nat.{ℕ, _+_, _*_, _/_, _%_, _≤_, _<_}
+use Prim.Native.Nat.{ℕ, _%_, _≤_, _<_}
 use mathlib.Core.Path.{_≡_, refl, sym, ap, _∙_}
-use mathlib.Core.Bool.{Bool, true, false, cond, not, _&&_, true≢false}
+use mathlib.Core.Bool.{Bool, true, false, not, _&&_, true≢false}
 use mathlib.Core.List.{List}
 use native.Mathlib.Decide.{decLt}
 use native.Mathlib.Omega.{arith}
 use borrow.Author.Tests.{leb-true, lt-ltb, le-ltb, ne-eqb, eqb-true, not-true}
-use lib.Dec.{leb, ltb, eqb}
+use lib.Dec.{leb, eqb}
 use lib.ListN.{length}
 use Rattle.units.proofs.Bools.{and-left, and-right}
 use Rattle.units.proofs.Folds.{none-at, none-of, any-of}
 use Rattle.layout.specs.Fields.{recordLength, capacity}
+use Rattle.pointers.specs.Pointers.{mostRecords}
 use Rattle.book.specs.Book.{lengthFits, used, usedFits, goodRecord, goodHead, faulty, sound}
 
 -- what a length that fits says
@@ -32,7 +33,7 @@ module _ (b : List ℕ) (fits : lengthFits b ≡ true) where
   pub capacity-least : 2 ≤ capacity b
   capacity-least = let l = length-least in omega arith
 
-  pub capacity-most : capacity b ≤ 800
+  pub capacity-most : capacity b ≤ mostRecords
   capacity-most = let l = length-most in omega arith
 
 -- where u is outside 1 to capacity the head alone is faulty
@@ -48,6 +49,10 @@ module _ (b : List ℕ) (u : usedFits b ≡ true) where
   pub used-most : used b ≤ capacity b
   unfolding usedFits
   used-most = leb-true (used b) (capacity b) (and-right (leb 1 (used b)) (leb (used b) (capacity b)) u)
+
+  -- the counts of pointers have a place for each record
+  pub used-counted : lengthFits b ≡ true → used b ≤ mostRecords
+  used-counted fits = let c = capacity-most b fits in let m = used-most in omega arith
 
   pub faulty-head : faulty b 0 ≡ not (goodHead b)
   unfolding faulty

@@ -1,19 +1,17 @@
 -- A fresh book has the head alone, and is sound.
-use Prim.Native.Nat.{ℕ, zero, suc, _+_, _-_, _*_, _/_, _%_, _≤_, _<_}
-use mathlib.Core.Path.{_≡_, refl, sym, ap, _∙_}
-use mathlib.Core.Bool.{Bool, true, false, cond, _&&_, _||_}
-use mathlib.Core.List.{List, _∷_}
+use Prim.Native.Nat.{ℕ, zero, suc, _+_, _-_, _*_, _/_, _≤_, _<_}
+use mathlib.Core.Path.{_≡_, refl, _∙_}
+use mathlib.Core.Bool.{true}
+use mathlib.Core.List.{List}
 use native.Mathlib.Omega.{arith}
 use borrow.Author.Tests.{le-leb, eq-eqb}
-use lib.Dec.{leb, eqb}
+use lib.Dec.{eqb}
 use lib.ListN.{length, getD, replicate, length-replicate, getD-replicate}
-use Rattle.units.proofs.Bools.{and-both}
 use Rattle.units.proofs.Folds.{all-of}
-use Rattle.codec.specs.Bytes.{number}
 use Rattle.codec.proofs.Numbers.{number-four}
-use Rattle.layout.specs.Fields.{recordLength, recordAt, usedField, firstUserField, get, zeros, capacity}
+use Rattle.layout.specs.Fields.{recordLength, recordAt, usedField, firstUserField, zeros}
 use Rattle.layout.proofs.Places.{get-record, byte-record}
-use Rattle.book.specs.Book.{lengthFits, freshBook, used, usedFits, firstUser, isUser, goodRecord, goodHead, sound}
+use Rattle.book.specs.Book.{lengthFits, freshBook, used, usedFits, firstUser, goodHead, sound}
 use Rattle.soundness.specs.Verdicts.{Accepted, freshAfter}
 use Rattle.soundness.proofs.Faults.{length-least, good-sound}
 

@@ -1,11 +1,11 @@
 -- What a good record keeps, rule by rule and by its kind; and that a record is good which keeps them.
-use Prim.Native.Nat.{ℕ, _+_, _≤_, _<_}
-use mathlib.Core.Path.{_≡_, refl, sym, ap, _∙_}
-use mathlib.Core.Bool.{Bool, true, false, cond, _&&_, and-false}
+use Prim.Native.Nat.{ℕ, _<_}
+use mathlib.Core.Path.{_≡_, sym, _∙_}
+use mathlib.Core.Bool.{Bool, true, false, _&&_, and-false}
 use mathlib.Core.List.{List}
 use native.Mathlib.Omega.{arith}
 use borrow.Author.Tests.{ltb-true, eq-eqb, ne-eqb}
-use lib.Dec.{ltb, eqb}
+use lib.Dec.{ltb}
 use Rattle.units.proofs.Bools.{and-left, and-right, and-both}
 use Rattle.layout.specs.Fields.{userKind, advanceKind, closingKind, recordAt, zeros}
 use Rattle.records.specs.Records.{advanceIn, closingIn}

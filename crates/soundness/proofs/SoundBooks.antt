@@ -1,16 +1,15 @@
 -- What a sound book keeps: u, the head, and every other record rule by rule.
 use Prim.Native.Nat.{ℕ, _≤_, _<_}
 use mathlib.Core.Path.{_≡_, refl, sym, _∙_}
-use mathlib.Core.Bool.{Bool, true, false, not, _||_, true≢false}
+use mathlib.Core.Bool.{Bool, true, false, true≢false}
 use mathlib.Core.List.{List}
 use mathlib.Core.Logic.{_⊎_, inl, inr}
 use native.Mathlib.Omega.{arith}
 use borrow.Author.Tests.{not-false, eqb-true}
-use Rattle.units.proofs.Bools.{or-left, or-right}
-use Rattle.layout.specs.Fields.{userKind, advanceKind, closingKind, capacity}
-use Rattle.book.specs.Book.{lengthFits, used, usedFits, isUser, isAdvance, isClosing, isEntry, pointersTo, pointedOnce, goodRecord, goodHead, faulty, sound}
+use Rattle.layout.specs.Fields.{userKind, advanceKind, closingKind}
+use Rattle.book.specs.Book.{lengthFits, used, usedFits, isUser, isAdvance, isClosing, isEntry, pointersTo, pointedOnce, goodRecord, goodHead, sound}
 use Rattle.view.proofs.RecordKinds.{kind-from-one, kind-below, kind-is, entry-cases, no-user, no-advance, no-closing}
-use Rattle.soundness.proofs.Faults.{capacity-least, used-least, used-most, faulty-unfit, faulty-head, faulty-record, sound-faultless}
+use Rattle.soundness.proofs.Faults.{capacity-least, used-most, faulty-unfit, faulty-head, faulty-record, sound-faultless}
 use Rattle.soundness.proofs.GoodRecords.{good-parts, unknown-bad, GoodUser, GoodLinks, GoodAdvance, GoodClosing, user-good, advance-good, closing-good}
 
 module _ (b : List ℕ) (fits : lengthFits b ≡ true) (whole : sound b ≡ true) where

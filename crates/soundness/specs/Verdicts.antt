@@ -5,7 +5,6 @@ use mathlib.Core.Path.{_≡_}
 use mathlib.Core.Bool.{true, false, cond}
 use mathlib.Core.List.{List}
 use lib.ListN.{length}
-use Rattle.units.specs.declared.RecordIndex.{RecordIndex}
 use Rattle.book.specs.Book.{lengthFits, freshBook, used, goodRecord, faulty, sound}
 use Rattle.soundness.specs.declared.Verdict.{Verdict}
 use Rattle.soundness.specs.declared.Checked.{Checked}

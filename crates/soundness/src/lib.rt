@@ -30,10 +30,16 @@ fn owned(book: &[u8], index: RecordIndex) -> bool
     is_entry(book, index) & links::owner_fits(book, index)
 }
 
+// An entry of the user. Most records have another owner, or none.
 fn belongs(book: &[u8], entry: RecordIndex, user: RecordIndex) -> bool
     ensures { λ r. ⌜ r ≡ (isEntry (now (book .entry)) (entry .0) && eqb (ownerOf (now (book .entry)) (entry .0)) (user .0)) ⌝ }
 {
-    is_entry(book, entry) & (owner_of(book, entry).0 == user.0)
+    let owner = owner_of(book, entry);
+    if owner.0 == user.0 {
+        is_entry(book, entry)
+    } else {
+        false
+    }
 }
 
 // "A book is sound if no record is faulty": each user, then the entries that it owns. A record that is neither a user nor owned

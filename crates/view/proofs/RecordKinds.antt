@@ -6,7 +6,7 @@ use mathlib.Core.List.{List}
 use mathlib.Core.Logic.{_⊎_, inl, inr}
 use borrow.Author.Tests.{ltb-true, lt-ltb, eq-eqb, eqb-true, eqb-false}
 use lib.Dec.{ltb, eqb}
-use Rattle.units.proofs.Bools.{and-left, and-right, and-both, or-left, or-right}
+use Rattle.units.proofs.Bools.{and-left, and-right, or-left, or-right}
 use Rattle.layout.specs.Fields.{userKind, advanceKind, closingKind}
 use Rattle.book.specs.Book.{used, kindAt, hasKind, isUser, isAdvance, isClosing, isEntry}
 

@@ -1,8 +1,20 @@
--- The rule, test by test.
+-- The rule, from the answers to its tests.
+use Prim.Native.Nat.{ℕ}
+use mathlib.Core.Path.{_≡_}
+use mathlib.Core.Bool.{Bool, _&&_}
+use mathlib.Core.List.{List}
+use denote.Ref.{now}
+use lib.Dec.{eqb}
+use Rattle.book.specs.Book.{rangesFit, zeroBytesFit, linksFit, pointersTo, pointedOnce, goodRecord}
 use Rattle.book.specs.Book.{pointedOnce, goodRecord}
 use borrow.Author.Needs.{needs}
 use Rattle.links.proofs.good_record.Statement.{statement}
 use Rattle.links.proofs.good_record.Tie as tie
+
+of-tests : (b : List ℕ) (i : ℕ) {ranges unnamed links : Bool} {pointers : ℕ} → ranges ≡ rangesFit b i → unnamed ≡ zeroBytesFit b i
+    → links ≡ linksFit b i → pointers ≡ pointersTo b i → (((ranges && unnamed) && links) && eqb pointers 1) ≡ goodRecord b i
+unfolding goodRecord pointedOnce
+of-tests b i r z l p = rw (r, z, l, p)
 
 ranges-fit-requires : tie.Need-ranges-fit-requires
 ranges-fit-requires c κs = search needs
@@ -14,8 +26,9 @@ links-fit-requires : tie.Need-links-fit-requires
 links-fit-requires c κs = search needs
 
 returns : tie.Need-returns
-unfolding goodRecord pointedOnce
-returns c = cc
+returns c =
+    let s = c .before .before .before .before in
+    of-tests (now (s .args .book)) (s .args .index .0) (c .before .before .ranges-fit .ensures) (c .before .zero-bytes-fit .ensures) (c .links-fit .ensures) (s .pre)
 
 pub good-record-spec : {M : Type 1} → statement M
 good-record-spec =

@@ -1,11 +1,9 @@
 -- By whether the chain ends here.
-use Prim.Native.Nat.{ℕ, _+_, _-_, _≤_, _<_}
-use mathlib.Core.Path.{_≡_, refl, sym, ap, ap₂, _∙_}
-use mathlib.Core.Bool.{Bool, true, false, not, _&&_, _||_}
+use Prim.Native.Nat.{ℕ, _+_}
+use mathlib.Core.Path.{_≡_}
+use mathlib.Core.Bool.{Bool, _&&_, _||_}
 use mathlib.Core.List.{List}
-use lib.Dec.{eqb, ltb}
-use Rattle.units.specs.declared.RecordIndex.{RecordIndex}
-use Rattle.units.specs.Units.{recordIndex}
+use lib.Dec.{eqb}
 use denote.Ref.{now}
 use Rattle.book.specs.Book.{isAdvance, isClosing, rankOf, inOrder}
 use borrow.Author.Tests.{ne-eqb}

@@ -1,9 +1,9 @@
 -- A running test over the smaller indexes.
-use Prim.Native.Nat.{ℕ, _+_, _-_, _≤_, _<_}
-use mathlib.Core.Path.{_≡_, refl, sym, ap, ap₂, _∙_}
-use mathlib.Core.Bool.{Bool, true, false, not, _&&_, _||_}
+use Prim.Native.Nat.{ℕ, _-_, _≤_}
+use mathlib.Core.Path.{_≡_, sym, ap, ap₂, _∙_}
+use mathlib.Core.Bool.{Bool, not, _&&_}
 use mathlib.Core.List.{List}
-use lib.Dec.{eqb, ltb}
+use lib.Dec.{eqb}
 use denote.Ref.{now}
 use Rattle.book.specs.Book.{isUser, numberOf, numberIsNew}
 use native.Mathlib.Omega.{arith}
@@ -18,10 +18,6 @@ use Rattle.links.proofs.number_is_new.Tie as tie
 -- a user with the number
 abbrev holder : List ℕ → UserNumber → ℕ → Bool
 holder b n j = isUser b j && eqb (numberOf b j) (n .0)
-
-holder-told : (b : List ℕ) (n : UserNumber) (j : ℕ) {user : Bool} {other : UserNumber} → user ≡ isUser b j
-    → other ≡ userNumber (numberOf b j) → (user && eqb (other .0) (n .0)) ≡ holder b n j
-holder-told b n j u o = rw (u, o)
 
 of-search : (b : List ℕ) (i : ℕ) {n : UserNumber} {taken : Bool} {j : ℕ} → n ≡ userNumber (numberOf b i) → j ≡ i
     → taken ≡ anyBelow j (holder b n) → not taken ≡ numberIsNew b i
@@ -40,11 +36,8 @@ number-of-requires c κs = search needs
 loop-holds : tie.Need-loop-holds Inv-loop μ-loop
 loop-holds c = (search needs, sym (any-zero (holder (now (c .before .before .args .book)) (c .number-of .result))))
 
-is-user-requires : tie.Need-is-user-requires Inv-loop μ-loop
-is-user-requires c κs = search needs
-
-number-of-requires-2 : tie.Need-number-of-requires-2 Inv-loop μ-loop
-number-of-requires-2 c κs = search needs
+has-number-requires : tie.Need-has-number-requires Inv-loop μ-loop
+has-number-requires c κs = search needs
 
 add-j : tie.Need-add-j Inv-loop μ-loop
 add-j c = search needs
@@ -54,10 +47,9 @@ loop-less c = search needs
 
 loop-again : tie.Need-loop-again Inv-loop μ-loop
 loop-again c =
-    let l = c .before .before .before .before .before in
+    let l = c .before .before in
     let b = now (l .before .before .before .args .book) in
-    let n = l .before .number-of .result in
-    (search needs, any-next (l .loop .j) (holder b n) (l .loop .inv .1) (holder-told b n (l .loop .j) (c .before .before .before .is-user .ensures) (c .before .before .number-of2 .ensures)))
+    (search needs, any-next (l .loop .j) (holder b (l .before .number-of .result)) (l .loop .inv .1) (c .has-number .ensures))
 
 returns : tie.Need-returns Inv-loop μ-loop
 returns c =
@@ -74,8 +66,7 @@ number-is-new-spec =
     μ-loop
     number-of-requires
     loop-holds
-    is-user-requires
-    number-of-requires-2
+    has-number-requires
     add-j
     loop-less
     loop-again

@@ -1,14 +1,13 @@
 -- By the kind; an entry goes by its owner's account.
-use Prim.Native.Nat.{ℕ, _+_, _-_, _≤_, _<_}
-use mathlib.Core.Path.{_≡_, refl, sym, ap, ap₂, _∙_}
-use mathlib.Core.Bool.{Bool, true, false, not, _&&_, _||_}
+use Prim.Native.Nat.{ℕ}
+use mathlib.Core.Path.{_≡_, sym, ap, _∙_}
+use mathlib.Core.Bool.{Bool, false}
 use mathlib.Core.List.{List}
-use lib.Dec.{eqb, ltb}
 use Rattle.units.specs.declared.RecordIndex.{RecordIndex}
 use Rattle.units.specs.Units.{recordIndex}
 use denote.Ref.{now}
 use Rattle.book.specs.Book.{kindAt, ownerOf, accountAt, accountFits, advanceFits, closingFits, rangesFit}
-use Rattle.layout.specs.Fields.{userKind, advanceKind, closingKind, recordAt, zeros}
+use Rattle.layout.specs.Fields.{userKind, advanceKind, closingKind, recordAt}
 use Rattle.account.specs.declared.Account.{Account}
 use Rattle.records.specs.declared.AdvanceRecord.{AdvanceRecord}
 use Rattle.records.specs.declared.ClosingRecord.{ClosingRecord}

@@ -1,9 +1,8 @@
 -- By the kind.
-use Prim.Native.Nat.{ℕ, _+_, _-_, _≤_, _<_}
-use mathlib.Core.Path.{_≡_, refl, sym, ap, ap₂, _∙_}
-use mathlib.Core.Bool.{Bool, true, false, not, _&&_, _||_}
+use Prim.Native.Nat.{ℕ}
+use mathlib.Core.Path.{_≡_, sym, _∙_}
+use mathlib.Core.Bool.{Bool, false, _&&_}
 use mathlib.Core.List.{List}
-use lib.Dec.{eqb, ltb}
 use denote.Ref.{now}
 use Rattle.book.specs.Book.{kindAt, zeroBytesFit}
 use Rattle.layout.specs.Fields.{userKind, advanceKind, closingKind, recordAt, zeros}

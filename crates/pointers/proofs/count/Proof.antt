@@ -1,11 +1,8 @@
 -- The count at the record that the pointer leads to is one more, and the others stay.
-use Prim.Native.Nat.{ℕ, _+_, _-_, _≤_, _<_}
-use mathlib.Core.Path.{_≡_, refl, sym, ap, ap₂, _∙_}
-use mathlib.Core.Bool.{Bool, true, false, not, _&&_, _||_}
+use Prim.Native.Nat.{ℕ, _+_, _<_}
+use mathlib.Core.Path.{_≡_, sym, _∙_}
 use mathlib.Core.List.{List}
-use lib.Dec.{eqb, ltb}
 use denote.Ref.{now}
-use Rattle.pointers.specs.Pointers.{nextPointer, firstPointer, mostRecords}
 use Rattle.book.specs.Book.{hits}
 use native.Mathlib.Nat.{add-zero}
 use native.Mathlib.Decide.{ℕ-discrete}

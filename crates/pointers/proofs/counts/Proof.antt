@@ -1,14 +1,11 @@
 -- The counts so far are the sums over the records passed.
-use Prim.Native.Nat.{ℕ, _+_, _-_, _≤_, _<_}
-use mathlib.Core.Path.{_≡_, refl, sym, ap, ap₂, _∙_}
-use mathlib.Core.Bool.{Bool, true, false, not, _&&_, _||_}
-use mathlib.Core.List.{List}
-use lib.Dec.{eqb, ltb}
+use Prim.Native.Nat.{ℕ, _-_, _≤_, _<_}
+use mathlib.Core.Path.{_≡_, refl, sym, ap, _∙_}
 use denote.Ref.{now}
-use Rattle.pointers.specs.Pointers.{nextPointer, firstPointer, mostRecords}
-use Rattle.book.specs.Book.{pointersTo, used}
+use Rattle.pointers.specs.Pointers.{mostRecords}
+use Rattle.book.specs.Book.{used}
 use native.Mathlib.Omega.{arith}
-use lib.ListN.{length, getD, replicate, getD-replicate}
+use lib.ListN.{length, getD, getD-replicate}
 use Rattle.units.specs.Folds.{sumBelow}
 use Rattle.units.proofs.Folds.{sum-zero}
 use Rattle.pointers.proofs.Tallies.{pointed, tally-bound, tally-next, tally-all}

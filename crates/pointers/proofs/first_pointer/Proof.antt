@@ -1,14 +1,14 @@
 -- By whether the record is a user.
-use Prim.Native.Nat.{ℕ, _+_, _-_, _≤_, _<_}
-use mathlib.Core.Path.{_≡_, refl, sym, ap, ap₂, _∙_}
-use mathlib.Core.Bool.{Bool, true, false, not, _&&_, _||_}
+use Prim.Native.Nat.{ℕ}
+use mathlib.Core.Path.{_≡_, sym, ap, _∙_}
+use mathlib.Core.Bool.{true, false, _&&_}
 use mathlib.Core.List.{List}
 use lib.Dec.{eqb, ltb}
 use denote.Ref.{now}
 use Rattle.units.specs.declared.RecordIndex.{RecordIndex}
 use Rattle.units.specs.Units.{recordIndex}
-use Rattle.layout.specs.Fields.{userKind, advanceKind, closingKind}
-use Rattle.pointers.specs.Pointers.{nextPointer, firstPointer, mostRecords}
+use Rattle.layout.specs.Fields.{userKind}
+use Rattle.pointers.specs.Pointers.{firstPointer}
 use Rattle.book.specs.Book.{kindAt, firstEntryOf}
 use borrow.Author.Needs.{needs}
 use Rattle.pointers.proofs.first_pointer.Statement.{statement}

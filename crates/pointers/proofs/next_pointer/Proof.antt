@@ -1,16 +1,16 @@
 -- By whether the record is the head, and by its kind.
-use Prim.Native.Nat.{ℕ, _+_, _-_, _≤_, _<_}
-use mathlib.Core.Path.{_≡_, refl, sym, ap, ap₂, _∙_}
-use mathlib.Core.Bool.{Bool, true, false, not, _&&_, _||_}
+use Prim.Native.Nat.{ℕ}
+use mathlib.Core.Path.{_≡_, sym, ap, _∙_}
+use mathlib.Core.Bool.{Bool, true, false, _||_}
 use mathlib.Core.List.{List}
-use lib.Dec.{eqb, ltb}
+use lib.Dec.{eqb}
 use denote.Ref.{now}
 use Rattle.units.specs.declared.RecordIndex.{RecordIndex}
 use Rattle.units.specs.Units.{recordIndex}
 use Rattle.layout.specs.Fields.{userKind, advanceKind, closingKind}
-use Rattle.pointers.specs.Pointers.{nextPointer, firstPointer, mostRecords}
+use Rattle.pointers.specs.Pointers.{nextPointer}
 use Rattle.book.specs.Book.{firstUser, kindAt, nextOf}
-use borrow.Author.Tests.{eq-eqb, ne-eqb}
+use borrow.Author.Tests.{ne-eqb}
 use borrow.Author.Needs.{needs}
 use Rattle.pointers.proofs.next_pointer.Statement.{statement}
 use Rattle.pointers.proofs.next_pointer.Tie as tie

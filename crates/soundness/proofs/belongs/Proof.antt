@@ -1,31 +1,32 @@
--- The rule, from the answers to its tests.
-use Prim.Native.Nat.{ℕ, _+_, _-_, _≤_, _<_}
-use mathlib.Core.Path.{_≡_, refl, sym, ap, ap₂, _∙_}
-use mathlib.Core.Bool.{Bool, true, false, not, _&&_, _||_}
-use mathlib.Core.List.{List}
-use lib.Dec.{eqb, ltb}
+-- By whether the owner is the user.
+use mathlib.Core.Path.{sym, ap, _∙_}
 use denote.Ref.{now}
-use Rattle.units.specs.declared.RecordIndex.{RecordIndex}
-use Rattle.units.specs.Units.{recordIndex}
 use Rattle.book.specs.Book.{isEntry, ownerOf}
+use Rattle.units.specs.declared.RecordIndex.{RecordIndex}
+use Rattle.links.proofs.Tests.{tested, untested}
 use borrow.Author.Needs.{needs}
 use Rattle.soundness.proofs.belongs.Statement.{statement}
 use Rattle.soundness.proofs.belongs.Tie as tie
 
-of-tests : (b : List ℕ) (e user : ℕ) {entry : Bool} {owner : RecordIndex} → entry ≡ isEntry b e → owner ≡ recordIndex (ownerOf b e)
-    → (entry && eqb (owner .0) user) ≡ (isEntry b e && eqb (ownerOf b e) user)
-of-tests b e user t o = rw (t, o)
+owner-of-requires : tie.Need-owner-of-requires
+owner-of-requires c κs = search needs
 
 is-entry-requires : tie.Need-is-entry-requires
 is-entry-requires c κs = search needs
 
-owner-of-requires : tie.Need-owner-of-requires
-owner-of-requires c κs = search needs
-
 returns : tie.Need-returns
 returns c =
-    let a = c .before .before .before .before .before .args in
-    of-tests (now (a .book)) (a .entry .0) (a .user .0) (c .before .before .before .is-entry .ensures) (c .before .before .owner-of .ensures)
+    let s = c .before .before .before .before in
+    let a = s .before .before .args in
+    let told = ap (λ (i : RecordIndex). i .0) (s .owner-of .ensures) in
+    tested (ownerOf (now (a .book)) (a .entry .0)) (a .user .0) (sym told ∙ c .before .if1 .taken) (c .is-entry .ensures)
+
+returns-2 : tie.Need-returns-2
+returns-2 c =
+    let s = c .before .before .before in
+    let a = s .before .before .args in
+    let told = ap (λ (i : RecordIndex). i .0) (s .owner-of .ensures) in
+    untested (ownerOf (now (a .book)) (a .entry .0)) (a .user .0) (isEntry (now (a .book)) (a .entry .0)) (λ e. c .if1 .left (told ∙ e))
 
 pub belongs-spec : {M : Type 1} → statement M
-belongs-spec = tie.close (tie.spec is-entry-requires owner-of-requires returns)
+belongs-spec = tie.close (tie.spec owner-of-requires is-entry-requires returns returns-2)

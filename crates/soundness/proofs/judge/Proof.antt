@@ -1,10 +1,10 @@
 -- The head first, then the records.
-use mathlib.Core.Path.{_≡_, refl, sym, ap, ap₂, _∙_}
-use mathlib.Core.Bool.{Bool, true, false, not, cond}
+use mathlib.Core.Path.{_≡_, sym, ap, _∙_}
+use mathlib.Core.Bool.{true, not}
 use Prim.Native.Nat.{ℕ}
 use mathlib.Core.List.{List}
 use denote.Ref.{now}
-use Rattle.book.specs.Book.{usedFits, goodHead, faulty}
+use Rattle.book.specs.Book.{usedFits, goodHead}
 use borrow.Author.Tests.{not-true, not-false}
 use Rattle.soundness.specs.declared.Verdict.{Verdict}
 use Rattle.soundness.specs.declared.Verdict.the-variants.{Sound, Faulty}

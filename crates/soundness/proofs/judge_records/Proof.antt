@@ -1,16 +1,14 @@
 -- Every index before this one has had its turn, and in it every entry before this one: each was good.
 use borrow.Author.Needs.{needs}
-use Prim.Native.Nat.{ℕ, _+_, _-_, _≤_, _<_}
-use mathlib.Core.Path.{_≡_, refl, sym, ap, ap₂, _∙_}
-use mathlib.Core.Bool.{Bool, true, false, not, _&&_, _||_, true≢false}
-use mathlib.Core.List.{List}
-use lib.Dec.{eqb, ltb}
+use Prim.Native.Nat.{ℕ, _-_, _≤_, _<_}
+use mathlib.Core.Path.{_≡_, refl, sym, _∙_}
+use mathlib.Core.Bool.{true, true≢false}
 use denote.Ref.{now}
-use Rattle.book.specs.Book.{used, goodRecord, faulty, isUser, pointersTo}
+use Rattle.book.specs.Book.{used, goodRecord}
 use native.Mathlib.Omega.{arith}
 use mathlib.Core.Logic.{⊎-elim}
 use borrow.Author.Tests.{not-true, not-false}
-use Rattle.soundness.proofs.Faults.{used-least, used-most, capacity-most, faulty-record}
+use Rattle.soundness.proofs.Faults.{used-counted}
 use Rattle.soundness.proofs.Homes.{belongs, Home, home-user, home-other, homes-next, entries-next, Outcome, outcome-none, outcome-some, stray-bad}
 use Rattle.soundness.proofs.judge_records.Statement.{statement}
 use Rattle.soundness.proofs.judge_records.Tie as tie
@@ -31,7 +29,7 @@ abbrev μ-users : tie.MeasureT-users
 counts-requires : tie.Need-counts-requires Inv-loop μ-loop Inv-users μ-users
 counts-requires c κs =
     let b = now (c .before .args .book) in
-    omega (arith, used-most b (c .before .pre .1), capacity-most b (c .before .pre .0))
+    used-counted b (c .before .pre .1) (c .before .pre .0)
 
 used-requires : tie.Need-used-requires Inv-loop μ-loop Inv-users μ-users
 used-requires c κs = search needs
@@ -52,14 +50,14 @@ array-read-good-record : tie.Need-array-read-good-record Inv-loop μ-loop Inv-us
 array-read-good-record c =
     let s = c .before .before .before .before .before .before .before in
     let b = now (s .args .book) in
-    omega (arith, used-most b (s .pre .1), capacity-most b (s .pre .0))
+    omega (arith, used-counted b (s .pre .1) (s .pre .0))
 
 good-record-requires : tie.Need-good-record-requires Inv-loop μ-loop Inv-users μ-users
 good-record-requires c κs =
     let a = c .before .before .before in
     let s = a .before .before .before .before in
     let b = now (s .args .book) in
-    a .before .before .counts .ensures (a .users .i) (a .users .inv .0) (omega (arith, used-most b (s .pre .1), capacity-most b (s .pre .0)))
+    a .before .before .counts .ensures (a .users .i) (a .users .inv .0) (omega (arith, used-counted b (s .pre .1) (s .pre .0)))
 
 add-e : tie.Need-add-e Inv-loop μ-loop Inv-users μ-users
 add-e c = search needs
@@ -81,7 +79,7 @@ array-read-good-record-2 : tie.Need-array-read-good-record-2 Inv-loop μ-loop In
 array-read-good-record-2 c =
     let s = c .before .before .before .before .before .before .before .before .before .before .before .before .before in
     let b = now (s .args .book) in
-    omega (arith, used-most b (s .pre .1), capacity-most b (s .pre .0))
+    omega (arith, used-counted b (s .pre .1) (s .pre .0))
 
 good-record-requires-2 : tie.Need-good-record-requires-2 Inv-loop μ-loop Inv-users μ-users
 good-record-requires-2 c κs =
@@ -89,7 +87,7 @@ good-record-requires-2 c κs =
     let a = l .before .before .before .before .before .before in
     let s = a .before .before .before .before in
     let b = now (s .args .book) in
-    a .before .before .counts .ensures (l .loop .e) (omega arith) (omega (arith, used-most b (s .pre .1), capacity-most b (s .pre .0)))
+    a .before .before .counts .ensures (l .loop .e) (omega arith) (omega (arith, used-counted b (s .pre .1) (s .pre .0)))
 
 add-e-2 : tie.Need-add-e-2 Inv-loop μ-loop Inv-users μ-users
 add-e-2 c = search needs
