@@ -46,13 +46,13 @@ amount-at-most h price h₁ h₂ p l₁ l₂ =
     share false energy l = omega arith
 
 -- what an accepted run is
-record RunDue (a : Account) (year run : ℕ) : Type 0 where
-  year-is : year ≡ a .«open_year»
-  is : isRun run ≡ true
-  due-now : due (halvesOf a run) ≡ true
-  unmade : runMade a run ≡ false
+pub record RunDue (a : Account) (year run : ℕ) : Type 0 where
+  pub year-is : year ≡ a .«open_year»
+  pub is : isRun run ≡ true
+  pub due-now : due (halvesOf a run) ≡ true
+  pub unmade : runMade a run ≡ false
 
-run-due : (a : Account) (year run : ℕ) → runOpen a year run ≡ true → RunDue a year run
+pub run-due : (a : Account) (year run : ℕ) → runOpen a year run ≡ true → RunDue a year run
 unfolding runOpen halvesOf
 run-due a year run h =
     let open-year : year ≡ a .«open_year» = search (conjuncts, eqb-true) in
@@ -64,7 +64,7 @@ run-due a year run h =
       unmade = search (not-true, conjuncts);
     }
 
-run-at-most : (a : Account) (year run rate estimate1 estimate2 : ℕ) → accountFits a ≡ true → year ≡ a .«open_year» → orderFits rate estimate1 estimate2 ≡ true
+pub run-at-most : (a : Account) (year run rate estimate1 estimate2 : ℕ) → accountFits a ≡ true → year ≡ a .«open_year» → orderFits rate estimate1 estimate2 ≡ true
     → runAmount a year run rate estimate1 estimate2 ≤ maxHalfTicks * halvesCount (halvesOf a run)
 unfolding runAmount orderFits halvesOf
 run-at-most a year run rate estimate1 estimate2 fits e order =
