@@ -1,0 +1,126 @@
+-- An advance on a sound book: refused by its objection, or booked as the definition has it.
+use Prim.Native.Nat.{ℕ, _+_, _^_, _≤_, _<_}
+use mathlib.Core.Path.{_≡_, refl, ap, sym, subst, _∙_}
+use mathlib.Core.Bool.{Bool, true, false, not, cond}
+use mathlib.Core.List.{List}
+use native.Mathlib.Omega.{arith}
+use borrow.Author.Tests.{ne-eqb, ltb-true}
+use lib.Dec.{eqb}
+use Rattle.units.specs.declared.RecordIndex.{RecordIndex}
+use Rattle.units.specs.declared.Ticks.{Ticks}
+use Rattle.units.specs.Units.{recordIndex, ticks}
+use Rattle.account.specs.declared.Account.{Account}
+use Rattle.account.specs.Account.{accountAdvanced}
+use Rattle.book.specs.Book.{isUser, accountAt, accountFits, halvesFit}
+use Rattle.book.proofs.Faultless.{sound-faultless}
+use Rattle.soundness.specs.Verdicts.{Accepted}
+use Rattle.calls.specs.Bookings.{findUser, runAmount, advanced}
+use Rattle.calls.specs.Refusals.{refuse, hasRoom, present, runOpen, orderFits, advanceRefusal}
+use Rattle.calls.specs.Calls.{Call, advance, refusalOf, booked, paidBy}
+use Rattle.refusals.specs.Objections.{advanceObjection}
+use Rattle.bookings.proofs.Good.{length-within}
+use Rattle.bookings.proofs.Ranges.{account-good}
+use Rattle.bookings.proofs.Widths.{account-within}
+use Rattle.bookings.proofs.Accepted.{AdvanceAccepted, advance-accepted}
+use Rattle.bookings.proofs.EnrolElect.{named-user}
+use Rattle.bookings.proofs.Accounts.{advanced-fits}
+use Rattle.bookings.proofs.Advance.{RunDue, run-due, run-at-most}
+use Rattle.answers.specs.Answers.{Answered}
+use Rattle.answers.proofs.Answers.{refused, accepted}
+use Rattle.answers.proofs.Rooms.{user-stands, room-stands, used-small, refuse-apart}
+use Rattle.advance.specs.Advances.{RunFits, ticksAnswered}
+
+-- beside a refusal there are no ticks
+pub no-ticks : (b : List ℕ) (n y r p e₁ e₂ refusal : ℕ) → (refusal ≡ 0 → ⊥) → ticks 0 ≡ ticksAnswered b n y r p e₁ e₂ refusal
+unfolding ticksAnswered
+no-ticks b n y r p e₁ e₂ refusal some = rw (ne-eqb refusal 0 some)
+
+-- the account after a run that is due has its sums in range
+sums-within : (a : Account) (y r p e₁ e₂ : ℕ) → accountFits a ≡ true → runOpen a y r ≡ true → orderFits p e₁ e₂ ≡ true
+    → (a .runs + r ≤ 7) × (a .advances .0 + runAmount a (a .«open_year») r p e₁ e₂ < 2 ^ 64)
+unfolding accountAdvanced
+sums-within a y r p e₁ e₂ fits is-open order =
+    let d = run-due a y r is-open in
+    let paid = runAmount a (a .«open_year») r p e₁ e₂ in
+    let most = run-at-most a (a .«open_year») r p e₁ e₂ fits refl order in
+    let w = account-within (accountAdvanced r paid a) (advanced-fits a r paid fits (d .is) (d .unmade) (d .due-now) most) in
+    (omega (arith, w .runs), omega (arith, w .advances))
+
+module _ (b : List ℕ) (a : Accepted b) (n y r p e₁ e₂ : ℕ) (user : RecordIndex) (account : Account) (room : Bool) (there : user ≡ recordIndex (findUser b n))
+    (read : account ≡ accountAt b (user .0)) (left : room ≡ hasRoom b) where
+  abbrev call : Call
+  call = advance n y r p e₁ e₂
+
+  abbrev objected : ℕ
+  objected = advanceObjection (user .0) account y r p e₁ e₂ room
+
+  sound-refusal : objected ≡ advanceRefusal b n y r p e₁ e₂
+  unfolding advanceRefusal advanceObjection present
+  sound-refusal = rw (a .fits, a .isSound, left, read, there)
+
+  not-damaged : objected ≡ 2 → ⊥
+  unfolding advanceObjection
+  not-damaged =
+      refuse-apart (not (eqb (user .0) 0)) 2 6 _ (omega arith)
+      (refuse-apart (runOpen account y r) 2 9 _ (omega arith)
+      (refuse-apart (orderFits p e₁ e₂) 2 10 _ (omega arith) (refuse-apart room 2 3 0 (omega arith) (omega arith))))
+
+  module _ (refusal : ℕ) (objection : refusal ≡ objected) where
+    refusal-is : refusal ≡ refusalOf b call
+    unfolding refusalOf
+    refusal-is = objection ∙ sound-refusal
+
+    pub advance-refused : (refusal ≡ 0 → ⊥) → Answered b call 0 refusal 0 b
+    advance-refused some = refused b call 0 refusal refusal-is some (λ two. not-damaged (sym objection ∙ two))
+
+    module _ (none : refusal ≡ 0) where
+      met : AdvanceAccepted b n y r p e₁ e₂
+      met = advance-accepted b n y r p e₁ e₂ (sym (objection ∙ sound-refusal) ∙ none)
+
+      account-is : account ≡ accountAt b (findUser b n)
+      account-is = read ∙ ap (λ i. accountAt b (i .0)) there
+
+      is-user : isUser b (findUser b n) ≡ true
+      is-user = named-user b n (met .found) .user
+
+      account-fits : accountFits account ≡ true
+      account-fits =
+          let from = length-within b (a .fits) .0 in
+          rw account-is (sound-faultless b (omega arith) (a .isSound) .user (findUser b n) is-user .fits)
+
+      is-open : runOpen account y r ≡ true
+      is-open = rw account-is (met .run-open)
+
+      year-is : y ≡ account .«open_year»
+      year-is = run-due account y r is-open .year-is
+
+      pub halves-fit : halvesFit account ≡ true
+      halves-fit = account-good account account-fits .halves
+
+      pub order-fits : orderFits p e₁ e₂ ≡ true
+      order-fits = met .order
+
+      module _ (paid : Ticks) (amount : paid ≡ ticks (runAmount account (account .«open_year») r p e₁ e₂)) where
+        paid-is : paid .0 ≡ paidBy b n y r p e₁ e₂
+        unfolding paidBy
+        paid-is = rw (amount, year-is, account-is)
+
+        pub run-fits : RunFits b (user .0) account r (paid .0)
+        run-fits =
+            let w = sums-within account y r p e₁ e₂ account-fits is-open (met .order) in
+            record {
+              account-is = read;
+              runs = w .0;
+              advances = rw amount (w .1);
+              user = rw there (user-stands b a (findUser b n) is-user);
+              room = room-stands b a (met .room);
+              index = used-small b a;
+            }
+
+        pub advance-booked : (after : List ℕ) → after ≡ advanced (user .0) (account .«open_year») r (paid .0) b → Answered b call 0 0 0 after
+        unfolding booked
+        advance-booked after e = accepted b call 0 after (sym refusal-is ∙ none) (e ∙ rw (sym year-is, paid-is, there))
+
+        pub ticks-answered : paid ≡ ticksAnswered b n y r p e₁ e₂ 0
+        unfolding ticksAnswered
+        ticks-answered = ap ticks paid-is

@@ -1,0 +1,60 @@
+-- A run's amount, and its entry in the book.
+use Prim.Native.Nat.{ℕ, _≤_}
+use mathlib.Core.Path.{_≡_, sym}
+use mathlib.Core.Bool.{Bool, true, false, cond}
+use mathlib.Core.List.{List}
+use borrow.Author.Tests.{leb-true, eq-eqb, ne-eqb}
+use lib.Dec.{eqb}
+use Rattle.units.specs.declared.RecordIndex.{RecordIndex}
+use Rattle.units.specs.declared.Ticks.{Ticks}
+use Rattle.units.specs.Units.{recordIndex, ticks}
+use Rattle.units.specs.Limits.{maxPrice, maxHalfKwh}
+use Rattle.calendar.specs.declared.Halves.{Halves}
+use Rattle.calendar.specs.ElectionAndAdvances.{amountOf}
+use Rattle.account.specs.declared.Account.{Account}
+use Rattle.account.specs.Account.{accountAdvanced}
+use Rattle.records.specs.Records.{advanceImage}
+use Rattle.book.specs.Book.{halvesFit, halvesOf, firstEntryOf, accountAt}
+use Rattle.calls.specs.Bookings.{runAmount, advanceEntry, withEntry, advanced}
+use Rattle.calls.specs.Refusals.{orderFits}
+use Rattle.bookings.proofs.Ranges.{conjuncts}
+
+pub first-year : (year activation estimate half : ℕ) → year ≡ activation → estimate ≡ cond (eqb year activation) estimate half
+first-year year activation estimate half e = rw (eq-eqb year activation e)
+
+pub later-year : (year activation estimate half : ℕ) → (year ≡ activation → ⊥) → half ≡ cond (eqb year activation) estimate half
+later-year year activation estimate half other = rw (ne-eqb year activation other)
+
+module _ (a : Account) (p e₁ e₂ : ℕ) where
+  -- "the last closed year's half, or .. that half's estimate if no year is closed"
+  abbrev pub paidFor : ℕ → ℕ → ℕ
+  paidFor estimate half = cond (eqb (a .«open_year») (a .details .year)) estimate half
+
+  either-fits : (t : Bool) (x y : ℕ) → x ≤ maxHalfKwh → y ≤ maxHalfKwh → cond t x y ≤ maxHalfKwh
+  either-fits true x y p q = p
+  either-fits false x y p q = q
+
+  pub run-within : halvesFit a ≡ true → orderFits p e₁ e₂ ≡ true → (first second : ℕ) → first ≡ paidFor e₁ (a .half1 .0) → second ≡ paidFor e₂ (a .half2 .0)
+      → (p ≤ maxPrice) × ((first ≤ maxHalfKwh) × (second ≤ maxHalfKwh))
+  unfolding halvesFit orderFits
+  run-within halves order first second f s =
+      let none = eqb (a .«open_year») (a .details .year) in
+      let price : p ≤ maxPrice = search (conjuncts, leb-true) in
+      let estimate1 : e₁ ≤ maxHalfKwh = search (conjuncts, leb-true) in
+      let estimate2 : e₂ ≤ maxHalfKwh = search (conjuncts, leb-true) in
+      let half1 : a .half1 .0 ≤ maxHalfKwh = search (conjuncts, leb-true) in
+      let half2 : a .half2 .0 ≤ maxHalfKwh = search (conjuncts, leb-true) in
+      (price, (rw f (either-fits none e₁ (a .half1 .0) estimate1 half1), rw s (either-fits none e₂ (a .half2 .0) estimate2 half2)))
+
+  pub run-paid : (run first second : ℕ) → first ≡ paidFor e₁ (a .half1 .0) → second ≡ paidFor e₂ (a .half2 .0) → (h : Halves) → h ≡ halvesOf a run → (paid : Ticks)
+      → paid ≡ ticks (amountOf h p first second) → paid ≡ ticks (runAmount a (a .«open_year») run p e₁ e₂)
+  unfolding runAmount halvesOf
+  run-paid run first second f s h e paid amount = rw (amount, e, f, s)
+
+pub run-booked : (b : List ℕ) (user : RecordIndex) (a : Account) (run : ℕ) (paid : Ticks) → a ≡ accountAt b (user .0) → (first : RecordIndex)
+    → first ≡ recordIndex (firstEntryOf b (user .0)) → (entry : List ℕ)
+    → entry ≡ advanceImage (record { next = first; run = run; year = a .«open_year»; ticks = paid; owner = user }) → (next : Account)
+    → next ≡ accountAdvanced run (paid .0) a → (after : List ℕ) → after ≡ withEntry (user .0) next entry b
+    → after ≡ advanced (user .0) (a .«open_year») run (paid .0) b
+unfolding advanced advanceEntry
+run-booked b user a run paid read first f entry e next n after w = rw (w, n, e, f, sym read)

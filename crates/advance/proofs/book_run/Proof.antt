@@ -1,0 +1,43 @@
+-- The entry in front of the chain, and the account after it.
+use denote.Ref.{now}
+use mathlib.Core.Path.{ap, _∙_}
+use lib.ListN.{length}
+use Rattle.records.proofs.Advances.{length-advance-image}
+use Rattle.advance.proofs.Runs.{run-booked}
+use borrow.Author.Needs.{needs}
+use Rattle.advance.proofs.book_run.Statement.{statement}
+use Rattle.advance.proofs.book_run.Tie as tie
+
+first-entry-of-requires : tie.Need-first-entry-of-requires
+first-entry-of-requires c κs = search needs
+
+advance-image-requires : tie.Need-advance-image-requires
+advance-image-requires c κs = search needs
+
+advanced-requires : tie.Need-advanced-requires
+advanced-requires c κs = (c .before .before .before .before .before .pre .runs, c .before .before .before .before .before .pre .advances)
+
+write-entry-requires : tie.Need-write-entry-requires
+write-entry-requires c κs =
+    let fits = c .before .before .before .before .before .before .pre in
+    (fits .user, (fits .room, (ap length (c .before .before .advance-image .ensures) ∙ length-advance-image _, fits .index)))
+
+same-length : tie.Need-same-length
+same-length c = search needs
+
+returns : tie.Need-returns
+returns c =
+    let s = c .before .before .before .before .before .before .before .before .before in
+    let a = s .args in
+    run-booked (now (a .book)) (a .user) (a .account) (a .run) (a .paid) (s .pre .account-is) (c .before .before .before .before .before .before .first-entry-of .result) (c .before .before .before .before .before .before .first-entry-of .ensures) (c .before .before .before .before .before .advance-image .result) (c .before .before .before .before .before .advance-image .ensures) (c .before .before .before .advanced .result) (c .before .before .before .advanced .ensures) _ (c .before .before .write-entry .ensures)
+
+pub book-run-spec : {M : Type 1} → statement M
+book-run-spec =
+    tie.close
+    (tie.spec
+    first-entry-of-requires
+    advance-image-requires
+    advanced-requires
+    write-entry-requires
+    same-length
+    returns)

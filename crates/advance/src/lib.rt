@@ -1,0 +1,133 @@
+// Advances (document 01, "Election and advances"): refusals 1 2 6 9 10 3, then the run's entry in front of the user's chain.
+ghost use mathlib.Core.Path.{_≡_};
+ghost use mathlib.Core.Bool.{true, cond};
+ghost use lib.Dec.{eqb};
+ghost use Rattle.units.specs.Units.{ticks};
+ghost use Rattle.book.specs.Book.{halvesFit};
+ghost use Rattle.calls.specs.Bookings.{runAmount, advanced};
+ghost use Rattle.calls.specs.Refusals.{orderFits};
+ghost use Rattle.calls.specs.Calls.{advance};
+ghost use Rattle.soundness.specs.Verdicts.{Accepted};
+ghost use Rattle.answers.specs.Answers.{Answered};
+ghost use Rattle.advance.specs.Advances.{RunFits, ticksAnswered};
+use account::Account;
+use records::AdvanceRecord;
+use soundness::Checked;
+use units::Kwh;
+use units::Rate;
+use units::RecordIndex;
+use units::Ticks;
+use units::UserNumber;
+use units::WideKwh;
+
+pub struct Advanced {
+    pub refusal: u32,
+    pub record: RecordIndex,
+    pub ticks: Ticks,
+}
+
+// "the last closed year's half, or .. that half's estimate if no year is closed"
+fn half_or_estimate(a: Account, half: Kwh, estimate: WideKwh) -> WideKwh
+    ensures { λ r. ⌜ r .0 ≡ cond (eqb (a .«open_year») (a .details .year)) (estimate .0) (half .0) ⌝ }
+{
+    if a.open_year == a.details.year {
+        estimate
+    } else {
+        WideKwh(half.0 as u64)
+    }
+}
+
+// What a run of the open year pays.
+fn run_amount(a: Account, run: u8, price: Rate, estimate1: WideKwh, estimate2: WideKwh) -> Ticks
+    requires { ⌜ halvesFit a ≡ true ⌝ }
+    requires { ⌜ orderFits (price .0) (estimate1 .0) (estimate2 .0) ≡ true ⌝ }
+    ensures { λ r. ⌜ r ≡ ticks (runAmount a (a .«open_year») run (price .0) (estimate1 .0) (estimate2 .0)) ⌝ }
+{
+    let first = half_or_estimate(a, a.half1, estimate1);
+    let second = half_or_estimate(a, a.half2, estimate2);
+    calendar::amount_of(book::halves_of(a, run), price, first, second)
+}
+
+// "Each run adds one entry, joins the advances field and sets its bit."
+fn book_run(book: &mut [u8], user: RecordIndex, account: Account, run: u8, paid: Ticks)
+    requires { ⌜ RunFits (now book) (user .0) account run (paid .0) ⌝ }
+    ensures { λ _. ⌜ now (book .exit) ≡ advanced (user .0) (account .«open_year») run (paid .0) (now (book .entry)) ⌝ }
+{
+    let entry = records::advance_image(AdvanceRecord {
+        next: view::first_entry_of(book, user),
+        run,
+        year: account.open_year,
+        ticks: paid,
+        owner: user,
+    });
+    writers::write_entry(book, user, account.advanced(run, paid), entry);
+}
+
+fn advance_sound(
+    book: &mut [u8],
+    number: UserNumber,
+    year: u32,
+    run: u8,
+    price: Rate,
+    estimate1: WideKwh,
+    estimate2: WideKwh,
+) -> Advanced
+    requires { ⌜ Accepted (now book) ⌝ }
+    ensures { λ r. ⌜ Answered (now (book .entry)) (advance (number .0) year run (price .0) (estimate1 .0) (estimate2 .0)) 0 (r .refusal) (r .record .0) (now (book .exit)) ⌝ }
+    ensures { λ r. ⌜ r .ticks ≡ ticksAnswered (now (book .entry)) (number .0) year run (price .0) (estimate1 .0) (estimate2 .0) (r .refusal) ⌝ }
+{
+    let user = lookup::find_user(book, number);
+    let account = view::account_at(book, user);
+    let room = refusals::has_room(book);
+    let refusal = refusals::advance_objection(
+        user,
+        account,
+        year,
+        run,
+        price,
+        estimate1,
+        estimate2,
+        room,
+    );
+    if refusal == 0 {
+        let paid = run_amount(account, run, price, estimate1, estimate2);
+        book_run(book, user, account, run, paid);
+        return Advanced {
+            refusal: 0,
+            record: RecordIndex(0),
+            ticks: paid,
+        };
+    }
+    Advanced {
+        refusal,
+        record: RecordIndex(0),
+        ticks: Ticks(0),
+    }
+}
+
+pub fn advance(
+    book: &mut [u8],
+    number: UserNumber,
+    year: u32,
+    run: u8,
+    price: Rate,
+    estimate1: WideKwh,
+    estimate2: WideKwh,
+) -> Advanced
+    ensures { λ r. ⌜ Answered (now (book .entry)) (advance (number .0) year run (price .0) (estimate1 .0) (estimate2 .0)) 0 (r .refusal) (r .record .0) (now (book .exit)) ⌝ }
+    ensures { λ r. ⌜ r .ticks ≡ ticksAnswered (now (book .entry)) (number .0) year run (price .0) (estimate1 .0) (estimate2 .0) (r .refusal) ⌝ }
+{
+    match soundness::check(book) {
+        Checked::Length => Advanced {
+            refusal: 1,
+            record: RecordIndex(0),
+            ticks: Ticks(0),
+        },
+        Checked::Faulty(index) => Advanced {
+            refusal: 2,
+            record: index,
+            ticks: Ticks(0),
+        },
+        Checked::Sound => advance_sound(book, number, year, run, price, estimate1, estimate2),
+    }
+}
