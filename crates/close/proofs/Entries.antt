@@ -1,0 +1,48 @@
+-- A closing's entry in the book.
+use Prim.Native.Nat.{ℕ}
+use mathlib.Core.Path.{_≡_, ap, sym, _∙_}
+use mathlib.Core.List.{List}
+use Rattle.units.specs.declared.RecordIndex.{RecordIndex}
+use Rattle.units.specs.declared.Ticks.{Ticks}
+use Rattle.units.specs.Units.{recordIndex, ticks}
+use Rattle.values.specs.declared.YearValues.{YearValues}
+use Rattle.account.specs.declared.Account.{Account}
+use Rattle.account.specs.declared.Closed.{Closed}
+use Rattle.account.specs.declared.Settlement.{Settlement}
+use Rattle.account.specs.Account.{liquidationIn, lapsedIn, settlementOf, accountClosed, closedOf}
+use Rattle.account.proofs.Outcomes.{outcome-liquidation, outcome-lapsed}
+use Rattle.records.specs.declared.ClosingRecord.{ClosingRecord}
+use Rattle.records.specs.Records.{closingImage}
+use Rattle.book.specs.Book.{firstEntryOf, accountAt}
+use Rattle.calls.specs.Bookings.{closingEntry, withEntry, closed}
+
+module _ (b : List ℕ) (user : RecordIndex) (a : Account) (v : YearValues) (read : a ≡ accountAt b (user .0)) where
+  -- the entry made of a settlement
+  pub entry-is : (first : RecordIndex) → first ≡ recordIndex (firstEntryOf b (user .0)) → (s : Settlement) → s ≡ closedOf v a .settlement → (paidOut lapsed : Ticks)
+      → paidOut .0 ≡ liquidationIn (s .outcome) → lapsed .0 ≡ lapsedIn (s .outcome)
+      → record {
+        next = first;
+        option = a .option;
+        year = a .«open_year»;
+        value = v .value;
+        cost = v .cost;
+        «flat_rate» = v .«flat_rate»;
+        contribution = s .contribution;
+        liquidation = paidOut;
+        lapsed = lapsed;
+        balance = s .balance;
+        owner = user;
+      }
+      ≡ closingEntry b (user .0) v
+  unfolding closingEntry closedOf settlementOf
+  entry-is first f s e paidOut lapsed p l =
+      let option = a .option in
+      let k = a .credit .0 in
+      let out = ap ticks (p ∙ ap (λ x. liquidationIn (x .outcome)) e ∙ outcome-liquidation option k (v .value .0) (v .cost .0)) in
+      let gone = ap ticks (l ∙ ap (λ x. lapsedIn (x .outcome)) e ∙ outcome-lapsed option k (v .value .0) (v .cost .0)) in
+      rw (out, gone, e, f, read)
+
+  pub year-booked : (after : Closed) → after ≡ closedOf v a → (entry : ClosingRecord) → entry ≡ closingEntry b (user .0) v → (image : List ℕ) → image ≡ closingImage entry
+      → (b′ : List ℕ) → b′ ≡ withEntry (user .0) (after .account) image b → b′ ≡ closed (user .0) v b
+  unfolding closed closedOf
+  year-booked after e entry f image g b′ w = rw (w, g, f, e, read)

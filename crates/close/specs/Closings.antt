@@ -1,0 +1,53 @@
+-- What a closing answers: "close the entry's sums", and zeros beside a refusal. And what must hold where a year is booked.
+use Prim.Native.Nat.{ℕ, _+_, _*_, _^_, _≤_, _<_}
+use mathlib.Core.Path.{_≡_}
+use mathlib.Core.Bool.{cond}
+use mathlib.Core.List.{List}
+use lib.Dec.{eqb}
+use lib.IntN.{pos}
+use lib.ListN.{length}
+use Rattle.units.specs.Units.{ticks}
+use Rattle.sheet.specs.YearSheet.{sheetUser}
+use Rattle.values.specs.declared.YearValues.{YearValues}
+use Rattle.account.specs.declared.Account.{Account}
+use Rattle.account.specs.Account.{balanceBits, InRange}
+use Rattle.layout.specs.Fields.{recordLength}
+use Rattle.records.specs.declared.ClosingRecord.{ClosingRecord}
+use Rattle.book.specs.Book.{used, accountAt}
+use Rattle.calls.specs.Bookings.{findUser, closingEntry, valuesOf}
+use Rattle.close.specs.declared.ClosingSums.{ClosingSums}
+
+unfoldable pub entrySums : ClosingRecord → ClosingSums
+entrySums c =
+    record {
+      value = c .value;
+      cost = c .cost;
+      «flat_rate» = c .«flat_rate»;
+      contribution = c .contribution;
+      liquidation = c .liquidation;
+      lapsed = c .lapsed;
+      balance = c .balance;
+    }
+
+unfoldable pub noSums : ClosingSums
+noSums =
+    record {
+      value = ticks 0;
+      cost = ticks 0;
+      «flat_rate» = ticks 0;
+      contribution = ticks 0;
+      liquidation = ticks 0;
+      lapsed = ticks 0;
+      balance = balanceBits (pos 0);
+    }
+
+unfoldable pub sumsAnswered : List ℕ → List ℕ → ℕ → ClosingSums
+sumsAnswered b s refusal = cond (eqb refusal 0) (entrySums (closingEntry b (findUser b (sheetUser s)) (valuesOf b s))) noSums
+
+-- the year of the user i, whose account is a, can be closed with these values, and its entry fits into the book
+pub record YearFits (b : List ℕ) (i : ℕ) (a : Account) (v : YearValues) : Type 0 where
+  pub account-is : a ≡ accountAt b i
+  pub in-range : InRange v a
+  pub user : recordLength * i + recordLength ≤ length b
+  pub room : recordLength * used b + recordLength ≤ length b
+  pub index : used b + 1 < 2 ^ 32

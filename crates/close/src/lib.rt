@@ -1,0 +1,168 @@
+// Closing a year (document 01, "Closing"): refusals 1 2 11 6 12 13 14 3, then the year's entry in front of the user's chain.
+ghost use mathlib.Core.Path.{_≡_};
+ghost use mathlib.Core.List.{List};
+ghost use Prim.Native.Nat.{ℕ};
+ghost use Rattle.units.specs.Units.{recordIndex};
+ghost use Rattle.account.specs.Account.{closedOf};
+ghost use Rattle.book.specs.Book.{firstEntryOf, accountAt};
+ghost use Rattle.calls.specs.Bookings.{closingEntry, closed};
+ghost use Rattle.calls.specs.Calls.{close};
+ghost use Rattle.soundness.specs.Verdicts.{Accepted};
+ghost use Rattle.answers.specs.Answers.{Answered};
+ghost use Rattle.close.specs.Closings.{YearFits, entrySums, noSums, sumsAnswered};
+use account::Account;
+use account::Balance;
+use account::Settlement;
+use records::ClosingRecord;
+use soundness::Checked;
+use units::RecordIndex;
+use units::Ticks;
+use values::YearValues;
+
+// The sums of a closing's entry.
+pub struct ClosingSums {
+    pub value: Ticks,
+    pub cost: Ticks,
+    pub flat_rate: Ticks,
+    pub contribution: Ticks,
+    pub liquidation: Ticks,
+    pub lapsed: Ticks,
+    pub balance: Balance,
+}
+
+pub struct Closed {
+    pub refusal: u32,
+    pub record: RecordIndex,
+    pub sums: ClosingSums,
+}
+
+fn no_sums() -> ClosingSums
+    ensures { λ r. ⌜ r ≡ noSums ⌝ }
+{
+    ClosingSums {
+        value: Ticks(0),
+        cost: Ticks(0),
+        flat_rate: Ticks(0),
+        contribution: Ticks(0),
+        liquidation: Ticks(0),
+        lapsed: Ticks(0),
+        balance: Balance(0),
+    }
+}
+
+fn entry_sums(entry: ClosingRecord) -> ClosingSums
+    ensures { λ r. ⌜ r ≡ entrySums entry ⌝ }
+{
+    let value = entry.value;
+    let cost = entry.cost;
+    let flat_rate = entry.flat_rate;
+    let contribution = entry.contribution;
+    let liquidation = entry.liquidation;
+    let lapsed = entry.lapsed;
+    let balance = entry.balance;
+    ClosingSums {
+        value,
+        cost,
+        flat_rate,
+        contribution,
+        liquidation,
+        lapsed,
+        balance,
+    }
+}
+
+// The entry of a settled year, in front of the entry that was first.
+fn closing_entry(
+    first: RecordIndex,
+    user: RecordIndex,
+    account: Account,
+    values: YearValues,
+    settlement: Settlement,
+) -> ClosingRecord
+    ensures { λ r. ⌜ ((b : List ℕ) → account ≡ accountAt b (user .0) → first ≡ recordIndex (firstEntryOf b (user .0)) → settlement ≡ closedOf values account .settlement → r ≡ closingEntry b (user .0) values) ⌝ }
+{
+    let value = values.value;
+    let cost = values.cost;
+    let flat_rate = values.flat_rate;
+    let contribution = settlement.contribution;
+    let balance = settlement.balance;
+    let outcome = settlement.outcome;
+    let liquidation = account::liquidation_in(outcome);
+    let lapsed = account::lapsed_in(outcome);
+    ClosingRecord {
+        next: first,
+        option: account.option,
+        year: account.open_year,
+        value,
+        cost,
+        flat_rate,
+        contribution,
+        liquidation,
+        lapsed,
+        balance,
+        owner: user,
+    }
+}
+
+// Books the closing of a user's open year.
+fn book_year(
+    book: &mut [u8],
+    user: RecordIndex,
+    account: Account,
+    values: YearValues,
+) -> ClosingSums
+    requires { ⌜ YearFits (now book) (user .0) account values ⌝ }
+    ensures { λ _. ⌜ now (book .exit) ≡ closed (user .0) values (now (book .entry)) ⌝ }
+    ensures { λ r. ⌜ r ≡ entrySums (closingEntry (now (book .entry)) (user .0) values) ⌝ }
+{
+    let first = view::first_entry_of(book, user);
+    let after = account.closed(values);
+    let entry = closing_entry(first, user, account, values, after.settlement);
+    let image = records::closing_image(entry);
+    writers::write_entry(book, user, after.account, image);
+    entry_sums(entry)
+}
+
+fn close_sound(book: &mut [u8], s: &[u8]) -> Closed
+    requires { ⌜ Accepted (now book) ⌝ }
+    ensures { λ r. ⌜ Answered (now (book .entry)) (close (now (s .entry))) 0 (r .refusal) (r .record .0) (now (book .exit)) ⌝ }
+    ensures { λ r. ⌜ r .sums ≡ sumsAnswered (now (book .entry)) (now (s .entry)) (r .refusal) ⌝ }
+{
+    let user = lookup::find_user(book, sheet::user(s));
+    let account = view::account_at(book, user);
+    let room = refusals::has_room(book);
+    let refusal = refusals::close_objection(s, user, account, room);
+    if refusal == 0 {
+        let values = values::year_values(s, account.details);
+        let sums = book_year(book, user, account, values);
+        return Closed {
+            refusal: 0,
+            record: RecordIndex(0),
+            sums,
+        };
+    }
+    Closed {
+        refusal,
+        record: RecordIndex(0),
+        sums: no_sums(),
+    }
+}
+
+pub fn close(book: &mut [u8], s: &[u8]) -> Closed
+    ensures { λ r. ⌜ Answered (now (book .entry)) (close (now (s .entry))) 0 (r .refusal) (r .record .0) (now (book .exit)) ⌝ }
+    ensures { λ r. ⌜ r .sums ≡ sumsAnswered (now (book .entry)) (now (s .entry)) (r .refusal) ⌝ }
+{
+    match soundness::check(book) {
+        Checked::Length => Closed {
+            refusal: 1,
+            record: RecordIndex(0),
+            sums: no_sums(),
+        },
+        Checked::Faulty(index) => Closed {
+            refusal: 2,
+            record: index,
+            sums: no_sums(),
+        },
+        Checked::Sound => close_sound(book, s),
+    }
+}
