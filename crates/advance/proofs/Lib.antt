@@ -1,2 +1,3 @@
 pub mod Advancing
+pub mod Contract
 pub mod Runs

@@ -1,5 +1,6 @@
+pub mod Contract
 pub mod Faults
+pub mod FreshBooks
 pub mod GoodRecords
 pub mod Homes
 pub mod SoundBooks
-pub mod FreshBooks

@@ -1,0 +1,11 @@
+-- What the contract of `advance` says, of every call.
+use mathlib.Core.Path.{_≡_}
+use denote.Ref.{now}
+use Rattle.calls.specs.Calls.{advance}
+use Rattle.answers.specs.Answers.{Answered}
+use Rattle.advance.specs.Advances.{ticksAnswered}
+use Rattle.advance.proofs.advance.Reads as reads
+
+pub advance-says : (κs : _) (a : _) (r : _) (s : _) → reads.Post κs a r s
+    → Answered (now (a .0)) (advance (a .1 .0 .0) (a .1 .1 .0) (a .1 .1 .1 .0) (a .1 .1 .1 .1 .0 .0) (a .1 .1 .1 .1 .1 .0 .0) (a .1 .1 .1 .1 .1 .1 .0 .0)) 0 (r .refusal) (r .«record» .0) (now (s .0)) × (r .ticks ≡ ticksAnswered (now (a .0)) (a .1 .0 .0) (a .1 .1 .0) (a .1 .1 .1 .0) (a .1 .1 .1 .1 .0 .0) (a .1 .1 .1 .1 .1 .0 .0) (a .1 .1 .1 .1 .1 .1 .0 .0) (r .refusal))
+advance-says κs a r s said = said

@@ -1,0 +1,11 @@
+-- What the contract of `enrol` says, of every call.
+use mathlib.Core.Path.{_≡_}
+use denote.Ref.{now}
+use Rattle.book.specs.Book.{used}
+use Rattle.calls.specs.Calls.{enrol}
+use Rattle.answers.specs.Answers.{Answered}
+use Rattle.enrol.proofs.enrol.Reads as reads
+
+pub enrol-says : (κs : _) (a : _) (r : _) (s : _) → reads.Post κs a r s
+    → Answered (now (a .0)) (enrol (a .1 .0 .0) (a .1 .1 .0) (a .1 .1 .1 .0)) (used (now (a .0))) (r .refusal) (r .«record» .0) (now (s .0))
+enrol-says κs a r s said = said
