@@ -44,7 +44,7 @@ pub record Toward (b : List ℕ) (whole : Statement) (es : List ℕ) (s : Sums) 
   pub closedAdvances : s .«closed_advances» .0 + sumOver (advancePart (λ y. ltb y (whole .openYear)) b) es ≡ whole .closedAdvances
 
 -- THE NEXT ENTRY
-mag-size : (z : ℤ) → mag z ≤ natAbs z
+pub mag-size : (z : ℤ) → mag z ≤ natAbs z
 mag-size (pos n) = omega arith
 mag-size (negsuc n) = omega arith
 

@@ -1,0 +1,1 @@
+// The third demand over the functions themselves: a crate of definitions and proofs.
