@@ -8,13 +8,17 @@ use lib.Dec.{ltb}
 use Rattle.book.specs.Book.{lengthFits, sound, accountAt}
 use Rattle.chains.specs.Chains.{usersOf}
 
--- the decimal digits of a number as bytes; twenty hold every number of 64 bits
+-- twenty digits hold every number of 64 bits
+abbrev pub mostDigits : ℕ
+mostDigits = 20
+
+-- the decimal digits of a number as bytes, at most so many
 unfoldable pub decimalOf : ℕ → ℕ → List ℕ
 decimalOf zero n = []
 decimalOf (suc digits) n = cond (ltb n 10) ((48 + n) ∷ []) (decimalOf digits (n / 10) ++ ((48 + n % 10) ∷ []))
 
 abbrev pub decimal : ℕ → List ℕ
-decimal n = decimalOf 20 n
+decimal n = decimalOf mostDigits n
 
 abbrev pub blank : ℕ
 blank = 32

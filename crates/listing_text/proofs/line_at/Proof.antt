@@ -1,12 +1,12 @@
--- Three fields one after the other: each is at most 21 bytes long, and leaves room for the next.
+-- Three fields one after the other: none is longer than `longestField`, so each leaves room for the next.
 use native.Mathlib.Omega.{arith}
 use borrow.Author.Needs.{needs}
 use denote.Ref.{now}
 use lib.ListN.{length}
-use Rattle.listing.specs.Listing.{blank}
-use Rattle.listing.proofs.Lines.{field-short, line-written}
-use Rattle.listing.proofs.line_at.Statement.{statement}
-use Rattle.listing.proofs.line_at.Tie as tie
+use Rattle.listing_text.specs.Listing.{blank}
+use Rattle.listing_text.proofs.Lines.{field-short, line-written}
+use Rattle.listing_text.proofs.line_at.Statement.{statement}
+use Rattle.listing_text.proofs.line_at.Tie as tie
 
 cast-field-at : tie.Need-cast-field-at
 cast-field-at c = search needs

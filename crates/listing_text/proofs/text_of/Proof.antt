@@ -1,11 +1,11 @@
 -- By what the check says of the book: one of three texts.
 use denote.Ref.{now}
 use Rattle.chains.specs.Chains.{usersOf}
-use Rattle.listing.specs.Listing.{lines, refused}
-use Rattle.listing.proofs.Texts.{refused-length, accepted, listed, refused-faulty, answered}
+use Rattle.listing_text.specs.Listing.{lines, refused}
+use Rattle.listing_text.proofs.Texts.{refused-length, accepted, listed, refused-faulty, answered}
 use borrow.Author.Needs.{needs}
-use Rattle.listing.proofs.listing_of.Statement.{statement}
-use Rattle.listing.proofs.listing_of.Tie as tie
+use Rattle.listing_text.proofs.text_of.Statement.{statement}
+use Rattle.listing_text.proofs.text_of.Tie as tie
 
 check-requires : tie.Need-check-requires
 check-requires c κs = search needs
@@ -65,8 +65,8 @@ returns-3 c =
     let w = c .before .before .refusal-of2 in
     answered b (refused 2) (now (a .out)) (w .last .0) (w .result) (refused-faulty b (k .result) (k .ensures) (c .before .before .before .before .enum-told3 .given .1)) (w .ensures)
 
-pub listing-of-spec : {M : Type 1} → statement M
-listing-of-spec =
+pub text-of-spec : {M : Type 1} → statement M
+text-of-spec =
     tie.close
     (tie.spec
     check-requires

@@ -3,9 +3,9 @@ use Prim.Native.Nat.{_<_}
 use mathlib.Core.Path.{sym, ap, subst}
 use borrow.Author.Needs.{needs}
 use denote.Ref.{now}
-use Rattle.listing.proofs.Walk.{Walking, begins, room-here, next-falls, goes-on, ends}
-use Rattle.listing.proofs.lines_of.Statement.{statement}
-use Rattle.listing.proofs.lines_of.Tie as tie
+use Rattle.listing_text.proofs.Walk.{Walking, begins, room-here, next-falls, goes-on, ends}
+use Rattle.listing_text.proofs.lines_of.Statement.{statement}
+use Rattle.listing_text.proofs.lines_of.Tie as tie
 
 abbrev Inv-loop : tie.InvT-loop
 Inv-loop book out₀ end₀ user₀ out end user = Walking book out₀ out end (user .0)
@@ -21,7 +21,7 @@ loop-holds c =
     let start = c .before .before .before in
     subst (λ k. Walking (now (start .args .book)) (now (start .args .out)) (now (start .args .out)) 0 k)
     (sym (ap (λ k. k .0) (c .first-user .ensures)))
-    (begins (now (start .args .book)) (now (start .args .out)) (start .pre .0) (start .pre .1 .0) (start .pre .1 .1))
+    (begins (now (start .args .book)) (start .pre .0) (start .pre .1 .0) (now (start .args .out)) (start .pre .1 .1))
 
 account-at-requires : tie.Need-account-at-requires Inv-loop μ-loop
 account-at-requires c κs = search needs

@@ -6,14 +6,34 @@ ghost use lib.ListN.{length};
 ghost use Rattle.codec.specs.Bytes.{stored};
 ghost use Rattle.book.specs.Book.{lengthFits, sound};
 ghost use Rattle.chains.specs.Chains.{usersOf};
-ghost use Rattle.listing.specs.Listing.{decimal, lines, refused, listing};
-ghost use Rattle.listing.specs.Written.{longestLine, longestText, field, accountLine};
+ghost use Rattle.listing_text.specs.Listing.{mostDigits, decimal, lines, refused, listing};
+ghost use Rattle.listing_text.specs.Written.{longestField, longestLine, longestRefusal, longestText, field, accountLine, ListingAnswered};
 use account::Account;
 use soundness::Checked;
 
+// The longest listing: of each user three numbers of at most twenty digits, each with a byte after it.
+const MOST_USERS: usize = 799;
+
+const LONGEST_LINE: usize = 63;
+
+const LONGEST_TEXT: usize = MOST_USERS * LONGEST_LINE;
+
+// What became of a listing: written, so many bytes, or not, for want of room.
+pub enum Listed {
+    Written(usize),
+    NoRoom,
+}
+
+// Room for every listing.
+pub fn buffer() -> [u8; LONGEST_TEXT]
+    ensures { λ r. ⌜ longestText ≡ length r ⌝ }
+{
+    [0; LONGEST_TEXT]
+}
+
 // Writes a number at a place of the text, and answers the place after it.
-pub fn decimal_at(out: &mut [u8], at: usize, n: u64) -> usize
-    requires { ⌜ at + 20 ≤ length (now out) ⌝ }
+fn decimal_at(out: &mut [u8], at: usize, n: u64) -> usize
+    requires { ⌜ at + mostDigits ≤ length (now out) ⌝ }
     ensures { λ r. ⌜ r ≡ at + length (decimal n) ⌝ }
     ensures { λ _. ⌜ now (out .exit) ≡ stored at (decimal n) (now (out .entry)) ⌝ }
 {
@@ -27,7 +47,7 @@ pub fn decimal_at(out: &mut [u8], at: usize, n: u64) -> usize
 
 // The same, with one byte after it: a blank or a line feed.
 fn field_at(out: &mut [u8], at: usize, n: u64, after: u8) -> usize
-    requires { ⌜ at + 21 ≤ length (now out) ⌝ }
+    requires { ⌜ at + longestField ≤ length (now out) ⌝ }
     ensures { λ r. ⌜ r ≡ at + length (field n after) ⌝ }
     ensures { λ _. ⌜ now (out .exit) ≡ stored at (field n after) (now (out .entry)) ⌝ }
 {
@@ -37,7 +57,7 @@ fn field_at(out: &mut [u8], at: usize, n: u64, after: u8) -> usize
 }
 
 // Writes the line of an account: number, open year and credit.
-pub fn line_at(out: &mut [u8], at: usize, account: Account) -> usize
+fn line_at(out: &mut [u8], at: usize, account: Account) -> usize
     requires { ⌜ at + longestLine ≤ length (now out) ⌝ }
     ensures { λ r. ⌜ r ≡ at + length (accountLine account) ⌝ }
     ensures { λ _. ⌜ now (out .exit) ≡ stored at (accountLine account) (now (out .entry)) ⌝ }
@@ -48,7 +68,7 @@ pub fn line_at(out: &mut [u8], at: usize, account: Account) -> usize
 }
 
 // Writes the lines of the users of a sound book in chain order, and answers how many bytes they are.
-pub fn lines_of(book: &[u8], out: &mut [u8]) -> usize
+fn lines_of(book: &[u8], out: &mut [u8]) -> usize
     requires { ⌜ lengthFits (now book) ≡ true ⌝ }
     requires { ⌜ sound (now book) ≡ true ⌝ }
     requires { ⌜ longestText ≤ length (now out) ⌝ }
@@ -67,7 +87,7 @@ pub fn lines_of(book: &[u8], out: &mut [u8]) -> usize
 
 // Writes the line of a refused book.
 fn refusal_of(out: &mut [u8], n: u64) -> usize
-    requires { ⌜ 29 ≤ length (now out) ⌝ }
+    requires { ⌜ longestRefusal ≤ length (now out) ⌝ }
     ensures { λ r. ⌜ r ≡ length (refused n) ⌝ }
     ensures { λ _. ⌜ now (out .exit) ≡ stored 0 (refused n) (now (out .entry)) ⌝ }
 {
@@ -82,8 +102,8 @@ fn refusal_of(out: &mut [u8], n: u64) -> usize
     field_at(out, 8, n, b'\n')
 }
 
-// Writes what the listing program prints of a book, and answers how many bytes they are.
-pub fn listing_of(book: &[u8], out: &mut [u8]) -> usize
+// Writes the text that a book has, by what the check says of it.
+fn text_of(book: &[u8], out: &mut [u8]) -> usize
     requires { ⌜ longestText ≤ length (now out) ⌝ }
     ensures { λ r. ⌜ r ≡ length (listing (now (book .entry))) ⌝ }
     ensures { λ _. ⌜ now (out .exit) ≡ stored 0 (listing (now (book .entry))) (now (out .entry)) ⌝ }
@@ -93,4 +113,14 @@ pub fn listing_of(book: &[u8], out: &mut [u8]) -> usize
         Checked::Sound => lines_of(book, out),
         Checked::Faulty(_) => refusal_of(out, 2),
     }
+}
+
+// Writes what the listing program prints of a book, any bytes, at the front of a text.
+pub fn listing_of(book: &[u8], out: &mut [u8]) -> Listed
+    ensures { λ r. ⌜ ListingAnswered (now (book .entry)) (now (out .entry)) (now (out .exit)) r ⌝ }
+{
+    if out.len() < LONGEST_TEXT {
+        return Listed::NoRoom;
+    }
+    Listed::Written(text_of(book, out))
 }

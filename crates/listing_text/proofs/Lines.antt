@@ -1,4 +1,4 @@
--- A line is three fields one after the other, of at most 21 bytes each.
+-- A line is three fields one after the other, each of at most `longestField` bytes.
 use Prim.Native.Nat.{ℕ, _+_, _≤_}
 use mathlib.Core.Path.{_≡_, refl, sym, ap, _∙_}
 use mathlib.Core.List.{List, [], _∷_, _++_, append-assoc}
@@ -7,29 +7,29 @@ use lib.ListN.{length, set, length-append}
 use Rattle.account.specs.declared.Account.{Account}
 use Rattle.codec.specs.Bytes.{stored}
 use Rattle.book.specs.Book.{accountAt}
-use Rattle.listing.specs.Listing.{decimal, blank, lineFeed, line}
-use Rattle.listing.specs.Written.{field, accountLine}
-use Rattle.listing.proofs.Pieces.{stored-next, stored-then}
-use Rattle.listing.proofs.Decimals.{length-decimal}
+use Rattle.listing_text.specs.Listing.{decimal, blank, lineFeed, line}
+use Rattle.listing_text.specs.Written.{longestField, longestLine, field, accountLine}
+use Rattle.listing_text.proofs.Pieces.{stored-next, stored-then}
+use Rattle.listing_text.proofs.Decimals.{decimal-short}
 
 pub length-field : (n x : ℕ) → length (field n x) ≡ length (decimal n) + 1
 unfolding field
 length-field n x = length-append (decimal n) (x ∷ [])
 
-pub field-short : (n x : ℕ) → length (field n x) ≤ 21
-field-short n x = omega (arith, length-field n x, length-decimal 20 n)
+pub field-short : (n x : ℕ) → length (field n x) ≤ longestField
+field-short n x = omega (arith, length-field n x, decimal-short n)
 
-pub field-written : (at n x : ℕ) (s : List ℕ) → at + 21 ≤ length s
+pub field-written : (at n x : ℕ) (s : List ℕ) → at + longestField ≤ length s
     → set (stored at (decimal n) s) (at + length (decimal n)) x ≡ stored at (field n x) s
 unfolding field
-field-written at n x s h = stored-next at x (decimal n) s (omega (arith, length-decimal 20 n))
+field-written at n x s h = stored-next at x (decimal n) s (omega (arith, decimal-short n))
 
 pub length-line : (a : Account) → length (accountLine a)
     ≡ length (field (a .number .0) blank) + (length (field (a .«open_year») blank) + length (field (a .credit .0) lineFeed))
 unfolding accountLine
 length-line a = simp length-append
 
-pub line-short : (a : Account) → length (accountLine a) ≤ 63
+pub line-short : (a : Account) → length (accountLine a) ≤ longestLine
 line-short a =
     omega
     (arith, length-line a, field-short (a .number .0) blank, field-short (a .«open_year») blank, field-short (a .credit .0) lineFeed)
@@ -45,7 +45,7 @@ stored-three at bs cs ds s h =
     ∙ stored-then at (bs ++ cs) ds s (omega arith)
     ∙ ap (λ (l : List ℕ). stored at l s) (append-assoc bs cs ds)
 
-pub line-written : (at : ℕ) (a : Account) (s : List ℕ) (year credit end : ℕ) (s₁ s₂ s₃ : List ℕ) → at + 63 ≤ length s
+pub line-written : (at : ℕ) (a : Account) (s : List ℕ) (year credit end : ℕ) (s₁ s₂ s₃ : List ℕ) → at + longestLine ≤ length s
     → year ≡ at + length (field (a .number .0) blank) → s₁ ≡ stored at (field (a .number .0) blank) s
     → credit ≡ year + length (field (a .«open_year») blank) → s₂ ≡ stored year (field (a .«open_year») blank) s₁
     → end ≡ credit + length (field (a .credit .0) lineFeed) → s₃ ≡ stored credit (field (a .credit .0) lineFeed) s₂

@@ -7,17 +7,17 @@ use borrow.Author.Needs.{needs}
 use denote.Ref.{now}
 use lib.ListN.{length, set, length-set}
 use Rattle.codec.specs.Bytes.{stored}
-use Rattle.listing.specs.Listing.{decimal}
-use Rattle.listing.proofs.Pieces.{stored-none}
-use Rattle.listing.proofs.Decimals.{front, front-none, front-more, front-room, front-inside, length-front, last-written}
+use Rattle.listing_text.specs.Listing.{decimal}
+use Rattle.listing_text.proofs.Pieces.{stored-none}
+use Rattle.listing_text.proofs.Decimals.{front, front-none, front-more, front-room, front-inside, length-front, last-written}
 use borrow.Fn.Kinds.{In}
 use borrow.Fn.PlainCycle.{Measures, is, falls, and}
 use native.Mathlib.Omega.{arith}
-use Rattle.listing.proofs.decimal_at.Reads as decimal-at
-use Rattle.listing.proofs.decimal_at.Kinds as decimal-at-kinds
-use Rattle.listing.proofs.+decimal_at.Lts-decimal_at as decimal-at-lts
-use Rattle.listing.proofs.+decimal_at.{statement}
-use Rattle.listing.proofs.+decimal_at.Tie.{close}
+use Rattle.listing_text.proofs.decimal_at.Reads as decimal-at
+use Rattle.listing_text.proofs.decimal_at.Kinds as decimal-at-kinds
+use Rattle.listing_text.proofs.+decimal_at.Lts-decimal_at as decimal-at-lts
+use Rattle.listing_text.proofs.+decimal_at.{statement}
+use Rattle.listing_text.proofs.+decimal_at.Tie.{close}
 
 abbrev μ-decimal-at : Measures 1 decimal-at-kinds.ps ℕ
 μ-decimal-at κs a = a .1 .1 .0

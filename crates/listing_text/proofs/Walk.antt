@@ -16,10 +16,10 @@ use Rattle.chains.specs.Chains.{chainFrom, usersOf}
 use Rattle.chains.proofs.Chain.{On, chain-none, chain-cons, chain-from-length, falls-closed}
 use Rattle.chains.proofs.Links.{user-index, first-user, users-fall}
 use Rattle.chains.proofs.Fit.{records-within}
-use Rattle.listing.specs.Listing.{line, lines}
-use Rattle.listing.specs.Written.{longestLine, longestText, accountLine}
-use Rattle.listing.proofs.Pieces.{stored-then, stored-none}
-use Rattle.listing.proofs.Lines.{line-short, user-line}
+use Rattle.listing_text.specs.Listing.{line, lines}
+use Rattle.listing_text.specs.Written.{longestLine, mostUsers, longestText, accountLine}
+use Rattle.listing_text.proofs.Pieces.{stored-then, stored-none}
+use Rattle.listing_text.proofs.Lines.{line-short, user-line}
 
 lines-short : (b is : List ℕ) → length (lines b is) ≤ longestLine * length is
 unfolding lines
@@ -48,26 +48,34 @@ pub record Walking (b before out : List ℕ) (end user : ℕ) : Type 0 where
   pub written : stored end (linesFrom b user) out ≡ stored 0 (text b) before
 
 -- THE BEGINNING
-pub begins : (b s : List ℕ) → lengthFits b ≡ true → sound b ≡ true → longestText ≤ length s → Walking b s s 0 (firstUser b)
-unfolding usersOf
-begins b s long good wide =
-    let f = sound-faultless b (omega (arith, records-within b long)) good in
-    let few : firstUser b ≤ 799 =
-    ⊎-elim (λ (e : firstUser b ≡ 0). omega arith)
-    (λ (u : isUser b (firstUser b) ≡ true). omega (arith, user-index b (firstUser b) u, used-within b (f .used-fits), records-within b long))
-    (first-user b f) in
-    let short : length (text b) ≤ longestText =
-    omega (arith, lines-short b (usersOf b), chain-from-length (nextOf b) (firstUser b)) in
-    record {
-      faultless = f;
-      on = first-user b f;
-      same = refl;
-      wide = wide;
-      room = omega arith;
-      fits = short;
-      count = omega arith;
-      written = refl;
-    }
+module _ (b : List ℕ) (long : lengthFits b ≡ true) (good : sound b ≡ true) where
+  faultless-here : Faultless b
+  faultless-here = sound-faultless b (omega (arith, records-within b long)) good
+
+  few-users : firstUser b ≤ mostUsers
+  few-users =
+      let f = faultless-here in
+      ⊎-elim (λ (e : firstUser b ≡ 0). omega arith)
+      (λ (u : isUser b (firstUser b) ≡ true). omega (arith, user-index b (firstUser b) u, used-within b (f .used-fits), records-within b long))
+      (first-user b f)
+
+  pub text-short : length (text b) ≤ longestText
+  unfolding usersOf
+  text-short = omega (arith, few-users, lines-short b (usersOf b), chain-from-length (nextOf b) (firstUser b))
+
+  pub begins : (s : List ℕ) → longestText ≤ length s → Walking b s s 0 (firstUser b)
+  unfolding usersOf
+  begins s wide =
+      record {
+        faultless = faultless-here;
+        on = first-user b faultless-here;
+        same = refl;
+        wide = wide;
+        room = omega (arith, few-users);
+        fits = text-short;
+        count = omega arith;
+        written = refl;
+      }
 
 -- A TURN
 module _ (b before out : List ℕ) (end user : ℕ) (w : Walking b before out end user) (more : user ≡ 0 → ⊥) where

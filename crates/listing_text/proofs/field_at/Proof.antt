@@ -6,10 +6,10 @@ use native.Mathlib.Omega.{arith}
 use borrow.Author.Needs.{needs}
 use denote.Ref.{now}
 use lib.ListN.{length, set}
-use Rattle.listing.proofs.Decimals.{length-decimal}
-use Rattle.listing.proofs.Lines.{length-field, field-written}
-use Rattle.listing.proofs.field_at.Statement.{statement}
-use Rattle.listing.proofs.field_at.Tie as tie
+use Rattle.listing_text.proofs.Decimals.{decimal-short}
+use Rattle.listing_text.proofs.Lines.{length-field, field-written}
+use Rattle.listing_text.proofs.field_at.Statement.{statement}
+use Rattle.listing_text.proofs.field_at.Tie as tie
 
 decimal-at-requires : tie.Need-decimal-at-requires
 decimal-at-requires c κs = search needs
@@ -17,12 +17,12 @@ decimal-at-requires c κs = search needs
 slice-write-out : tie.Need-slice-write-out
 slice-write-out c =
     let a = c .before .before .before .before .before .args in
-    omega (arith, c .before .before .decimal-at .ensures .0, c .before .before .decimal-at .kept .0, length-decimal 20 (a .n))
+    omega (arith, c .before .before .decimal-at .ensures .0, c .before .before .decimal-at .kept .0, decimal-short (a .n))
 
 add-result : tie.Need-add-result
 add-result c =
     let a = c .before .before .before .before .before .args in
-    omega (arith, c .before .before .decimal-at .ensures .0, length-decimal 20 (a .n))
+    omega (arith, c .before .before .decimal-at .ensures .0, decimal-short (a .n))
 
 same-length : tie.Need-same-length
 same-length c = search needs

@@ -11,8 +11,8 @@ use borrow.Author.Tests.{lt-ltb, le-ltb}
 use lib.ListN.{length, set, length-append}
 use Rattle.codec.specs.Bytes.{stored}
 use Rattle.codec.proofs.Stores.{length-stored}
-use Rattle.listing.specs.Listing.{decimalOf, decimal}
-use Rattle.listing.proofs.Pieces.{stored-next}
+use Rattle.listing_text.specs.Listing.{mostDigits, decimalOf, decimal}
+use Rattle.listing_text.proofs.Pieces.{stored-next}
 
 -- a digit more than are needed changes nothing
 decimal-more : (k n : ℕ) → n < 10 ^ suc k → decimalOf (suc (suc k)) n ≡ decimalOf (suc k) n
@@ -51,7 +51,7 @@ pub decimal-last : (n : ℕ) → n < 2 ^ 64 → decimal n ≡ front n ++ ((48 + 
 unfolding front
 decimal-last n h = decimal-cases 18 n (omega arith) (decLt n 10)
 
-pub length-decimal : (k n : ℕ) → length (decimalOf k n) ≤ k
+length-decimal : (k n : ℕ) → length (decimalOf k n) ≤ k
 unfolding decimalOf
 length-decimal zero n = omega arith
 length-decimal (suc k) n =
@@ -63,13 +63,16 @@ length-decimal (suc k) n =
     by-size true digits l = omega arith
     by-size false digits l = rw length-append (omega arith)
 
--- the last digit after those before it, where there is room for twenty
-module _ (at n : ℕ) (s : List ℕ) (fits : n < 2 ^ 64) (room : at + 20 ≤ length s) where
+pub decimal-short : (n : ℕ) → length (decimal n) ≤ mostDigits
+decimal-short n = length-decimal mostDigits n
+
+-- the last digit after those before it, where there is room for the most
+module _ (at n : ℕ) (s : List ℕ) (fits : n < 2 ^ 64) (room : at + mostDigits ≤ length s) where
   pub front-room : length (front n) + 1 ≡ length (decimal n)
   front-room = sym (ap length (decimal-last n fits) ∙ length-append (front n) ((48 + n % 10) ∷ []))
 
   pub front-inside : at + length (front n) < length s
-  front-inside = omega (arith, front-room, length-decimal 20 n)
+  front-inside = omega (arith, front-room, decimal-short n)
 
   pub length-front : length (stored at (front n) s) ≡ length s
   length-front = length-stored at (front n) s (omega (arith, front-inside))

@@ -2,12 +2,12 @@
 use mathlib.Core.Path.{_∙_}
 use denote.Ref.{now}
 use lib.Seq.{length-sets}
-use Rattle.listing.proofs.Texts.{word, refusal-written}
+use Rattle.listing_text.proofs.Texts.{word, refusal-written}
 use native.Mathlib.Omega.{arith}
 use lib.ListN.{length, length-set}
 use borrow.Author.Needs.{needs}
-use Rattle.listing.proofs.refusal_of.Statement.{statement}
-use Rattle.listing.proofs.refusal_of.Tie as tie
+use Rattle.listing_text.proofs.refusal_of.Statement.{statement}
+use Rattle.listing_text.proofs.refusal_of.Tie as tie
 
 slice-write-out : tie.Need-slice-write-out
 slice-write-out c = search needs
