@@ -50,6 +50,7 @@ fn field_at(out: &mut [u8], at: usize, n: u64, after: u8) -> usize
     requires { ⌜ at + longestField ≤ length (now out) ⌝ }
     ensures { λ r. ⌜ r ≡ at + length (field n after) ⌝ }
     ensures { λ _. ⌜ now (out .exit) ≡ stored at (field n after) (now (out .entry)) ⌝ }
+    ensures { λ r. ⌜ r ≤ at + longestField ⌝ }
 {
     let end = decimal_at(out, at, n);
     out[end] = after;
@@ -62,9 +63,12 @@ fn line_at(out: &mut [u8], at: usize, account: Account) -> usize
     ensures { λ r. ⌜ r ≡ at + length (accountLine account) ⌝ }
     ensures { λ _. ⌜ now (out .exit) ≡ stored at (accountLine account) (now (out .entry)) ⌝ }
 {
-    let year = field_at(out, at, account.number.0 as u64, b' ');
-    let credit = field_at(out, year, account.open_year as u64, b' ');
-    field_at(out, credit, account.credit.0, b'\n')
+    let number = account.number.0 as u64;
+    let open_year = account.open_year as u64;
+    let credit = account.credit.0;
+    let second = field_at(out, at, number, b' ');
+    let third = field_at(out, second, open_year, b' ');
+    field_at(out, third, credit, b'\n')
 }
 
 // Writes the lines of the users of a sound book in chain order, and answers how many bytes they are.
@@ -78,9 +82,10 @@ fn lines_of(book: &[u8], out: &mut [u8]) -> usize
     let mut end = 0;
     let mut user = view::first_user(book);
     while user.0 != 0 {
+        let next = view::next_of(book, user);
         let account = view::account_at(book, user);
         end = line_at(out, end, account);
-        user = view::next_of(book, user);
+        user = next;
     }
     end
 }

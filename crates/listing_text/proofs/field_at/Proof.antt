@@ -31,7 +31,8 @@ returns : tie.Need-returns
 returns c =
     let a = c .before .before .before .before .before .args in
     let d = c .before .before .decimal-at in
-    (omega (arith, d .ensures .0, length-field (a .n) (a .after)), ap₂ (λ (l : List ℕ) (e : ℕ). set l e (a .after)) (d .ensures .1) (d .ensures .0) ∙ field-written (a .at) (a .n) (a .after) (now (a .out)) (omega arith))
+    let written = ap₂ (λ (l : List ℕ) (e : ℕ). set l e (a .after)) (d .ensures .1) (d .ensures .0) ∙ field-written (a .at) (a .n) (a .after) (now (a .out)) (omega arith) in
+    (omega (arith, d .ensures .0, length-field (a .n) (a .after)), (written, omega (arith, d .ensures .0, decimal-short (a .n))))
 
 pub field-at-spec : {M : Type 1} → statement M
 field-at-spec =

@@ -23,34 +23,35 @@ loop-holds c =
     (sym (ap (λ k. k .0) (c .first-user .ensures)))
     (begins (now (start .args .book)) (start .pre .0) (start .pre .1 .0) (now (start .args .out)) (start .pre .1 .1))
 
+next-of-requires : tie.Need-next-of-requires Inv-loop μ-loop
+next-of-requires c κs = search needs
+
 account-at-requires : tie.Need-account-at-requires Inv-loop μ-loop
 account-at-requires c κs = search needs
 
 line-at-requires : tie.Need-line-at-requires Inv-loop μ-loop
 line-at-requires c κs =
-    let l = c .before .before .before .before .loop in
-    let a = c .before .before .before .before .before .before .before .before .args in
-    room-here (now (a .book)) (now (a .out)) (l .out) (l .end) (l .user .0) (l .inv) (c .before .before .if1 .taken)
-
-next-of-requires : tie.Need-next-of-requires Inv-loop μ-loop
-next-of-requires c κs = search needs
+    let l = c .before .before .before .before .before .loop in
+    let a = c .before .before .before .before .before .before .before .before .before .args in
+    room-here (now (a .book)) (now (a .out)) (l .out) (l .end) (l .user .0) (l .inv) (c .before .before .before .if1 .taken)
 
 loop-less : tie.Need-loop-less Inv-loop μ-loop
 loop-less c =
     let l = c .before .before .before .before .before .before .before .before .loop in
     let a = c .before .before .before .before .before .before .before .before .before .before .before .before .args in
-    subst (λ k. k < l .user .0) (sym (ap (λ k. k .0) (c .next-of .ensures)))
+    subst (λ k. k < l .user .0) (sym (ap (λ k. k .0) (c .before .before .before .before .before .next-of .ensures)))
     (next-falls (now (a .book)) (now (a .out)) (l .out) (l .end) (l .user .0) (l .inv) (c .before .before .before .before .before .before .if1 .taken))
 
 loop-again : tie.Need-loop-again Inv-loop μ-loop
 loop-again c =
     let l = c .before .before .before .before .before .before .before .before .loop in
     let a = c .before .before .before .before .before .before .before .before .before .before .before .before .args in
-    let d = c .before .before .before .before .before .account-at in
-    let t = c .before .before .before .line-at in
+    let n = c .before .before .before .before .before .next-of in
+    let d = c .before .before .before .before .account-at in
+    let t = c .before .before .line-at in
     goes-on (now (a .book)) (now (a .out)) (l .out) (l .end) (l .user .0) (l .inv) (c .before .before .before .before .before .before .if1 .taken)
-    (d .result) (t .last .0) (t .result) (c .next-of .result .0)
-    (d .ensures) (t .ensures .0) (t .ensures .1) (ap (λ k. k .0) (c .next-of .ensures))
+    (d .result) (t .last .0) (t .result) (n .result .0)
+    (d .ensures) (t .ensures .0) (t .ensures .1) (ap (λ k. k .0) (n .ensures))
 
 same-length : tie.Need-same-length Inv-loop μ-loop
 same-length c = c .before .before .loop .inv .same
@@ -70,9 +71,9 @@ lines-of-spec =
     μ-loop
     first-user-requires
     loop-holds
+    next-of-requires
     account-at-requires
     line-at-requires
-    next-of-requires
     loop-less
     loop-again
     same-length
