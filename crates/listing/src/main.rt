@@ -62,6 +62,9 @@ fn read_book(book: &mut [u8]) -> Input
 {
     let mut filled = 0;
     for turn in 0..u64::MAX {
+        if filled == book.len() {
+            return Input::Read(filled);
+        }
         match read_more(book, filled) {
             Step::Read(count) => {
                 if count == 0 {
