@@ -3,3 +3,4 @@ pub mod Decimals
 pub mod Lines
 pub mod Walk
 pub mod Texts
+pub mod Example
