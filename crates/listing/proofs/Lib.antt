@@ -1,5 +1,1 @@
-pub mod Pieces
-pub mod Decimals
-pub mod Lines
-pub mod Walk
-pub mod Texts
+pub mod Full

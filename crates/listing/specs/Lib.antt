@@ -1,2 +1,1 @@
-pub mod Listing
-pub mod Written
+pub mod Input

@@ -1,0 +1,6 @@
+pub mod Pieces
+pub mod Decimals
+pub mod Lines
+pub mod Walk
+pub mod Texts
+pub mod Example

@@ -1,0 +1,64 @@
+-- A line is three fields one after the other, each of at most `longestField` bytes.
+use Prim.Native.Nat.{ℕ, _+_, _≤_}
+use mathlib.Core.Path.{_≡_, refl, sym, ap, _∙_}
+use mathlib.Core.List.{List, [], _∷_, _++_, append-assoc}
+use native.Mathlib.Omega.{arith}
+use lib.ListN.{length, set, length-append}
+use Rattle.account.specs.declared.Account.{Account}
+use Rattle.codec.specs.Bytes.{stored}
+use Rattle.book.specs.Book.{accountAt}
+use Rattle.listing_text.specs.Listing.{decimal, blank, lineFeed, line}
+use Rattle.listing_text.specs.Written.{longestField, longestLine, field, accountLine}
+use Rattle.listing_text.proofs.Pieces.{stored-next, stored-then}
+use Rattle.listing_text.proofs.Decimals.{decimal-short}
+
+pub length-field : (n x : ℕ) → length (field n x) ≡ length (decimal n) + 1
+unfolding field
+length-field n x = length-append (decimal n) (x ∷ [])
+
+pub field-short : (n x : ℕ) → length (field n x) ≤ longestField
+field-short n x = omega (arith, length-field n x, decimal-short n)
+
+pub field-written : (at n x : ℕ) (s : List ℕ) → at + longestField ≤ length s
+    → set (stored at (decimal n) s) (at + length (decimal n)) x ≡ stored at (field n x) s
+unfolding field
+field-written at n x s h = stored-next at x (decimal n) s (omega (arith, decimal-short n))
+
+pub length-line : (a : Account) → length (accountLine a)
+    ≡ length (field (a .number .0) blank) + (length (field (a .«open_year») blank) + length (field (a .credit .0) lineFeed))
+unfolding accountLine
+length-line a = simp length-append
+
+pub line-short : (a : Account) → length (accountLine a) ≤ longestLine
+line-short a =
+    omega
+    (arith, length-line a, field-short (a .number .0) blank, field-short (a .«open_year») blank, field-short (a .credit .0) lineFeed)
+
+-- three pieces stored one after the other
+pub stored-three : (at : ℕ) (bs cs ds s : List ℕ) → at + (length bs + (length cs + length ds)) ≤ length s
+    → stored (at + length bs + length cs) ds (stored (at + length bs) cs (stored at bs s)) ≡ stored at (bs ++ (cs ++ ds)) s
+stored-three at bs cs ds s h =
+    let both : length (bs ++ cs) ≡ length bs + length cs = length-append bs cs in
+    let place : at + length bs + length cs ≡ at + length (bs ++ cs) = omega arith in
+    ap (stored (at + length bs + length cs) ds) (stored-then at bs cs s (omega arith))
+    ∙ ap (λ (k : ℕ). stored k ds (stored at (bs ++ cs) s)) place
+    ∙ stored-then at (bs ++ cs) ds s (omega arith)
+    ∙ ap (λ (l : List ℕ). stored at l s) (append-assoc bs cs ds)
+
+pub line-written : (at : ℕ) (a : Account) (s : List ℕ) (year credit end : ℕ) (s₁ s₂ s₃ : List ℕ) → at + longestLine ≤ length s
+    → year ≡ at + length (field (a .number .0) blank) → s₁ ≡ stored at (field (a .number .0) blank) s
+    → credit ≡ year + length (field (a .«open_year») blank) → s₂ ≡ stored year (field (a .«open_year») blank) s₁
+    → end ≡ credit + length (field (a .credit .0) lineFeed) → s₃ ≡ stored credit (field (a .credit .0) lineFeed) s₂
+    → (end ≡ at + length (accountLine a)) × (s₃ ≡ stored at (accountLine a) s)
+unfolding accountLine
+line-written at a s year credit end s₁ s₂ s₃ h y e₁ k e₂ l e₃ = (
+  omega (arith, length-line a),
+  rw (e₃, k, e₂, e₁, y)
+      (stored-three at (field (a .number .0) blank) (field (a .«open_year») blank) (field (a .credit .0) lineFeed) s
+      (omega (arith, field-short (a .number .0) blank, field-short (a .«open_year») blank, field-short (a .credit .0) lineFeed))),
+)
+
+-- the line of the user at an index is that of its account
+pub user-line : (b : List ℕ) (i : ℕ) → line b i ≡ accountLine (accountAt b i)
+unfolding line accountLine field
+user-line b i = simp append-assoc

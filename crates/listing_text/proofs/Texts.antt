@@ -1,0 +1,82 @@
+-- The text of a refused book, which text a book has, and that none is longer than `longestText`.
+use Prim.Native.Nat.{ℕ, _+_, _≤_}
+use mathlib.Core.Path.{_≡_, refl, sym, ap, subst, _∙_}
+use mathlib.Core.Bool.{Bool, true, false, cond}
+use mathlib.Core.List.{List, [], _∷_, _++_}
+use native.Mathlib.Omega.{arith}
+use lib.ListN.{length}
+use lib.Seq.{sets}
+use Rattle.codec.specs.Bytes.{stored}
+use Rattle.codec.proofs.Stores.{sets-stored, length-stored}
+use Rattle.book.specs.Book.{lengthFits, sound}
+use Rattle.chains.specs.Chains.{usersOf}
+use Rattle.units.specs.declared.RecordIndex.{RecordIndex}
+use Rattle.soundness.specs.declared.Checked.{Checked}
+use Rattle.soundness.specs.declared.Checked.the-variants.{Length, Sound, Faulty}
+use Rattle.soundness.specs.Verdicts.{BookChecked, Accepted, Objected}
+use Rattle.soundness.proofs.Faults.{faulty-not-sound}
+use Rattle.listing_text.specs.Listing.{blank, lineFeed, lines, refused, listing}
+use Rattle.listing_text.specs.Written.{longestRefusal, longestText, field, AllWritten}
+use Rattle.listing_text.proofs.Pieces.{stored-then}
+use Rattle.listing_text.proofs.Walk.{text-short}
+use Rattle.listing_text.proofs.Lines.{field-short}
+
+-- "refused "
+abbrev pub word : List ℕ
+word = 114 ∷ 101 ∷ 102 ∷ 117 ∷ 115 ∷ 101 ∷ 100 ∷ blank ∷ []
+
+pub refusal-written : (n r : ℕ) (s l : List ℕ) → longestRefusal ≤ length s → r ≡ 8 + length (field n lineFeed)
+    → l ≡ stored 8 (field n lineFeed) (sets s 0 word) → (r ≡ length (refused n)) × (l ≡ stored 0 (refused n) s)
+unfolding refused field
+refusal-written n r s l room e w = (
+  omega arith,
+  w
+      ∙ ap (stored 8 (field n lineFeed)) (sets-stored 0 word s (omega arith))
+      ∙ stored-then 0 word (field n lineFeed) s (omega (arith, field-short n lineFeed)),
+)
+
+refused-short : (n : ℕ) → length (refused n) ≤ longestRefusal
+unfolding refused field
+refused-short n = omega (arith, field-short n lineFeed)
+
+module _ (b : List ℕ) where
+  pub refused-length : (v : Checked) → BookChecked b v → v ≡ Length → listing b ≡ refused 1
+  unfolding listing
+  refused-length v h e = let short : lengthFits b ≡ false = subst (BookChecked b) e h in rw short
+
+  pub accepted : (v : Checked) → BookChecked b v → v ≡ Sound → Accepted b
+  accepted v h e = subst (BookChecked b) e h
+
+  pub listed : Accepted b → listing b ≡ lines b (usersOf b)
+  unfolding listing
+  listed a = let long : lengthFits b ≡ true = a .fits in let good : sound b ≡ true = a .isSound in rw (long, good)
+
+  pub refused-faulty : (v : Checked) {i : RecordIndex} → BookChecked b v → v ≡ Faulty i → listing b ≡ refused 2
+  unfolding listing
+  refused-faulty v {i} h e =
+      let o : Objected b (i .0) = subst (BookChecked b) e h in
+      let long : lengthFits b ≡ true = o .fits in
+      let bad : sound b ≡ false = faulty-not-sound b long (i .0) (o .isFaulty) in
+      rw (long, bad)
+
+  -- the text written is the listing
+  pub answered : (t s l : List ℕ) (r : ℕ) → listing b ≡ t → (r ≡ length t) × (l ≡ stored 0 t s)
+      → (r ≡ length (listing b)) × (l ≡ stored 0 (listing b) s)
+  answered t s l r e h = rw e h
+
+  pub listing-short : length (listing b) ≤ longestText
+  unfolding listing
+  listing-short = by-tests (lengthFits b) (sound b) refl refl
+    where
+      by-tests : (long good : Bool) → lengthFits b ≡ long → sound b ≡ good
+          → length (cond long (cond good (lines b (usersOf b)) (refused 2)) (refused 1)) ≤ longestText
+      by-tests true true l g = text-short b l g
+      by-tests true false l g = omega (arith, refused-short 2)
+      by-tests false good l g = omega (arith, refused-short 1)
+
+  -- the text is written where there is room for the longest
+  pub all-written : (before after : List ℕ) (n : ℕ) → longestText ≤ length before → n ≡ length (listing b)
+      → after ≡ stored 0 (listing b) before → AllWritten b before after n
+  all-written before after n room count text =
+      let same : length after ≡ length before = ap length text ∙ length-stored 0 (listing b) before (omega (arith, listing-short)) in
+      record { room = room; count = count; text = text; within = omega (arith, listing-short) }

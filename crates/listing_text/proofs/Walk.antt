@@ -1,0 +1,138 @@
+-- The walk over the users' chain of a sound book: the lines ahead, stored after those written, always give the same text.
+use Prim.Native.Nat.{ℕ, _+_, _*_, _≤_, _<_}
+use mathlib.Core.Path.{_≡_, refl, sym, ap, _∙_, subst}
+use mathlib.Core.Bool.{true}
+use mathlib.Core.Logic.{⊎-elim}
+use mathlib.Core.List.{List, [], _∷_, _++_}
+use native.Mathlib.Nat.{add-zero}
+use native.Mathlib.Omega.{arith}
+use lib.ListN.{length, length-append}
+use Rattle.account.specs.declared.Account.{Account}
+use Rattle.codec.specs.Bytes.{stored}
+use Rattle.codec.proofs.Stores.{length-stored}
+use Rattle.book.specs.Book.{used, firstUser, lengthFits, sound, isUser, nextOf, accountAt}
+use Rattle.book.proofs.Faultless.{Faultless, sound-faultless, used-within}
+use Rattle.chains.specs.Chains.{chainFrom, usersOf}
+use Rattle.chains.proofs.Chain.{On, chain-none, chain-cons, chain-from-length, falls-closed}
+use Rattle.chains.proofs.Links.{user-index, first-user, users-fall}
+use Rattle.chains.proofs.Fit.{records-within}
+use Rattle.listing_text.specs.Listing.{line, lines}
+use Rattle.listing_text.specs.Written.{longestLine, mostUsers, longestText, accountLine}
+use Rattle.listing_text.proofs.Pieces.{stored-then, stored-none}
+use Rattle.listing_text.proofs.Lines.{line-short, user-line}
+
+lines-short : (b is : List ℕ) → length (lines b is) ≤ longestLine * length is
+unfolding lines
+lines-short b [] = omega arith
+lines-short b (i ∷ is) =
+    let tail : length (lines b is) ≤ longestLine * length is = lines-short b is in
+    let here : length (line b i) ≤ longestLine = rw (user-line b i) (line-short (accountAt b i)) in
+    rw length-append (omega arith)
+
+-- the lines from an index of the chain on
+abbrev pub linesFrom : List ℕ → ℕ → List ℕ
+linesFrom b user = lines b (chainFrom (nextOf b) user)
+
+abbrev pub text : List ℕ → List ℕ
+text b = lines b (usersOf b)
+
+-- between two turns: `before` is the text that came, `out` as it stands, written up to `end`
+pub record Walking (b before out : List ℕ) (end user : ℕ) : Type 0 where
+  pub faultless : Faultless b
+  pub on : On (λ i. isUser b i ≡ true) user
+  pub same : length out ≡ length before
+  pub wide : longestText ≤ length before
+  pub room : end + longestLine * user ≤ longestText
+  pub fits : length (text b) ≤ longestText
+  pub count : end + length (linesFrom b user) ≡ length (text b)
+  pub written : stored end (linesFrom b user) out ≡ stored 0 (text b) before
+
+-- THE BEGINNING
+module _ (b : List ℕ) (long : lengthFits b ≡ true) (good : sound b ≡ true) where
+  faultless-here : Faultless b
+  faultless-here = sound-faultless b (omega (arith, records-within b long)) good
+
+  few-users : firstUser b ≤ mostUsers
+  few-users =
+      let f = faultless-here in
+      ⊎-elim (λ (e : firstUser b ≡ 0). omega arith)
+      (λ (u : isUser b (firstUser b) ≡ true). omega (arith, user-index b (firstUser b) u, used-within b (f .used-fits), records-within b long))
+      (first-user b f)
+
+  pub text-short : length (text b) ≤ longestText
+  unfolding usersOf
+  text-short = omega (arith, few-users, lines-short b (usersOf b), chain-from-length (nextOf b) (firstUser b))
+
+  pub begins : (s : List ℕ) → longestText ≤ length s → Walking b s s 0 (firstUser b)
+  unfolding usersOf
+  begins s wide =
+      record {
+        faultless = faultless-here;
+        on = first-user b faultless-here;
+        same = refl;
+        wide = wide;
+        room = omega (arith, few-users);
+        fits = text-short;
+        count = omega arith;
+        written = refl;
+      }
+
+-- A TURN
+module _ (b before out : List ℕ) (end user : ℕ) (w : Walking b before out end user) (more : user ≡ 0 → ⊥) where
+  user-here : isUser b user ≡ true
+  user-here = ⊎-elim (λ (e : user ≡ 0). absurd (more e)) (λ (h : isUser b user ≡ true). h) (w .on)
+
+  pub room-here : end + longestLine ≤ length out
+  room-here = omega (arith, user-index b user user-here, w .room, w .wide, w .same)
+
+  pub next-falls : nextOf b user < user
+  next-falls =
+      let i = user-index b user user-here in
+      ⊎-elim (λ (e : nextOf b user ≡ 0). omega arith)
+      (λ (p : (isUser b (nextOf b user) ≡ true) × (nextOf b user < user)). p .1) (users-fall b (w .faultless) user user-here)
+
+  abbrev here : List ℕ
+  here = accountLine (accountAt b user)
+
+  ahead : linesFrom b user ≡ here ++ linesFrom b (nextOf b user)
+  unfolding lines
+  ahead =
+      ap (lines b) (chain-cons (λ i. isUser b i ≡ true) (nextOf b) (users-fall b (w .faultless)) user (user-index b user user-here .0) user-here)
+      ∙ ap (λ (l : List ℕ). l ++ linesFrom b (nextOf b user)) (user-line b user)
+
+  length-ahead : length (linesFrom b user) ≡ length here + length (linesFrom b (nextOf b user))
+  length-ahead = ap length ahead ∙ length-append here (linesFrom b (nextOf b user))
+
+  pub turned : Walking b before (stored end here out) (end + length here) (nextOf b user)
+  turned =
+      let short : length here ≤ longestLine = line-short (accountAt b user) in
+      let both : end + (length here + length (linesFrom b (nextOf b user))) ≤ length out =
+      omega (arith, w .count, w .fits, w .wide, w .same, length-ahead) in
+      record {
+        faultless = w .faultless;
+        on = falls-closed (λ i. isUser b i ≡ true) (nextOf b) (users-fall b (w .faultless)) user user-here;
+        same = length-stored end here out (omega arith) ∙ w .same;
+        wide = w .wide;
+        room = omega (arith, w .room, next-falls);
+        fits = w .fits;
+        count = omega (arith, w .count, length-ahead);
+        written =
+            stored-then end here (linesFrom b (nextOf b user)) out both
+            ∙ ap (λ (l : List ℕ). stored end l out) (sym ahead)
+            ∙ w .written;
+      }
+
+  -- the same, from what the three calls of a turn answer
+  pub goes-on : (account : Account) (out′ : List ℕ) (end′ next : ℕ) → account ≡ accountAt b user
+      → end′ ≡ end + length (accountLine account) → out′ ≡ stored end (accountLine account) out → next ≡ nextOf b user
+      → Walking b before out′ end′ next
+  goes-on account out′ end′ next a e o n = rw (n, o, e, a) turned
+
+-- THE END
+pub ends : (b before out : List ℕ) (end : ℕ) → Walking b before out end 0
+    → (end ≡ length (text b)) × (out ≡ stored 0 (text b) before)
+unfolding lines
+ends b before out end w =
+    let none : linesFrom b 0 ≡ [] = ap (lines b) (chain-none (nextOf b)) in
+    let zero-left : length (linesFrom b 0) ≡ 0 = ap length none in
+    (omega (arith, w .count), sym (ap (λ (l : List ℕ). stored end l out) none ∙ stored-none end out) ∙ w .written)

@@ -1,0 +1,46 @@
+-- Three fields one after the other: none is longer than `longestField`, so each leaves room for the next.
+use denote.Ref.{now}
+use Rattle.listing_text.proofs.Lines.{line-written}
+use borrow.Author.Needs.{needs}
+use Rattle.listing_text.proofs.line_at.Statement.{statement}
+use Rattle.listing_text.proofs.line_at.Tie as tie
+
+cast-number : tie.Need-cast-number
+cast-number c = search needs
+
+cast-open-year : tie.Need-cast-open-year
+cast-open-year c = search needs
+
+field-at-requires : tie.Need-field-at-requires
+field-at-requires c κs = search needs
+
+field-at-requires-2 : tie.Need-field-at-requires-2
+field-at-requires-2 c κs = search needs
+
+field-at-requires-3 : tie.Need-field-at-requires-3
+field-at-requires-3 c κs = search needs
+
+same-length : tie.Need-same-length
+same-length c = search needs
+
+returns : tie.Need-returns
+returns c =
+    let h = c .before .before .field-at3 in
+    let g = c .before .before .before .before .before .before .field-at2 in
+    let f = c .before .before .before .before .before .before .before .before .before .before .field-at in
+    let start = c .before .before .before .before .before .before .before .before .before .before .before .before .before .before .before in
+    let a = start .args in
+    line-written (a .at) (a .account) (now (a .out)) (f .result) (g .result) (h .result) (f .last .0) (g .last .0) (h .last .0) (start .pre)
+    (f .ensures .0) (f .ensures .1 .0) (g .ensures .0) (g .ensures .1 .0) (h .ensures .0) (h .ensures .1 .0)
+
+pub line-at-spec : {M : Type 1} → statement M
+line-at-spec =
+    tie.close
+    (tie.spec
+    cast-number
+    cast-open-year
+    field-at-requires
+    field-at-requires-2
+    field-at-requires-3
+    same-length
+    returns)

@@ -1,0 +1,25 @@
+-- Where there is room for the longest text, the book's own fits.
+use native.Mathlib.Omega.{arith}
+use denote.Ref.{now}
+use borrow.Author.Needs.{needs}
+use Rattle.listing_text.proofs.Texts.{all-written}
+use Rattle.listing_text.proofs.listing_of.Statement.{statement}
+use Rattle.listing_text.proofs.listing_of.Tie as tie
+
+returns : tie.Need-returns
+returns c = search needs
+
+text-of-requires : tie.Need-text-of-requires
+text-of-requires c κs = search needs
+
+same-length : tie.Need-same-length
+same-length c = search needs
+
+returns-2 : tie.Need-returns-2
+returns-2 c =
+    let a = c .before .before .before .before .before .before .before .args in
+    let t = c .before .before .text-of in
+    all-written (now (a .book)) (now (a .out)) (t .last .1 .0) (t .result) (omega arith) (t .ensures .0) (t .ensures .1)
+
+pub listing-of-spec : {M : Type 1} → statement M
+listing-of-spec = tie.close (tie.spec returns text-of-requires same-length returns-2)

@@ -1,0 +1,131 @@
+// The text of the listing (document 01): from the bytes of a book to the bytes that are printed.
+ghost use mathlib.Core.Path.{_≡_};
+ghost use mathlib.Core.Bool.{true};
+ghost use Prim.Native.Nat.{_+_, _≤_};
+ghost use lib.ListN.{length};
+ghost use Rattle.codec.specs.Bytes.{stored};
+ghost use Rattle.book.specs.Book.{lengthFits, sound};
+ghost use Rattle.chains.specs.Chains.{usersOf};
+ghost use Rattle.listing_text.specs.Listing.{mostDigits, decimal, lines, refused, listing};
+ghost use Rattle.listing_text.specs.Written.{longestField, longestLine, longestRefusal, longestText, field, accountLine, ListingAnswered};
+use account::Account;
+use soundness::Checked;
+
+// The longest listing: of each user three numbers of at most twenty digits, each with a byte after it.
+const MOST_USERS: usize = 799;
+
+const LONGEST_LINE: usize = 63;
+
+const LONGEST_TEXT: usize = MOST_USERS * LONGEST_LINE;
+
+// What became of a listing: written, so many bytes, or not, for want of room.
+pub enum Listed {
+    Written(usize),
+    NoRoom,
+}
+
+// Room for every listing.
+pub fn buffer() -> [u8; LONGEST_TEXT]
+    ensures { λ r. ⌜ longestText ≡ length r ⌝ }
+{
+    [0; LONGEST_TEXT]
+}
+
+// Writes a number at a place of the text, and answers the place after it.
+fn decimal_at(out: &mut [u8], at: usize, n: u64) -> usize
+    requires { ⌜ at + mostDigits ≤ length (now out) ⌝ }
+    ensures { λ r. ⌜ r ≡ at + length (decimal n) ⌝ }
+    ensures { λ _. ⌜ now (out .exit) ≡ stored at (decimal n) (now (out .entry)) ⌝ }
+{
+    let mut end = at;
+    if 10 <= n {
+        end = decimal_at(out, at, n / 10);
+    }
+    out[end] = b'0' + (n % 10) as u8;
+    end + 1
+}
+
+// The same, with one byte after it: a blank or a line feed.
+fn field_at(out: &mut [u8], at: usize, n: u64, after: u8) -> usize
+    requires { ⌜ at + longestField ≤ length (now out) ⌝ }
+    ensures { λ r. ⌜ r ≡ at + length (field n after) ⌝ }
+    ensures { λ _. ⌜ now (out .exit) ≡ stored at (field n after) (now (out .entry)) ⌝ }
+    ensures { λ r. ⌜ r ≤ at + longestField ⌝ }
+{
+    let end = decimal_at(out, at, n);
+    out[end] = after;
+    end + 1
+}
+
+// Writes the line of an account: number, open year and credit.
+fn line_at(out: &mut [u8], at: usize, account: Account) -> usize
+    requires { ⌜ at + longestLine ≤ length (now out) ⌝ }
+    ensures { λ r. ⌜ r ≡ at + length (accountLine account) ⌝ }
+    ensures { λ _. ⌜ now (out .exit) ≡ stored at (accountLine account) (now (out .entry)) ⌝ }
+{
+    let number = account.number.0 as u64;
+    let open_year = account.open_year as u64;
+    let credit = account.credit.0;
+    let second = field_at(out, at, number, b' ');
+    let third = field_at(out, second, open_year, b' ');
+    field_at(out, third, credit, b'\n')
+}
+
+// Writes the lines of the users of a sound book in chain order, and answers how many bytes they are.
+fn lines_of(book: &[u8], out: &mut [u8]) -> usize
+    requires { ⌜ lengthFits (now book) ≡ true ⌝ }
+    requires { ⌜ sound (now book) ≡ true ⌝ }
+    requires { ⌜ longestText ≤ length (now out) ⌝ }
+    ensures { λ r. ⌜ r ≡ length (lines (now (book .entry)) (usersOf (now (book .entry)))) ⌝ }
+    ensures { λ _. ⌜ now (out .exit) ≡ stored 0 (lines (now (book .entry)) (usersOf (now (book .entry)))) (now (out .entry)) ⌝ }
+{
+    let mut end = 0;
+    let mut user = view::first_user(book);
+    while user.0 != 0 {
+        let next = view::next_of(book, user);
+        let account = view::account_at(book, user);
+        end = line_at(out, end, account);
+        user = next;
+    }
+    end
+}
+
+// Writes the line of a refused book.
+fn refusal_of(out: &mut [u8], n: u64) -> usize
+    requires { ⌜ longestRefusal ≤ length (now out) ⌝ }
+    ensures { λ r. ⌜ r ≡ length (refused n) ⌝ }
+    ensures { λ _. ⌜ now (out .exit) ≡ stored 0 (refused n) (now (out .entry)) ⌝ }
+{
+    out[0] = b'r';
+    out[1] = b'e';
+    out[2] = b'f';
+    out[3] = b'u';
+    out[4] = b's';
+    out[5] = b'e';
+    out[6] = b'd';
+    out[7] = b' ';
+    field_at(out, 8, n, b'\n')
+}
+
+// Writes the text that a book has, by what the check says of it.
+fn text_of(book: &[u8], out: &mut [u8]) -> usize
+    requires { ⌜ longestText ≤ length (now out) ⌝ }
+    ensures { λ r. ⌜ r ≡ length (listing (now (book .entry))) ⌝ }
+    ensures { λ _. ⌜ now (out .exit) ≡ stored 0 (listing (now (book .entry))) (now (out .entry)) ⌝ }
+{
+    match soundness::check(book) {
+        Checked::Length => refusal_of(out, 1),
+        Checked::Sound => lines_of(book, out),
+        Checked::Faulty(_) => refusal_of(out, 2),
+    }
+}
+
+// Writes what the listing program prints of a book, any bytes, at the front of a text.
+pub fn listing_of(book: &[u8], out: &mut [u8]) -> Listed
+    ensures { λ r. ⌜ ListingAnswered (now (book .entry)) (now (out .entry)) (now (out .exit)) r ⌝ }
+{
+    if out.len() < LONGEST_TEXT {
+        return Listed::NoRoom;
+    }
+    Listed::Written(text_of(book, out))
+}
