@@ -1,0 +1,43 @@
+-- What the contract of each exported function says, of every call: a the arguments, r the answer, s the arguments at the end.
+use mathlib.Core.Path.{_≡_}
+use denote.Ref.{now}
+use Rattle.book.specs.Book.{used}
+use Rattle.soundness.specs.Verdicts.{freshAnswer, freshAfter}
+use Rattle.calls.specs.Calls.{enrol, elect, advance, close, statement}
+use Rattle.answers.specs.Answers.{Answered}
+use Rattle.advance.specs.Advances.{ticksAnswered}
+use Rattle.close.specs.Closings.{sumsAnswered}
+use Rattle.statement.specs.Stated.{sumsStated}
+use Rattle.ssp.specs.Flat.{detailsOf, flatClosed, flatSums}
+use Rattle.ssp.proofs.ssp_fresh.Reads as fresh-of
+use Rattle.ssp.proofs.ssp_enrol.Reads as enrol-of
+use Rattle.ssp.proofs.ssp_elect.Reads as elect-of
+use Rattle.ssp.proofs.ssp_advance.Reads as advance-of
+use Rattle.ssp.proofs.ssp_close.Reads as close-of
+use Rattle.ssp.proofs.ssp_statement.Reads as statement-of
+
+pub fresh-says : (κs : _) (a : _) (r : _) (s : _) → fresh-of.Post κs a r s → (r ≡ freshAnswer (now (a .0))) × (now (s .0) ≡ freshAfter (now (a .0)))
+fresh-says κs a r s said = said
+
+pub enrol-says : (κs : _) (a : _) (r : _) (s : _) → enrol-of.Post κs a r s
+    → Answered (now (a .0)) (enrol (a .1 .0) (detailsOf (a .1 .1 .0) (a .1 .1 .1 .0) (a .1 .1 .1 .1 .1 .0) (a .1 .1 .1 .1 .1 .1 .0) (a .1 .1 .1 .1 .1 .1 .1 .0) (a .1 .1 .1 .1 .1 .1 .1 .1 .0)) (a .1 .1 .1 .1 .0)) (used (now (a .0))) (r .refusal) (r .«record») (now (s .0))
+enrol-says κs a r s said = said
+
+pub elect-says : (κs : _) (a : _) (r : _) (s : _) → elect-of.Post κs a r s
+    → Answered (now (a .0)) (elect (a .1 .0) (a .1 .1 .0) (a .1 .1 .1 .0) (a .1 .1 .1 .1 .0) (a .1 .1 .1 .1 .1 .0)) 0 (r .refusal) (r .«record») (now (s .0))
+elect-says κs a r s said = said
+
+pub advance-says : (κs : _) (a : _) (r : _) (s : _) → advance-of.Post κs a r s
+    → Answered (now (a .0)) (advance (a .1 .0) (a .1 .1 .0) (a .1 .1 .1 .0) (a .1 .1 .1 .1 .0) (a .1 .1 .1 .1 .1 .0) (a .1 .1 .1 .1 .1 .1 .0)) 0 (r .refusal) (r .«record») (now (s .0))
+    × (r .ticks ≡ ticksAnswered (now (a .0)) (a .1 .0) (a .1 .1 .0) (a .1 .1 .1 .0) (a .1 .1 .1 .1 .0) (a .1 .1 .1 .1 .1 .0) (a .1 .1 .1 .1 .1 .1 .0) (r .refusal) .0)
+advance-says κs a r s said = said
+
+pub close-says : (κs : _) (a : _) (r : _) (s : _) → close-of.Post κs a r s
+    → Answered (now (a .0)) (close (now (a .1 .0))) 0 (r .refusal) (r .«record») (now (s .0))
+    × (r ≡ flatClosed (r .refusal) (r .«record») (sumsAnswered (now (a .0)) (now (a .1 .0)) (r .refusal)))
+close-says κs a r s said = said
+
+pub statement-says : (κs : _) (a : _) (r : _) (s : _) → statement-of.Post κs a r s
+    → Answered (now (a .0)) (statement (a .1 .0)) 0 (r .refusal) (r .«record») (now (a .0))
+    × (r ≡ flatSums (r .refusal) (r .«record») (sumsStated (now (a .0)) (a .1 .0) (r .refusal)))
+statement-says κs a r s said = said

@@ -1,0 +1,84 @@
+-- A flat answer says what the answer beneath it says.
+use Prim.Native.Nat.{ℕ}
+use mathlib.Core.Path.{_≡_, ap, sym, subst, _∙_}
+use mathlib.Core.List.{List}
+use lib.IntN.{ℤ}
+use mir.Syntax.{w64}
+use mir.Val.{Fits, toZ, ofZ}
+use mir.Facts.{ofZ-toZ}
+use Rattle.calls.specs.Calls.{close, statement}
+use Rattle.answers.specs.Answers.{Answered}
+use Rattle.close.specs.declared.ClosingSums.{ClosingSums}
+use Rattle.close.specs.Closings.{sumsAnswered}
+use Rattle.statements.specs.declared.Sums as statements
+use Rattle.statement.specs.Stated.{sumsStated}
+use Rattle.ssp.specs.declared.Closed.{Closed}
+use Rattle.ssp.specs.declared.Sums.{Sums}
+use Rattle.ssp.specs.Flat.{flatClosed, flatSums}
+
+-- a signed number stands in its field as its bits, and is read back from them
+read-back : {n : ℕ} {z : ℤ} → Fits w64 n → z ≡ toZ w64 n → toZ w64 (ofZ w64 z) ≡ toZ w64 n
+read-back {n} fits e = ap (λ x. toZ w64 (ofZ w64 x)) e ∙ ap (toZ w64) (ofZ-toZ fits)
+
+-- the flat answer, field by field
+module _ (refusal named : ℕ) where
+  abbrev closed-of : ClosingSums → ℤ → Closed
+  closed-of s z =
+      record {
+        refusal = refusal;
+        «record» = named;
+        value = s .value .0;
+        cost = s .cost .0;
+        «flat_rate» = s .«flat_rate» .0;
+        contribution = s .contribution .0;
+        liquidation = s .liquidation .0;
+        lapsed = s .lapsed .0;
+        balance = z;
+      }
+
+  abbrev sums-of : statements.Sums → ℤ → Sums
+  sums-of s z =
+      record {
+        refusal = refusal;
+        «record» = named;
+        «open_year» = s .«open_year»;
+        credit = s .credit .0;
+        value = s .value .0;
+        cost = s .cost .0;
+        «flat_rate» = s .«flat_rate» .0;
+        contribution = s .contribution .0;
+        liquidation = s .liquidation .0;
+        lapsed = s .lapsed .0;
+        balance = z;
+        advances = s .advances .0;
+        «closed_advances» = s .«closed_advances» .0;
+      }
+
+  pub closed-fields : (s : ClosingSums) (z : ℤ) → Fits w64 (s .balance .0) → z ≡ toZ w64 (s .balance .0) → closed-of s (toZ w64 (ofZ w64 z)) ≡ flatClosed refusal named s
+  unfolding flatClosed
+  closed-fields s z fits e = ap (closed-of s) (read-back fits e)
+
+  pub sums-fields : (s : statements.Sums) (z : ℤ) → Fits w64 (s .balance .0) → z ≡ toZ w64 (s .balance .0) → sums-of s (toZ w64 (ofZ w64 z)) ≡ flatSums refusal named s
+  unfolding flatSums
+  sums-fields s z fits e = ap (sums-of s) (read-back fits e)
+
+module _ (b : List ℕ) (refusal named : ℕ) where
+  pub closed-flat : (sheet after : List ℕ) (s : ClosingSums) (r : Closed) → r ≡ flatClosed refusal named s
+      → Answered b (close sheet) 0 refusal named after × (s ≡ sumsAnswered b sheet refusal)
+      → Answered b (close sheet) 0 (r .refusal) (r .«record») after × (r ≡ flatClosed (r .refusal) (r .«record») (sumsAnswered b sheet (r .refusal)))
+  unfolding flatClosed
+  closed-flat sheet after s r e said =
+      subst
+      (λ x. Answered b (close sheet) 0 (x .refusal) (x .«record») after × (x ≡ flatClosed (x .refusal) (x .«record») (sumsAnswered b sheet (x .refusal))))
+      (sym e)
+      (said .0, ap (flatClosed refusal named) (said .1))
+
+  pub sums-flat : (number : ℕ) (s : statements.Sums) (r : Sums) → r ≡ flatSums refusal named s
+      → Answered b (statement number) 0 refusal named b × (s ≡ sumsStated b number refusal)
+      → Answered b (statement number) 0 (r .refusal) (r .«record») b × (r ≡ flatSums (r .refusal) (r .«record») (sumsStated b number (r .refusal)))
+  unfolding flatSums
+  sums-flat number s r e said =
+      subst
+      (λ x. Answered b (statement number) 0 (x .refusal) (x .«record») b × (x ≡ flatSums (x .refusal) (x .«record») (sumsStated b number (x .refusal))))
+      (sym e)
+      (said .0, ap (flatSums refusal named) (said .1))

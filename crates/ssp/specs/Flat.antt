@@ -1,0 +1,45 @@
+-- Flat answers: each sum in its field as a plain number, and the balance signed. And an enrolment's details from plain numbers.
+use Prim.Native.Nat.{ℕ}
+use mir.Syntax.{w64}
+use mir.Val.{toZ}
+use Rattle.values.specs.declared.Details.{Details}
+use Rattle.close.specs.declared.ClosingSums.{ClosingSums}
+use Rattle.statements.specs.declared.Sums as statements
+use Rattle.ssp.specs.declared.Closed.{Closed}
+use Rattle.ssp.specs.declared.Sums.{Sums}
+
+abbrev pub detailsOf : ℕ → ℕ → ℕ → ℕ → ℕ → ℕ → Details
+detailsOf class plant power year month island =
+    record { class = class; plant = plant; power = power; year = year; month = month; island = island }
+
+unfoldable pub flatClosed : ℕ → ℕ → ClosingSums → Closed
+flatClosed refusal named s =
+    record {
+      refusal = refusal;
+      «record» = named;
+      value = s .value .0;
+      cost = s .cost .0;
+      «flat_rate» = s .«flat_rate» .0;
+      contribution = s .contribution .0;
+      liquidation = s .liquidation .0;
+      lapsed = s .lapsed .0;
+      balance = toZ w64 (s .balance .0);
+    }
+
+unfoldable pub flatSums : ℕ → ℕ → statements.Sums → Sums
+flatSums refusal named s =
+    record {
+      refusal = refusal;
+      «record» = named;
+      «open_year» = s .«open_year»;
+      credit = s .credit .0;
+      value = s .value .0;
+      cost = s .cost .0;
+      «flat_rate» = s .«flat_rate» .0;
+      contribution = s .contribution .0;
+      liquidation = s .liquidation .0;
+      lapsed = s .lapsed .0;
+      balance = toZ w64 (s .balance .0);
+      advances = s .advances .0;
+      «closed_advances» = s .«closed_advances» .0;
+    }

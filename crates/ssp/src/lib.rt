@@ -1,0 +1,197 @@
+// The book's calls as other programs link them (include/ssp.h). Each answer is flat, of plain numbers, and is by definition the
+// answer of the call beneath it.
+ghost use mathlib.Core.Path.{_≡_};
+ghost use Rattle.book.specs.Book.{used};
+ghost use Rattle.soundness.specs.Verdicts.{freshAnswer, freshAfter};
+ghost use Rattle.calls.specs.Calls.{enrol, elect, advance, close, statement};
+ghost use Rattle.answers.specs.Answers.{Answered};
+ghost use Rattle.advance.specs.Advances.{ticksAnswered};
+ghost use Rattle.close.specs.Closings.{sumsAnswered};
+ghost use Rattle.statement.specs.Stated.{sumsStated};
+ghost use Rattle.ssp.specs.Flat.{detailsOf, flatClosed, flatSums};
+use units::Rate;
+use units::UserNumber;
+use units::WideKwh;
+use values::Details;
+
+#[repr(C)]
+pub struct Booked {
+    pub refusal: u32,
+    pub record: u32,
+}
+
+#[repr(C)]
+pub struct Advanced {
+    pub refusal: u32,
+    pub record: u32,
+    pub ticks: u64,
+}
+
+#[repr(C)]
+pub struct Closed {
+    pub refusal: u32,
+    pub record: u32,
+    pub value: u64,
+    pub cost: u64,
+    pub flat_rate: u64,
+    pub contribution: u64,
+    pub liquidation: u64,
+    pub lapsed: u64,
+    pub balance: i64,
+}
+
+#[repr(C)]
+pub struct Sums {
+    pub refusal: u32,
+    pub record: u32,
+    pub open_year: u64,
+    pub credit: u64,
+    pub value: u64,
+    pub cost: u64,
+    pub flat_rate: u64,
+    pub contribution: u64,
+    pub liquidation: u64,
+    pub lapsed: u64,
+    pub balance: i64,
+    pub advances: u64,
+    pub closed_advances: u64,
+}
+
+fn flat_closed(closed: close::Closed) -> Closed
+    ensures { λ r. ⌜ r ≡ flatClosed (closed .refusal) (closed .record .0) (closed .sums) ⌝ }
+{
+    let year = closed.sums;
+    let balance = account::signed(year.balance);
+    Closed {
+        refusal: closed.refusal,
+        record: closed.record.0,
+        value: year.value.0,
+        cost: year.cost.0,
+        flat_rate: year.flat_rate.0,
+        contribution: year.contribution.0,
+        liquidation: year.liquidation.0,
+        lapsed: year.lapsed.0,
+        balance,
+    }
+}
+
+fn flat_sums(stated: statement::Stated) -> Sums
+    ensures { λ r. ⌜ r ≡ flatSums (stated .refusal) (stated .record .0) (stated .sums) ⌝ }
+{
+    let sums = stated.sums;
+    let balance = account::signed(sums.balance);
+    Sums {
+        refusal: stated.refusal,
+        record: stated.record.0,
+        open_year: sums.open_year,
+        credit: sums.credit.0,
+        value: sums.value.0,
+        cost: sums.cost.0,
+        flat_rate: sums.flat_rate.0,
+        contribution: sums.contribution.0,
+        liquidation: sums.liquidation.0,
+        lapsed: sums.lapsed.0,
+        balance,
+        advances: sums.advances.0,
+        closed_advances: sums.closed_advances.0,
+    }
+}
+
+#[no_mangle]
+pub extern "C" fn ssp_fresh(book: &mut [u8]) -> u32
+    ensures { λ r. ⌜ (r ≡ freshAnswer (now (book .entry))) × (now (book .exit) ≡ freshAfter (now (book .entry))) ⌝ }
+{
+    soundness::fresh(book)
+}
+
+#[no_mangle]
+pub extern "C" fn ssp_enrol(
+    book: &mut [u8],
+    number: u32,
+    user_class: u8,
+    plant: u8,
+    option: u8,
+    power: u32,
+    year: u16,
+    month: u8,
+    island: u8,
+) -> Booked
+    ensures { λ r. ⌜ Answered (now (book .entry)) (enrol number (detailsOf «user_class» plant power year month island) option) (used (now (book .entry))) (r .refusal) (r .record) (now (book .exit)) ⌝ }
+{
+    let details = Details {
+        class: user_class,
+        plant,
+        power,
+        year,
+        month,
+        island,
+    };
+    let said = enrol::enrol(book, UserNumber(number), details, option);
+    Booked {
+        refusal: said.refusal,
+        record: said.record.0,
+    }
+}
+
+#[no_mangle]
+pub extern "C" fn ssp_elect(
+    book: &mut [u8],
+    number: u32,
+    option: u8,
+    year: u32,
+    month: u32,
+    day: u32,
+) -> Booked
+    ensures { λ r. ⌜ Answered (now (book .entry)) (elect number option year month day) 0 (r .refusal) (r .record) (now (book .exit)) ⌝ }
+{
+    let said = elect::elect(book, UserNumber(number), option, year, month, day);
+    Booked {
+        refusal: said.refusal,
+        record: said.record.0,
+    }
+}
+
+#[no_mangle]
+pub extern "C" fn ssp_advance(
+    book: &mut [u8],
+    number: u32,
+    year: u32,
+    run: u8,
+    rate: u64,
+    estimate1: u64,
+    estimate2: u64,
+) -> Advanced
+    ensures { λ r. ⌜ Answered (now (book .entry)) (advance number year run rate estimate1 estimate2) 0 (r .refusal) (r .record) (now (book .exit)) ⌝ }
+    ensures { λ r. ⌜ r .ticks ≡ ticksAnswered (now (book .entry)) number year run rate estimate1 estimate2 (r .refusal) .0 ⌝ }
+{
+    let said = advance::advance(
+        book,
+        UserNumber(number),
+        year,
+        run,
+        Rate(rate),
+        WideKwh(estimate1),
+        WideKwh(estimate2),
+    );
+    Advanced {
+        refusal: said.refusal,
+        record: said.record.0,
+        ticks: said.ticks.0,
+    }
+}
+
+#[no_mangle]
+pub extern "C" fn ssp_close(book: &mut [u8], sheet: &[u8]) -> Closed
+    ensures { λ r. ⌜ Answered (now (book .entry)) (close (now (sheet .entry))) 0 (r .refusal) (r .record) (now (book .exit)) ⌝ }
+    ensures { λ r. ⌜ r ≡ flatClosed (r .refusal) (r .record) (sumsAnswered (now (book .entry)) (now (sheet .entry)) (r .refusal)) ⌝ }
+{
+    flat_closed(close::close(book, sheet))
+}
+
+#[no_mangle]
+pub extern "C" fn ssp_statement(book: &[u8], number: u32) -> Sums
+    ensures { λ r. ⌜ Answered (now (book .entry)) (statement number) 0 (r .refusal) (r .record) (now (book .entry)) ⌝ }
+    ensures { λ r. ⌜ r ≡ flatSums (r .refusal) (r .record) (sumsStated (now (book .entry)) number (r .refusal)) ⌝ }
+{
+    flat_sums(statement::statement(book, UserNumber(number)))
+}
