@@ -1,0 +1,186 @@
+/*
+ * ssp.h: a net metering account book (scambio sul posto, by the GSE's rules of May 2013) in one buffer that the caller lends.
+ *
+ * Link with libssp.a, which `rt staticlib ssp` writes to target/staticlib/. It is for x86-64, keeps no state, allocates nothing,
+ * does no input or output, and takes only memcpy and memset from the C library. Every call returns.
+ *
+ * UNITS
+ *
+ *   Energy is in whole kWh. Prices and rates are in 0.00001 EUR per kWh. Amounts are in ticks of 0.00001 EUR: 1 EUR is
+ *   100,000 ticks.
+ *
+ * BOOK
+ *
+ *   A book is 2 to 800 records of 80 bytes: `len` is a multiple of 80 from 160 to 64,000. The head takes one record, and each
+ *   user, each advance and each closing one more. docs/FORMAT.md has the book byte by byte. A buffer becomes a book by
+ *   ssp_fresh. It may then be stored, copied or moved between calls; the bytes are the whole of it.
+ *
+ *   Every call but ssp_fresh checks the whole book first, so a book of any bytes is safe to pass: damage is answered with
+ *   refusal 2.
+ *
+ * ANSWERS
+ *
+ *   `refusal` is 0 for an accepted call, or the number of the first objection that holds, in the order that each function
+ *   names. A refused call leaves every byte of the book as it was, and every value in its answer is 0.
+ *   `record` is, after refusal 2, the index of a faulty record (which one of several is not laid down); after an accepted
+ *   ssp_enrol, the index of the new record; else 0.
+ *
+ *    1  The book's length is not a multiple of 80 from 160 to 64,000.
+ *    2  The book is damaged: the record named is faulty.
+ *    3  The book is full: the call needs one more record.
+ *    4  The user number is 0, or a user has it already.
+ *    5  A detail of the enrolment is out of its range.
+ *    6  No user has the number.
+ *    7  There is no such day, or the option is neither 0 nor 1.
+ *    8  The day is outside the election's window, or the user's open year is 2100.
+ *    9  The year of the advance is not the user's open year or is above 2099, or the run is not one of the three, is not due in
+ *       that year, or was made already.
+ *   10  The rate is above 500,000, or an estimate is above 360,000,000 kWh.
+ *   11  The sheet's length, its header or one of its zero words is wrong.
+ *   12  The sheet's year is not the user's open year, or is above 2099.
+ *   13  A number of the sheet is above its limit, or a single reading has kWh in F2 or F3.
+ *   14  A domestic user (class 1 or 2) withdrew more than 4,000,000 kWh in a month.
+ *
+ * MEMORY
+ *
+ *   `book` points to `len` bytes, and `sheet` to `sheet_len` bytes, that are valid for the whole call: readable, and for a
+ *   `book` that is not const also writable. They need no alignment. Book and sheet must not overlap. During the call nobody
+ *   else may write to them, nor read a book that is not const: no other thread, no signal handler, no device. Once a call has
+ *   returned, the library holds nothing. No length has a minimum or a maximum that the caller must keep. With length 0 no byte
+ *   is read or written and the pointer may be NULL: such a book is refused with 1, such a sheet with 11.
+ *
+ * THREADS
+ *
+ *   One caller at a time for a book. Calls on different books may run at the same time, in any number.
+ */
+#ifndef SSP_H
+#define SSP_H
+
+#include <stddef.h>
+#include <stdint.h>
+
+#ifdef __cplusplus
+extern "C" {
+#endif
+
+/* The options of a year: what becomes of value beyond the purchase cost. */
+#define SSP_CREDIT 0      /* it is carried as credit */
+#define SSP_LIQUIDATION 1 /* it is paid out, and the credit before it lapses */
+
+/* The runs of advances. */
+#define SSP_JUNE 1
+#define SSP_OCTOBER 2
+#define SSP_JANUARY 4
+
+/* The length of a year sheet. docs/FORMAT.md has it byte by byte. */
+#define SSP_SHEET_LENGTH 1184
+
+struct ssp_booked {
+    uint32_t refusal;
+    uint32_t record;
+};
+
+struct ssp_advanced {
+    uint32_t refusal;
+    uint32_t record;
+    uint64_t ticks; /* what the run pays; 0 for a run of 1,500,000 ticks or less */
+};
+
+/* The sums of the year that was closed, in ticks. */
+struct ssp_closed {
+    uint32_t refusal;
+    uint32_t record;
+    uint64_t value;        /* C, of the energy injected */
+    uint64_t cost;         /* O, of the energy withdrawn */
+    uint64_t flat_rate;    /* F, the flat-rate part for the energy exchanged */
+    uint64_t contribution; /* what is due for the year */
+    uint64_t liquidation;  /* paid out beside it, in a year of liquidation */
+    uint64_t lapsed;       /* the credit that ended, in a year of liquidation */
+    int64_t balance;       /* contribution less the year's advances; negative if too much was advanced */
+};
+
+/* A user's statement: sums over all closed years and all advances, in ticks but for the year. */
+struct ssp_sums {
+    uint32_t refusal;
+    uint32_t record;
+    uint64_t open_year; /* the year that is closed next */
+    uint64_t credit;    /* the credit that stands */
+    uint64_t value;
+    uint64_t cost;
+    uint64_t flat_rate;
+    uint64_t contribution;
+    uint64_t liquidation;
+    uint64_t lapsed;
+    int64_t balance;
+    uint64_t advances;        /* of all years, the open one included */
+    uint64_t closed_advances; /* of the closed years */
+};
+
+/*
+ * Makes a fresh book of the buffer, whatever it held: one head, no user. Returns 0, or 1 for a length that does not fit, and
+ * then leaves every byte.
+ */
+uint32_t ssp_fresh(uint8_t *book, size_t len);
+
+/*
+ * Enrols a user. Its open year is the year of activation. Refusals in the order 1 2 4 5 3.
+ *
+ *   number      any but 0 that no user of the book has
+ *   user_class  1 domestic D2, 2 domestic D3, 3 lighting, 4 vehicle charging, 5 other low voltage, 6 to 8 the same three
+ *               (lighting, vehicle charging, other) at medium voltage, 9 high voltage, 10 and 11 extra high voltage (below
+ *               380 kV, from 380 kV)
+ *   plant       1 to 16, the kinds of Table 1 of the GSE's rules in printed order (1 photovoltaic); 17 non-renewable
+ *               high-efficiency cogeneration
+ *   option      SSP_CREDIT or SSP_LIQUIDATION
+ *   power       of the plant, 1 to 200,000 W
+ *   year        of activation, 2013 to 2099
+ *   month       of activation, 1 to 12
+ *   island      1 for a network that is not interconnected, else 0
+ */
+struct ssp_booked ssp_enrol(uint8_t *book, size_t len, uint32_t number, uint8_t user_class, uint8_t plant, uint8_t option,
+                            uint32_t power, uint16_t year, uint8_t month, uint8_t island);
+
+/*
+ * Sets the option of a user's open year and of those after it; the last election called holds. Refusals in the order 1 2 6 7 8.
+ *
+ *   option            SSP_CREDIT or SSP_LIQUIDATION
+ *   year, month, day  the day of the election, of the Gregorian calendar: from 1 January of the open year to 31 January of the
+ *                     year after it
+ */
+struct ssp_booked ssp_elect(uint8_t *book, size_t len, uint32_t number, uint8_t option, uint32_t year, uint32_t month,
+                            uint32_t day);
+
+/*
+ * Books a run of advances for the open year. June pays for the first half of the year and October for the second; in the year
+ * of activation, October pays for both halves if the plant started in March to August, January for both if it started in
+ * September to November, and there is no run if it started in December. The amount is the rate times the kWh exchanged in that
+ * half of the last closed year, or times the estimate if no year is closed. Refusals in the order 1 2 6 9 10 3.
+ *
+ *   year                  the open year, at most 2099
+ *   run                   SSP_JUNE, SSP_OCTOBER or SSP_JANUARY
+ *   rate                  0 to 500,000, in 0.00001 EUR per kWh
+ *   estimate1, estimate2  of the halves, 0 to 360,000,000 kWh; both are checked even where they are not used
+ */
+struct ssp_advanced ssp_advance(uint8_t *book, size_t len, uint32_t number, uint32_t year, uint8_t run, uint64_t rate,
+                                uint64_t estimate1, uint64_t estimate2);
+
+/*
+ * Closes the open year of the user that the sheet names, from the sheet's readings and prices, and opens the next one. Refusals
+ * in the order 1 2 11 6 12 13 14 3.
+ *
+ *   sheet  the grid operator's year sheet of SSP_SHEET_LENGTH bytes, little-endian. Header: 0-3 user number, 4-5 year, 6
+ *          withdrawn reading and 7 injected reading (0 single, 1 by bands), 8-31 zero. Then twelve months of 24 numbers of 32
+ *          bits: withdrawn F1 F2 F3, injected F1 F2 F3 (at most 20,000,000 kWh each; a single reading stands at F1), PUN F1 F2
+ *          F3, PUN mean, zone F1 F2 F3, zone mean, zone mean of hours 8-20, net rate of tiers 1-4, system rate of tiers 1-4
+ *          (at most 500,000 each), zero
+ */
+struct ssp_closed ssp_close(uint8_t *book, size_t len, const uint8_t *sheet, size_t sheet_len);
+
+/* States a user's account. Never writes. Refusals in the order 1 2 6. */
+struct ssp_sums ssp_statement(const uint8_t *book, size_t len, uint32_t number);
+
+#ifdef __cplusplus
+}
+#endif
+
+#endif
