@@ -1,0 +1,126 @@
+//! The books that are timed. One record stays free, so that an advance or a closing has room.
+
+use ssp_book::{Book, Enrolment, Order, option, run};
+
+/// The length of the longest book.
+pub const LONGEST: usize = 64_000;
+
+/// In which order the user numbers come.
+#[derive(Clone, Copy)]
+pub enum Numbers {
+    Scattered,
+    Ascending,
+    Descending,
+}
+
+impl Numbers {
+    pub fn name(self) -> &'static str {
+        match self {
+            Numbers::Scattered => "scattered",
+            Numbers::Ascending => "ascending",
+            Numbers::Descending => "descending",
+        }
+    }
+
+    fn number(self, at: u32) -> u32 {
+        match self {
+            // each step can be undone, so that different places have different numbers
+            Numbers::Scattered => {
+                let mixed = (at ^ at >> 16).wrapping_mul(0x7feb_352d);
+                (mixed ^ mixed >> 15).wrapping_mul(0x846c_a68b)
+            }
+            Numbers::Ascending => at,
+            Numbers::Descending => u32::MAX - at,
+        }
+    }
+}
+
+fn household(number: u32) -> Enrolment {
+    Enrolment {
+        number,
+        class: 2,
+        plant: 1,
+        option: option::CREDIT,
+        power: 3_000,
+        year: 2013,
+        month: 1,
+        island: 0,
+    }
+}
+
+/// A book of so many records, all but the head and the last of them users.
+pub fn book_of_users(records: usize, numbers: Numbers) -> Vec<u8> {
+    let mut bytes = vec![0; Book::RECORD * records];
+    let mut book = Book::fresh(&mut bytes).expect("a length that fits");
+    for at in 1..records as u32 - 1 {
+        book.enrol(household(numbers.number(at))).expect("a free record");
+    }
+    bytes
+}
+
+/// A book of 800 records with 10 users and 788 entries: two advances and a closing a year.
+pub fn book_of_entries() -> Vec<u8> {
+    let mut bytes = vec![0; LONGEST];
+    let mut book = Book::fresh(&mut bytes).expect("a length that fits");
+    for number in 1..=10 {
+        book.enrol(household(number)).expect("a free record");
+    }
+    let mut entries = 0;
+    for year in 2013.. {
+        for number in 1..=10 {
+            for run in [run::JUNE, run::OCTOBER] {
+                let order = Order {
+                    year: u32::from(year),
+                    run,
+                    rate: 9_000,
+                    estimates: [4_000, 4_000],
+                };
+                book.advance(number, order).expect("a run that is due");
+            }
+            book.close(&sheet(number, year)).expect("a year that is open");
+            entries += 3;
+            if entries + 3 > 788 {
+                let order = Order {
+                    year: u32::from(year) + 1,
+                    run: run::JUNE,
+                    rate: 9_000,
+                    estimates: [0, 0],
+                };
+                for other in 1..=788 - entries {
+                    book.advance(other, order).expect("a run that is due");
+                }
+                return bytes;
+            }
+        }
+    }
+    bytes
+}
+
+/// The number of the user in the middle of the users' chain.
+pub fn middle_user(book: &[u8]) -> u32 {
+    let word = |at: usize| u32::from_le_bytes([book[at], book[at + 1], book[at + 2], book[at + 3]]);
+    let mut users = Vec::new();
+    let mut user = word(4) as usize;
+    while user != 0 {
+        users.push(word(Book::RECORD * user + 8));
+        user = word(Book::RECORD * user) as usize;
+    }
+    users[users.len() / 2]
+}
+
+/// A year sheet by bands, with twelve equal months.
+pub fn sheet(number: u32, year: u16) -> Vec<u8> {
+    let month: [u32; 24] = [
+        120, 90, 80, 250, 110, 40, 7200, 6800, 5100, 6300, 6900, 6400, 4800, 6000, 6600, 3000, 4000, 6000, 7000, 1000, 1200,
+        1500, 1900, 0,
+    ];
+    let mut sheet = Vec::with_capacity(Book::SHEET);
+    sheet.extend(number.to_le_bytes());
+    sheet.extend(year.to_le_bytes());
+    sheet.extend([1, 1]);
+    sheet.resize(32, 0);
+    for _ in 0..12 {
+        sheet.extend(month.iter().flat_map(|number| number.to_le_bytes()));
+    }
+    sheet
+}

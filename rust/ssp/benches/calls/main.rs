@@ -1,0 +1,140 @@
+//! Nanoseconds a call of the library and of `rust/peer`, an independent implementation, in one run. Each timed call answers 0.
+
+mod books;
+
+use std::hint::black_box;
+use std::time::{Duration, Instant};
+
+use books::{LONGEST, Numbers, book_of_entries, book_of_users, middle_user, sheet};
+use ssp_book::{Book, Day, Order, option, run};
+
+/// The shortest of 15 rounds, each of as many turns as take 4 ms.
+fn nanoseconds(mut turn: impl FnMut()) -> f64 {
+    let mut round = |turns: u32| {
+        let start = Instant::now();
+        for _ in 0..turns {
+            turn();
+        }
+        start.elapsed()
+    };
+    let mut turns = 1;
+    while round(turns) < Duration::from_millis(4) {
+        turns *= 2;
+    }
+    let best = (0..15).map(|_| round(turns)).min().unwrap_or_default();
+    best.as_nanos() as f64 / f64::from(turns)
+}
+
+fn row(book: &str, call: &str, proved: f64, peer: f64) {
+    println!("{book:<30} {call:<10} {proved:>12.0} {peer:>12.0} {:>8.2}", proved / peer);
+}
+
+/// A row for each of the four calls. A call that writes gets the book by a copy each time, in both.
+fn calls(name: &str, book: &[u8]) {
+    let number = middle_user(book);
+    let year = peer::statement(book, number).open_year;
+    let (mut lent, mut other) = (book.to_vec(), book.to_vec());
+
+    row(
+        name,
+        "statement",
+        nanoseconds(|| {
+            assert!(black_box(Book::over(&mut lent).statement(black_box(number))).is_ok());
+        }),
+        nanoseconds(|| {
+            assert_eq!(black_box(peer::statement(&other, black_box(number))).code, 0);
+        }),
+    );
+
+    let day = Day {
+        year: year.into(),
+        month: 5,
+        day: 5,
+    };
+    row(
+        name,
+        "elect",
+        nanoseconds(|| {
+            lent.copy_from_slice(black_box(book));
+            assert!(Book::over(&mut lent).elect(number, option::LIQUIDATION, day).is_ok());
+        }),
+        nanoseconds(|| {
+            other.copy_from_slice(black_box(book));
+            assert_eq!(peer::elect(&mut other, number, 1, day.year, 5, 5).code, 0);
+        }),
+    );
+
+    let order = Order {
+        year: year.into(),
+        run: run::JUNE,
+        rate: 9_000,
+        estimates: [4_000, 4_000],
+    };
+    row(
+        name,
+        "advance",
+        nanoseconds(|| {
+            lent.copy_from_slice(black_box(book));
+            assert!(Book::over(&mut lent).advance(number, order).is_ok());
+        }),
+        nanoseconds(|| {
+            other.copy_from_slice(black_box(book));
+            assert_eq!(peer::advance(&mut other, number, year, 1, 9_000, 4_000, 4_000).code, 0);
+        }),
+    );
+
+    let sheet = sheet(number, year);
+    row(
+        name,
+        "close",
+        nanoseconds(|| {
+            lent.copy_from_slice(black_box(book));
+            assert!(Book::over(&mut lent).close(black_box(&sheet)).is_ok());
+        }),
+        nanoseconds(|| {
+            other.copy_from_slice(black_box(book));
+            assert_eq!(peer::close(&mut other, black_box(&sheet)).code, 0);
+        }),
+    );
+}
+
+fn statement_of(name: &str, book: &[u8]) {
+    let number = middle_user(book);
+    let mut lent = book.to_vec();
+    row(
+        name,
+        "statement",
+        nanoseconds(|| {
+            assert!(black_box(Book::over(&mut lent).statement(black_box(number))).is_ok());
+        }),
+        nanoseconds(|| assert_eq!(black_box(peer::statement(book, black_box(number))).code, 0)),
+    );
+}
+
+fn main() {
+    println!(
+        "{:<30} {:<10} {:>12} {:>12} {:>8}",
+        "book", "call", "library ns", "peer ns", "ratio"
+    );
+    calls("798 users", &book_of_users(800, Numbers::Scattered));
+    calls("10 users, 788 entries", &book_of_entries());
+    for records in [100, 200, 400, 800] {
+        for order in [Numbers::Scattered, Numbers::Ascending, Numbers::Descending] {
+            let name = format!("{records} records, {}", order.name());
+            statement_of(&name, &book_of_users(records, order));
+        }
+    }
+
+    let bytes = book_of_users(800, Numbers::Scattered);
+    let pass = nanoseconds(|| {
+        let words = black_box(&bytes[..]).chunks_exact(8);
+        let sum = words.fold(0u64, |sum, word| sum ^ word.try_into().map_or(0, u64::from_le_bytes));
+        black_box(sum);
+    });
+    let mut copy = vec![0; LONGEST];
+    let copied = nanoseconds(|| black_box(&mut copy).copy_from_slice(black_box(&bytes)));
+    println!();
+    println!("one plain pass over {LONGEST} bytes, the floor: {pass:.0} ns");
+    println!("the copy of {LONGEST} bytes in elect, advance and close, of both: {copied:.0} ns");
+    println!("Every book was cleared by fresh before it was filled. Between calls no cache is cleared.");
+}

@@ -1,0 +1,94 @@
+//! The exported functions of libssp.a, as `include/ssp.h` declares them.
+
+#[repr(C)]
+pub struct Booked {
+    pub refusal: u32,
+    pub record: u32,
+}
+
+#[repr(C)]
+pub struct Advanced {
+    pub refusal: u32,
+    pub record: u32,
+    pub ticks: u64,
+}
+
+#[repr(C)]
+pub struct Closed {
+    pub refusal: u32,
+    pub record: u32,
+    pub value: u64,
+    pub cost: u64,
+    pub flat_rate: u64,
+    pub contribution: u64,
+    pub liquidation: u64,
+    pub lapsed: u64,
+    pub balance: i64,
+}
+
+#[repr(C)]
+pub struct Sums {
+    pub refusal: u32,
+    pub record: u32,
+    pub open_year: u64,
+    pub credit: u64,
+    pub value: u64,
+    pub cost: u64,
+    pub flat_rate: u64,
+    pub contribution: u64,
+    pub liquidation: u64,
+    pub lapsed: u64,
+    pub balance: i64,
+    pub advances: u64,
+    pub closed_advances: u64,
+}
+
+unsafe extern "C" {
+    pub fn ssp_fresh(book: *mut u8, len: usize) -> u32;
+    pub fn ssp_enrol(
+        book: *mut u8,
+        len: usize,
+        number: u32,
+        user_class: u8,
+        plant: u8,
+        option: u8,
+        power: u32,
+        year: u16,
+        month: u8,
+        island: u8,
+    ) -> Booked;
+    pub fn ssp_elect(book: *mut u8, len: usize, number: u32, option: u8, year: u32, month: u32, day: u32) -> Booked;
+    pub fn ssp_advance(
+        book: *mut u8,
+        len: usize,
+        number: u32,
+        year: u32,
+        run: u8,
+        rate: u64,
+        estimate1: u64,
+        estimate2: u64,
+    ) -> Advanced;
+    pub fn ssp_close(book: *mut u8, len: usize, sheet: *const u8, sheet_len: usize) -> Closed;
+    pub fn ssp_statement(book: *const u8, len: usize, number: u32) -> Sums;
+}
+
+#[cfg(test)]
+mod tests {
+    use std::ptr::{null, null_mut};
+
+    use super::{ssp_close, ssp_fresh, ssp_statement};
+
+    /// "With length 0 no byte is read or written and the pointer may be NULL."
+    #[test]
+    fn null_with_length_0() {
+        let mut book = [0; 160];
+        // SAFETY: the lengths are those of the array and of nothing at all.
+        unsafe {
+            assert_eq!(ssp_fresh(null_mut(), 0), 1);
+            assert_eq!(ssp_statement(null(), 0, 7).refusal, 1);
+            assert_eq!(ssp_close(null_mut(), 0, null(), 0).refusal, 1);
+            assert_eq!(ssp_fresh(book.as_mut_ptr(), book.len()), 0);
+            assert_eq!(ssp_close(book.as_mut_ptr(), book.len(), null(), 0).refusal, 11);
+        }
+    }
+}

@@ -1,0 +1,211 @@
+//! A net metering account book (scambio sul posto, by the GSE's rules of May 2013) in one buffer that the caller lends.
+//!
+//! The calls are those of the proved library `libssp.a`; this crate lends it the buffer, names its refusals and shows its
+//! amounts in euro. Any bytes may be lent and any numbers brought: what does not fit is refused, and a refused call leaves
+//! every byte as it was.
+//!
+//! ```
+//! use ssp_book::{Book, Day, Enrolment, Refusal, option};
+//!
+//! let mut bytes = [0; 8 * Book::RECORD];
+//! let mut book = Book::fresh(&mut bytes)?;
+//! let household = Enrolment {
+//!     number: 7,
+//!     class: 2,
+//!     plant: 1,
+//!     option: option::CREDIT,
+//!     power: 3000,
+//!     year: 2013,
+//!     month: 1,
+//!     island: 0,
+//! };
+//! assert_eq!(book.enrol(household)?, 1);
+//! book.elect(7, option::LIQUIDATION, Day { year: 2013, month: 12, day: 31 })?;
+//! assert_eq!(book.statement(7)?.open_year, 2013);
+//! assert_eq!(book.statement(8), Err(Refusal::Unknown));
+//! # Ok::<(), Refusal>(())
+//! ```
+
+#![warn(missing_docs)]
+
+mod amount;
+mod answers;
+mod ffi;
+mod refusal;
+
+pub use amount::{Balance, Ticks};
+pub use answers::{Closing, Statement};
+pub use refusal::Refusal;
+
+/// The options of a year: what becomes of value beyond the purchase cost.
+pub mod option {
+    /// It is carried as credit.
+    pub const CREDIT: u8 = 0;
+    /// It is paid out, and the credit before it lapses.
+    pub const LIQUIDATION: u8 = 1;
+}
+
+/// The runs of advances.
+pub mod run {
+    /// The run of June, for the first half of the year.
+    pub const JUNE: u8 = 1;
+    /// The run of October, for the second half; for both in the year of activation, if the plant started in March to August.
+    pub const OCTOBER: u8 = 2;
+    /// The run of January, for both halves of the year of activation, if the plant started in September to November.
+    pub const JANUARY: u8 = 4;
+}
+
+/// What an enrolment brings.
+#[derive(Clone, Copy, Debug, PartialEq, Eq)]
+pub struct Enrolment {
+    /// Any but 0 that no user of the book has.
+    pub number: u32,
+    /// 1 domestic D2, 2 domestic D3, 3 lighting, 4 vehicle charging, 5 other low voltage, 6 to 8 the same three at medium
+    /// voltage, 9 high, 10 and 11 extra high voltage.
+    pub class: u8,
+    /// 1 to 16, the kinds of Table 1 in printed order (1 photovoltaic); 17 non-renewable high-efficiency cogeneration.
+    pub plant: u8,
+    /// One of [`option`].
+    pub option: u8,
+    /// Of the plant, 1 to 200,000 W.
+    pub power: u32,
+    /// Of activation, 2013 to 2099.
+    pub year: u16,
+    /// Of activation, 1 to 12.
+    pub month: u8,
+    /// 1 for a network that is not interconnected, else 0.
+    pub island: u8,
+}
+
+/// A day of the Gregorian calendar.
+#[derive(Clone, Copy, Debug, PartialEq, Eq)]
+pub struct Day {
+    /// The year's number.
+    pub year: u32,
+    /// 1 to 12.
+    pub month: u32,
+    /// From 1 to the month's last.
+    pub day: u32,
+}
+
+/// An order to pay a run of advances.
+#[derive(Clone, Copy, Debug, PartialEq, Eq)]
+pub struct Order {
+    /// The user's open year, at most 2099.
+    pub year: u32,
+    /// One of [`run`].
+    pub run: u8,
+    /// In 0.00001 € per kWh, at most 500,000.
+    pub rate: u64,
+    /// For each half of the year in kWh, at most 360,000,000; used while no year is closed, checked always.
+    pub estimates: [u64; 2],
+}
+
+/// A book over bytes that the caller lends.
+///
+/// It holds nothing but the bytes: they may be stored and lent again later.
+#[derive(Debug)]
+pub struct Book<'a> {
+    bytes: &'a mut [u8],
+}
+
+impl<'a> Book<'a> {
+    /// The length of a record. The head takes one, and each user, each advance and each closing one more.
+    pub const RECORD: usize = 80;
+
+    /// The length of a year sheet.
+    pub const SHEET: usize = 1184;
+
+    /// The book that the bytes hold. Whether they hold one is checked by each call.
+    pub fn over(bytes: &'a mut [u8]) -> Book<'a> {
+        Book { bytes }
+    }
+
+    /// Makes a fresh book of the bytes, whatever they held. Refused with [`Refusal::Length`] alone.
+    pub fn fresh(bytes: &'a mut [u8]) -> Result<Book<'a>, Refusal> {
+        // SAFETY: the pointer and the length are those of a slice that is borrowed mutably for the whole call.
+        let refusal = unsafe { ffi::ssp_fresh(bytes.as_mut_ptr(), bytes.len()) };
+        Refusal::check(refusal, 0)?;
+        Ok(Book { bytes })
+    }
+
+    /// The bytes of the book.
+    pub fn bytes(&self) -> &[u8] {
+        self.bytes
+    }
+
+    /// Enrols a user and answers the index of its record. Refusals in the order 1 2 4 5 3.
+    pub fn enrol(&mut self, user: Enrolment) -> Result<u32, Refusal> {
+        // SAFETY: the pointer and the length are those of a slice that is borrowed mutably for the whole call.
+        let booked = unsafe {
+            ffi::ssp_enrol(
+                self.bytes.as_mut_ptr(),
+                self.bytes.len(),
+                user.number,
+                user.class,
+                user.plant,
+                user.option,
+                user.power,
+                user.year,
+                user.month,
+                user.island,
+            )
+        };
+        Refusal::check(booked.refusal, booked.record)?;
+        Ok(booked.record)
+    }
+
+    /// Sets the option of a user's open year and of those after it. Refusals in the order 1 2 6 7 8.
+    pub fn elect(&mut self, number: u32, option: u8, day: Day) -> Result<(), Refusal> {
+        // SAFETY: the pointer and the length are those of a slice that is borrowed mutably for the whole call.
+        let booked = unsafe {
+            ffi::ssp_elect(
+                self.bytes.as_mut_ptr(),
+                self.bytes.len(),
+                number,
+                option,
+                day.year,
+                day.month,
+                day.day,
+            )
+        };
+        Refusal::check(booked.refusal, booked.record)
+    }
+
+    /// Books a run of advances for a user's open year and answers what it pays. Refusals in the order 1 2 6 9 10 3.
+    pub fn advance(&mut self, number: u32, order: Order) -> Result<Ticks, Refusal> {
+        // SAFETY: the pointer and the length are those of a slice that is borrowed mutably for the whole call.
+        let advanced = unsafe {
+            ffi::ssp_advance(
+                self.bytes.as_mut_ptr(),
+                self.bytes.len(),
+                number,
+                order.year,
+                order.run,
+                order.rate,
+                order.estimates[0],
+                order.estimates[1],
+            )
+        };
+        Refusal::check(advanced.refusal, advanced.record)?;
+        Ok(Ticks(advanced.ticks))
+    }
+
+    /// Closes the open year of the user that the year sheet names, and opens the next one. Refusals in the order 1 2 11 6 12
+    /// 13 14 3.
+    pub fn close(&mut self, sheet: &[u8]) -> Result<Closing, Refusal> {
+        // SAFETY: the pointers and the lengths are those of two slices that are borrowed for the whole call, the book's
+        // mutably, so that they do not overlap.
+        let closed = unsafe { ffi::ssp_close(self.bytes.as_mut_ptr(), self.bytes.len(), sheet.as_ptr(), sheet.len()) };
+        Refusal::check(closed.refusal, closed.record)?;
+        Ok(closed.into())
+    }
+
+    /// States a user's account. Refusals in the order 1 2 6.
+    pub fn statement(&self, number: u32) -> Result<Statement, Refusal> {
+        // SAFETY: the pointer and the length are those of a slice that is borrowed for the whole call.
+        let sums = unsafe { ffi::ssp_statement(self.bytes.as_ptr(), self.bytes.len(), number) };
+        Refusal::check(sums.refusal, sums.record)?;
+        Ok(sums.into())
+    }
+}

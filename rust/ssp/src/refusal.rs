@@ -1,0 +1,135 @@
+//! Why a call was refused.
+
+use std::error::Error;
+use std::fmt;
+
+/// Why a call was refused. A refused call leaves every byte of the book as it was.
+#[derive(Clone, Copy, Debug, PartialEq, Eq, Hash)]
+#[non_exhaustive]
+pub enum Refusal {
+    /// 1: the length is not a multiple of 80 from 160 to 64,000.
+    Length,
+    /// 2: the book is damaged, and this record is faulty.
+    Damaged {
+        /// The index of a faulty record; which one of several is not laid down.
+        record: u32,
+    },
+    /// 3: the call needs one more record.
+    Full,
+    /// 4: the user number is 0, or a user has it already.
+    Number,
+    /// 5: a detail of the enrolment is out of its range.
+    Detail,
+    /// 6: no user has the number.
+    Unknown,
+    /// 7: there is no such day or option.
+    Day,
+    /// 8: the day is outside the election's window, or the open year is 2100.
+    Window,
+    /// 9: the year is not open or is above 2099, or the run is none, is not due or was made.
+    Run,
+    /// 10: the rate is above 500,000 or an estimate above 360,000,000 kWh.
+    Order,
+    /// 11: the sheet's length, header or a zero word is wrong.
+    Sheet,
+    /// 12: the sheet's year is not open or is above 2099.
+    SheetYear,
+    /// 13: a number of the sheet is above its limit, or a single reading has kWh in F2 or F3.
+    SheetNumber,
+    /// 14: a domestic user withdrew more than 4,000,000 kWh in a month.
+    DomesticMonth,
+    /// A number that this crate has no name for: the library is newer than the crate.
+    Other(u32),
+}
+
+impl Refusal {
+    /// Nothing for an accepted call, else the refusal with this number.
+    pub(crate) fn check(refusal: u32, record: u32) -> Result<(), Refusal> {
+        Err(match refusal {
+            0 => return Ok(()),
+            1 => Refusal::Length,
+            2 => Refusal::Damaged { record },
+            3 => Refusal::Full,
+            4 => Refusal::Number,
+            5 => Refusal::Detail,
+            6 => Refusal::Unknown,
+            7 => Refusal::Day,
+            8 => Refusal::Window,
+            9 => Refusal::Run,
+            10 => Refusal::Order,
+            11 => Refusal::Sheet,
+            12 => Refusal::SheetYear,
+            13 => Refusal::SheetNumber,
+            14 => Refusal::DomesticMonth,
+            other => Refusal::Other(other),
+        })
+    }
+
+    /// The refusal's number.
+    pub fn number(self) -> u32 {
+        match self {
+            Refusal::Length => 1,
+            Refusal::Damaged { .. } => 2,
+            Refusal::Full => 3,
+            Refusal::Number => 4,
+            Refusal::Detail => 5,
+            Refusal::Unknown => 6,
+            Refusal::Day => 7,
+            Refusal::Window => 8,
+            Refusal::Run => 9,
+            Refusal::Order => 10,
+            Refusal::Sheet => 11,
+            Refusal::SheetYear => 12,
+            Refusal::SheetNumber => 13,
+            Refusal::DomesticMonth => 14,
+            Refusal::Other(number) => number,
+        }
+    }
+}
+
+impl fmt::Display for Refusal {
+    fn fmt(&self, f: &mut fmt::Formatter<'_>) -> fmt::Result {
+        f.write_str(match self {
+            Refusal::Length => "the book's length is not a multiple of 80 from 160 to 64,000",
+            Refusal::Damaged { record } => {
+                return write!(f, "the book is damaged: record {record} is faulty");
+            }
+            Refusal::Full => "the book is full",
+            Refusal::Number => "the user number is 0, or a user has it already",
+            Refusal::Detail => "a detail of the enrolment is out of its range",
+            Refusal::Unknown => "no user has the number",
+            Refusal::Day => "there is no such day or option",
+            Refusal::Window => "the day is outside the election's window, or the open year is 2100",
+            Refusal::Run => "the year is not open or is above 2099, or the run is none, is not due or was made",
+            Refusal::Order => "the rate is above 500,000 or an estimate above 360,000,000 kWh",
+            Refusal::Sheet => "the sheet's length, header or a zero word is wrong",
+            Refusal::SheetYear => "the sheet's year is not open or is above 2099",
+            Refusal::SheetNumber => "a number of the sheet is above its limit, or a single reading has kWh in F2 or F3",
+            Refusal::DomesticMonth => "a domestic user withdrew more than 4,000,000 kWh in a month",
+            Refusal::Other(number) => return write!(f, "refusal {number}"),
+        })
+    }
+}
+
+impl Error for Refusal {}
+
+#[cfg(test)]
+mod tests {
+    use super::Refusal;
+
+    #[test]
+    fn numbers_are_kept() {
+        for number in 1..=20 {
+            let refusal = Refusal::check(number, 5).expect_err("not 0");
+            assert_eq!(refusal.number(), number);
+            assert_eq!(refusal == Refusal::Other(number), number > 14, "refusal {number} has a name");
+        }
+        assert_eq!(Refusal::check(0, 0), Ok(()));
+    }
+
+    #[test]
+    fn damage_names_its_record() {
+        let refusal = Refusal::check(2, 5).expect_err("not 0");
+        assert_eq!(refusal.to_string(), "the book is damaged: record 5 is faulty");
+    }
+}

@@ -1,0 +1,136 @@
+//! The library beside an independent implementation, `rust/peer`: the same answers and the same bytes, call by call, on books
+//! that the calls made and on damaged ones.
+
+mod common;
+
+use common::{Answer, Call, Clerk, Dice, damage};
+use ssp_book::{Balance, Book, Closing, Refusal, Statement, Ticks};
+
+/// The peer's answer: the refusal's number, and the answer of an accepted call.
+fn by_peer(call: &Call, bytes: &mut [u8]) -> (u32, Answer) {
+    // the peer's arguments are narrower; what does not fit is beyond every limit
+    let narrow = |number: u64| u32::try_from(number).unwrap_or(u32::MAX);
+    match call {
+        Call::Enrol(u) => {
+            let a = peer::enrol(
+                bytes, u.number, u.class, u.plant, u.option, u.power, u.year, u.month, u.island,
+            );
+            (a.code.into(), Answer::Record(a.index))
+        }
+        Call::Elect(number, option, d) => {
+            let a = peer::elect(bytes, *number, *option, d.year, d.month, d.day);
+            (a.code.into(), Answer::Nothing)
+        }
+        Call::Advance(number, o) => {
+            let year = u16::try_from(o.year).unwrap_or(u16::MAX);
+            let [first, second] = o.estimates.map(narrow);
+            let a = peer::advance(bytes, *number, year, o.run, narrow(o.rate), first, second);
+            (a.code.into(), Answer::Paid(Ticks(a.ticks)))
+        }
+        Call::Close(sheet) => {
+            let a = peer::close(bytes, sheet);
+            let closing = Closing {
+                value: Ticks(a.c),
+                cost: Ticks(a.o),
+                flat_rate: Ticks(a.f),
+                contribution: Ticks(a.contribution),
+                liquidation: Ticks(a.liquidation),
+                lapsed: Ticks(a.lapsed),
+                balance: Balance(a.balance),
+            };
+            (a.code.into(), Answer::Closed(closing))
+        }
+        Call::Statement(number) => {
+            let a = peer::statement(bytes, *number);
+            let statement = Statement {
+                open_year: a.open_year.into(),
+                credit: Ticks(a.credit),
+                value: Ticks(a.c),
+                cost: Ticks(a.o),
+                flat_rate: Ticks(a.f),
+                contribution: Ticks(a.contribution),
+                liquidation: Ticks(a.liquidation),
+                lapsed: Ticks(a.lapsed),
+                balance: Balance(a.balance),
+                advances: Ticks(a.advances),
+                closed_advances: Ticks(a.advances_of_closed_years),
+            };
+            (a.code.into(), Answer::Stated(statement))
+        }
+    }
+}
+
+/// How often each number was answered.
+type Count = [usize; 15];
+
+/// Makes a call by both on equal books, and leaves the books equal.
+fn both(call: &Call, proved: &mut [u8], other: &mut [u8], count: &mut Count) -> bool {
+    let faulty = peer::all_faulty(other);
+    let answer = call.make(&mut Book::over(proved));
+    let (number, others) = by_peer(call, other);
+    match answer {
+        Ok(answer) => assert_eq!((0, answer), (number, others), "{call:?}"),
+        Err(refusal) => {
+            assert_eq!(refusal.number(), number, "{call:?}: {refusal}");
+            if let Refusal::Damaged { record } = refusal {
+                assert!(faulty.contains(&record), "{record} is named, {faulty:?} are faulty");
+            }
+        }
+    }
+    assert!(proved == other, "the books differ after {call:?}");
+    count[number as usize] += 1;
+    number == 0
+}
+
+/// A list of calls from a fresh book, then damaged copies of what it left, with a few calls on each.
+fn compare(seed: u64, records: usize, calls: usize, copies: usize, count: &mut Count) {
+    let mut dice = Dice::of(seed);
+    let mistakes = dice.one_of(&[0, 5, 30]);
+    let mut clerk = Clerk::new(seed, mistakes);
+    // what stands above the records used is free, so it may be anything
+    let mut proved: Vec<u8> = (0..Book::RECORD * records).map(|_| dice.next() as u8).collect();
+    let mut other = proved.clone();
+    assert!(Book::fresh(&mut proved).is_ok());
+    assert_eq!(peer::fresh(&mut other), 0);
+    assert!(proved == other, "the fresh books differ");
+    for byte in &mut proved[Book::RECORD..] {
+        *byte = dice.next() as u8;
+    }
+    other.copy_from_slice(&proved);
+    for _ in 0..calls {
+        let call = clerk.next_call();
+        if both(&call, &mut proved, &mut other, count) {
+            clerk.accepted(&call);
+        }
+    }
+    let left = proved.clone();
+    for _ in 0..copies {
+        proved.copy_from_slice(&left);
+        damage(&mut dice, &mut proved);
+        other.copy_from_slice(&proved);
+        for _ in 0..4 {
+            let call = clerk.next_call();
+            both(&call, &mut proved, &mut other, count);
+        }
+    }
+}
+
+#[test]
+fn answers_and_books_are_equal() {
+    let mut count = Count::default();
+    for seed in 1..=1_500 {
+        for records in [2, 7, 30, 110] {
+            compare(seed, records, 60, 10, &mut count);
+        }
+    }
+    for seed in 1..=8 {
+        compare(1_000 + seed, 800, 600, 40, &mut count);
+    }
+    let calls: usize = count.iter().sum();
+    assert!(calls >= 100_000, "{calls} calls are too few");
+    assert!(
+        count.iter().skip(2).all(|&answers| answers > 0),
+        "a number is missing: {count:?}"
+    );
+    println!("{calls} calls, answers and books equal; answered 0 to 14: {count:?}");
+}
