@@ -161,7 +161,7 @@ fn rest_from(s: &[u8], at: usize) -> usize
 }
 
 // The text from a place to its end is hexadecimal, two digits a byte, and spells at most `room` bytes.
-fn is_hex(s: &[u8], at: usize, room: usize) -> bool
+pub fn is_hex(s: &[u8], at: usize, room: usize) -> bool
     ensures { λ r. ⌜ r ≡ isHex (drop at (now (s .entry))) room ⌝ }
 {
     let digits = rest_from(s, at);
