@@ -21,6 +21,7 @@ use values::Details;
 ghost use Prim.Native.Nat.{_+_, _*_, _≤_};
 ghost use lib.ListN.{length};
 ghost use Rattle.script.specs.Orders.{longestBook};
+ghost use Rattle.replay.specs.Lines.{LineDone, PieceDone};
 
 fn show(n: u64) {
     io::print_decimal(STDOUT_FILENO, n);
@@ -235,12 +236,16 @@ fn call(order: Order, line: &[u8], book: &mut [u8], out: &mut [u8])
 fn answer(line: &[u8], buffer: &mut [u8], len: usize, out: &mut [u8]) -> usize
     requires { ⌜ (longestBook ≤ length (now buffer)) × (len ≤ length (now buffer)) ⌝ }
     requires { ⌜ 2 * length (now buffer) + 1 ≤ length (now out) ⌝ }
-    ensures { λ r. ⌜ r ≤ length (now (buffer .exit)) ⌝ }
+    ensures { λ r. ⌜ LineDone (now (line .entry)) (now (buffer .entry)) (now (buffer .exit)) len r ⌝ }
 {
     let order = script::order_of(line);
     match order {
         Order::New(n) => new_book(buffer, n),
         Order::Load(at) => load_book(buffer, len, line, at),
+        Order::Wrong => {
+            show_error();
+            len
+        }
         _ => {
             call(order, line, &mut buffer[..len], out);
             len
@@ -252,7 +257,7 @@ fn answer(line: &[u8], buffer: &mut [u8], len: usize, out: &mut [u8]) -> usize
 fn answer_piece(line: Line, piece: &[u8], buffer: &mut [u8], len: usize, out: &mut [u8]) -> usize
     requires { ⌜ (longestBook ≤ length (now buffer)) × (len ≤ length (now buffer)) ⌝ }
     requires { ⌜ 2 * length (now buffer) + 1 ≤ length (now out) ⌝ }
-    ensures { λ r. ⌜ r ≤ length (now (buffer .exit)) ⌝ }
+    ensures { λ r. ⌜ PieceDone line (now (piece .entry)) (now (buffer .entry)) (now (buffer .exit)) len r ⌝ }
 {
     if line.cut {
         return len;

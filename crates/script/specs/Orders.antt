@@ -13,6 +13,7 @@ use Rattle.script.specs.declared.Order.{Order}
 use Rattle.script.specs.declared.Order.the-variants as order
 use Rattle.script.specs.declared.Fields.{Fields}
 
+-- the words
 abbrev pub newWord : List ℕ
 newWord = 110 ∷ 101 ∷ 119 ∷ []
 
@@ -48,7 +49,7 @@ abbrev pub longestBook : ℕ
 longestBook = 65536
 
 abbrev pub longestLine : ℕ
-longestLine = 131077
+longestLine = length loadWord + 1 + 2 * longestBook
 
 -- the largest numbers of 8, 16, 32 and 64 bits
 abbrev pub most8 : ℕ

@@ -50,7 +50,7 @@ pub struct Fields {
 // The longest buffer, and the longest line: `load`, a blank and two digits for each of its bytes.
 pub const LONGEST_BOOK: usize = 65_536;
 
-const LONGEST_LINE: usize = 131_077;
+const LONGEST_LINE: usize = 4 + 1 + 2 * LONGEST_BOOK;
 
 // The widths of the exported interface.
 const MOST8: u64 = 255;
