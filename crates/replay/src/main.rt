@@ -269,6 +269,14 @@ fn answer_piece(line: Line, piece: &[u8], buffer: &mut [u8], len: usize, out: &m
     answer(piece, buffer, len, out)
 }
 
+// The reader of lines takes an input that cannot be read for one that has ended: one read more tells them apart.
+fn end_input() {
+    let mut more = [0u8; 1];
+    if libc::read(STDIN_FILENO, &mut more) < 0 {
+        os::fail(b"replay: standard input");
+    }
+}
+
 // A proved loop has to end, so the lines are counted down from a number that no input reaches.
 fn run(held: &mut [u8], buffer: &mut [u8], out: &mut [u8])
     requires { ⌜ longestBook ≤ length (now buffer) ⌝ }
@@ -280,6 +288,7 @@ fn run(held: &mut [u8], buffer: &mut [u8], out: &mut [u8])
     while 0 < left {
         line = text::next_line(STDIN_FILENO, held, line);
         if line.ended {
+            end_input();
             return;
         }
         let from = line.from;

@@ -24,6 +24,9 @@ loop-holds c = ((c .start .ensures (now (c .before .before .before .before .args
 next-line-requires : tie.Need-next-line-requires Inv-loop μ-loop
 next-line-requires c κs = search needs
 
+end-input-requires : tie.Need-end-input-requires Inv-loop μ-loop
+end-input-requires c κs = search needs
+
 same-length : tie.Need-same-length Inv-loop μ-loop
 same-length c = search needs
 
@@ -81,6 +84,7 @@ run-spec =
     start-requires
     loop-holds
     next-line-requires
+    end-input-requires
     same-length
     same-length-2
     same-length-3
