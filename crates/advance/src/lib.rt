@@ -73,8 +73,8 @@ fn advance_sound(
     estimate2: WideKwh,
 ) -> Advanced
     requires { ⌜ Accepted (now book) ⌝ }
-    ensures { λ r. ⌜ Answered (now (book .entry)) (advance (number .0) year run (price .0) (estimate1 .0) (estimate2 .0)) 0 (r .refusal) (r .record .0) (now (book .exit)) ⌝ }
-    ensures { λ r. ⌜ r .ticks ≡ ticksAnswered (now (book .entry)) (number .0) year run (price .0) (estimate1 .0) (estimate2 .0) (r .refusal) ⌝ }
+    ensures { λ answer. ⌜ Answered (now (book .entry)) (advance (number .0) year run (price .0) (estimate1 .0) (estimate2 .0)) 0 (answer .refusal) (answer .record .0) (now (book .exit)) ⌝ }
+    ensures { λ answer. ⌜ answer .ticks ≡ ticksAnswered (now (book .entry)) (number .0) year run (price .0) (estimate1 .0) (estimate2 .0) (answer .refusal) ⌝ }
 {
     let user = lookup::find_user(book, number);
     let account = view::account_at(book, user);

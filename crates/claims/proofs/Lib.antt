@@ -1,2 +1,4 @@
+pub mod Example
 pub mod Follow
+pub mod Possible
 pub mod Theorem

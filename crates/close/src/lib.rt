@@ -125,8 +125,8 @@ fn book_year(
 
 fn close_sound(book: &mut [u8], s: &[u8]) -> Closed
     requires { ⌜ Accepted (now book) ⌝ }
-    ensures { λ r. ⌜ Answered (now (book .entry)) (close (now (s .entry))) 0 (r .refusal) (r .record .0) (now (book .exit)) ⌝ }
-    ensures { λ r. ⌜ r .sums ≡ sumsAnswered (now (book .entry)) (now (s .entry)) (r .refusal) ⌝ }
+    ensures { λ answer. ⌜ Answered (now (book .entry)) (close (now (s .entry))) 0 (answer .refusal) (answer .record .0) (now (book .exit)) ⌝ }
+    ensures { λ answer. ⌜ answer .sums ≡ sumsAnswered (now (book .entry)) (now (s .entry)) (answer .refusal) ⌝ }
 {
     let user = lookup::find_user(book, sheet::user(s));
     let account = view::account_at(book, user);

@@ -17,7 +17,7 @@ fn elect_sound(
     day: u32,
 ) -> Booked
     requires { ⌜ Accepted (now book) ⌝ }
-    ensures { λ r. ⌜ Answered (now (book .entry)) (elect (number .0) option year month day) 0 (r .refusal) (r .record .0) (now (book .exit)) ⌝ }
+    ensures { λ answer. ⌜ Answered (now (book .entry)) (elect (number .0) option year month day) 0 (answer .refusal) (answer .record .0) (now (book .exit)) ⌝ }
 {
     let user = lookup::find_user(book, number);
     let account = view::account_at(book, user);

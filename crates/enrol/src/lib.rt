@@ -33,7 +33,7 @@ fn new_account(number: UserNumber, details: Details, option: u8) -> Account
 
 fn enrol_sound(book: &mut [u8], number: UserNumber, details: Details, option: u8) -> Booked
     requires { ⌜ Accepted (now book) ⌝ }
-    ensures { λ r. ⌜ Answered (now (book .entry)) (enrol (number .0) details option) (used (now (book .entry))) (r .refusal) (r .record .0) (now (book .exit)) ⌝ }
+    ensures { λ answer. ⌜ Answered (now (book .entry)) (enrol (number .0) details option) (used (now (book .entry))) (answer .refusal) (answer .record .0) (now (book .exit)) ⌝ }
 {
     let user = lookup::find_user(book, number);
     let room = refusals::has_room(book);

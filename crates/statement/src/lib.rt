@@ -37,8 +37,8 @@ fn no_sums() -> Sums
 
 fn statement_sound(book: &[u8], number: UserNumber) -> Stated
     requires { ⌜ Accepted (now book) ⌝ }
-    ensures { λ r. ⌜ Answered (now (book .entry)) (statement (number .0)) 0 (r .refusal) (r .record .0) (now (book .entry)) ⌝ }
-    ensures { λ r. ⌜ r .sums ≡ sumsStated (now (book .entry)) (number .0) (r .refusal) ⌝ }
+    ensures { λ answer. ⌜ Answered (now (book .entry)) (statement (number .0)) 0 (answer .refusal) (answer .record .0) (now (book .entry)) ⌝ }
+    ensures { λ answer. ⌜ answer .sums ≡ sumsStated (now (book .entry)) (number .0) (answer .refusal) ⌝ }
 {
     let user = lookup::find_user(book, number);
     if user.0 == 0 {

@@ -15,7 +15,7 @@ letter : (d : Bool) (x : Bool) → d ≡ false → (d || x) ≡ true → x ≡ t
 letter true x f e = absurd (true≢false f)
 letter false x f e = e
 
-above-nine : (b : ℕ) → 57 < b → isDigit b ≡ false
+pub above-nine : (b : ℕ) → 57 < b → isDigit b ≡ false
 unfolding isDigit
 above-nine b l = rw (lt-leb b 57 l) (last (leb 48 b))
   where

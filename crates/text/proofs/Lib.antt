@@ -2,4 +2,5 @@ pub mod Digits
 pub mod HexDigits
 pub mod Fields
 pub mod HexTexts
+pub mod HexWriting
 pub mod Lines

@@ -96,6 +96,17 @@ abbrev pub HexRead : List ℕ → List ℕ → List ℕ → Bytes → Type 0
 HexRead t before after (bytes.Read n) = HexFilled t before after n
 HexRead t before after bytes.Wrong = isHex t (length before) ≡ false
 
+-- bytes were written in hexadecimal at the front of a text: two digits spell each
+pub record HexSpelt (bytes t : List ℕ) (i : ℕ) : Type 0 where
+  pub first : isHexDigit (getD t (2 * i) 0) ≡ true
+  pub second : isHexDigit (getD t (2 * i + 1) 0) ≡ true
+  pub byte : hexByte t (2 * i) ≡ getD bytes i 0
+
+pub record HexWritten (bytes before after : List ℕ) (r : ℕ) : Type 0 where
+  pub count : r ≡ 2 * length bytes
+  pub same : length after ≡ length before
+  pub each : (i : ℕ) → i < length bytes → HexSpelt bytes after i
+
 -- the first line feed from a place on, or the end of the text where there is none
 pub record LineEnd (s : List ℕ) (from r : ℕ) : Type 0 where
   pub within : r ≤ length s

@@ -3,9 +3,9 @@
 ghost use mathlib.Core.Path.{_≡_};
 ghost use mathlib.Core.Bool.{true};
 ghost use mathlib.Core.List.{List};
-ghost use Prim.Native.Nat.{ℕ, _+_, _-_, _^_, _≤_};
+ghost use Prim.Native.Nat.{ℕ, _+_, _-_, _*_, _^_, _≤_};
 ghost use lib.ListN.{length, getD, drop};
-ghost use Rattle.text.specs.Text.{narrow, isDigit, isHexDigit, hexDigit, hexByte, isHex, numberAt, NextWithin, afterBlank, fieldAt, FieldsRead, HexRead, LineEnd, RestKept, ReadOn, LineHeld, LineFrom, LineAfter};
+ghost use Rattle.text.specs.Text.{narrow, isDigit, isHexDigit, hexDigit, hexByte, isHex, numberAt, NextWithin, afterBlank, fieldAt, FieldsRead, HexRead, HexWritten, LineEnd, RestKept, ReadOn, LineHeld, LineFrom, LineAfter};
 
 // A number that stands at a place, and the place after it.
 pub enum Number {
@@ -161,7 +161,7 @@ fn rest_from(s: &[u8], at: usize) -> usize
 }
 
 // The text from a place to its end is hexadecimal, two digits a byte, and spells at most `room` bytes.
-fn is_hex(s: &[u8], at: usize, room: usize) -> bool
+pub fn is_hex(s: &[u8], at: usize, room: usize) -> bool
     ensures { λ r. ⌜ r ≡ isHex (drop at (now (s .entry))) room ⌝ }
 {
     let digits = rest_from(s, at);
@@ -192,6 +192,26 @@ pub fn hex_from(s: &[u8], at: usize, out: &mut [u8]) -> Bytes
         out[k] = hex_byte(s, at + 2 * k);
     }
     Bytes::Read(count)
+}
+
+// The digit of a number below 16.
+fn digit_of(n: u8) -> u8
+    requires { ⌜ n ≤ 15 ⌝ }
+    ensures { λ r. ⌜ (isHexDigit r ≡ true) × (hexDigit r ≡ n) ⌝ }
+{
+    if n < 10 { b'0' + n } else { b'a' + (n - 10) }
+}
+
+// Writes bytes in hexadecimal at the front of `out`, and answers how many digits they are.
+pub fn hex_to(bytes: &[u8], out: &mut [u8]) -> usize
+    requires { ⌜ 2 * length (now bytes) ≤ length (now out) ⌝ }
+    ensures { λ r. ⌜ HexWritten (now (bytes .entry)) (now (out .entry)) (now (out .exit)) r ⌝ }
+{
+    for k in 0..bytes.len() {
+        out[2 * k] = digit_of(bytes[k] / 16);
+        out[2 * k + 1] = digit_of(bytes[k] % 16);
+    }
+    2 * bytes.len()
 }
 
 // Where the line that a place stands in ends: at its line feed, or where the text ends.

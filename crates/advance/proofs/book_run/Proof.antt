@@ -1,6 +1,7 @@
 -- The entry in front of the chain, and the account after it.
 use denote.Ref.{now}
 use mathlib.Core.Path.{ap, _∙_}
+use native.Mathlib.Omega.{arith}
 use lib.ListN.{length}
 use Rattle.records.proofs.Advances.{length-advance-image}
 use Rattle.advance.proofs.Runs.{run-booked}
@@ -15,7 +16,9 @@ advance-image-requires : tie.Need-advance-image-requires
 advance-image-requires c κs = search needs
 
 advanced-requires : tie.Need-advanced-requires
-advanced-requires c κs = (c .before .before .before .before .before .pre .runs, c .before .before .before .before .before .pre .advances)
+advanced-requires c κs =
+    let fits = c .before .before .before .before .before .pre in
+    (omega (arith, fits .runs), omega (arith, fits .advances))
 
 write-entry-requires : tie.Need-write-entry-requires
 write-entry-requires c κs =

@@ -1,0 +1,121 @@
+-- One list: an enrolment, an election, two closings and a call that is refused. It is one of those that the third demand is
+-- about.
+use Prim.Native.Nat.{ℕ, zero, suc, _+_}
+use mathlib.Core.Path.{_≡_, refl, subst}
+use mathlib.Core.Bool.{Bool, true, _&&_}
+use mathlib.Core.List.{List, [], _∷_, _++_}
+use native.Mathlib.Omega.{arith}
+use borrow.Author.Tests.{ltb-true}
+use lib.Dec.{ltb}
+use lib.ListN.{replicate}
+use Rattle.units.proofs.Bools.{and-left, and-right}
+use Rattle.units.specs.Folds.{sumBelow, allBelow, anyBelow}
+use Rattle.codec.specs.Bytes.{littleEndian, bytesOf, part, number, stored}
+use Rattle.tariff.specs.Table1.{table1, rowsOfKind, reaches, firstReaching, tableEuroPerMwh}
+use Rattle.tariff.specs.Tariff.{domestic, monthlyMethod, between, above, tiers, tierSum, annualTiers, monthlyTiers, meanRate, limit, tierRate, flatRateOf}
+use Rattle.calendar.specs.ElectionAndAdvances.{leap, daysIn, isDay, notAfter, inWindow, halvesPaid, due, halvesCount, paidOf, amountOf}
+use Rattle.sheet.specs.YearSheet.{withdrawnReading, injectedReading, word, headerFits, lastWordsFit, refused11, limitAt, aboveLimit, unusedBand, strayBand, atFault, refused13, monthWithdrawn, refused14}
+use Rattle.prices.specs.ValueAndCost.{costIn, costOf, bandPrice, singlePrice, valueIn, valueOf}
+use Rattle.values.specs.YearsValues.{monthInjected, withdrawnOver, injectedOver, exchangedOver, monthExchanged, someMonthAbove, monthRate, annualRate, monthFlatRate, annualFlatRate, flatRateOver, halfOf, yearValues}
+use Rattle.account.specs.Account.{outcomeOf, liquidationIn, lapsedIn, creditIn, settlementOf, accountElected, accountAdvanced, accountClosed, closedOf}
+use Rattle.account.specs.Closing.{contributionOf, liquidationOf, lapsedOf, creditAfter, balanceOf}
+use Rattle.layout.specs.Fields.{get, zeros, recordAt, putRecord, written}
+use Rattle.records.specs.Records.{headImage, userImage, advanceImage, closingImage, accountIn, userIn, advanceIn, closingIn}
+use Rattle.book.specs.Book.{lengthFits, freshBook, used, firstUser, usedFits, kindAt, hasKind, isEntry, detailsFit, openYearFits, halvesOf, runMade, dueIfMade, runsFit, halvesMade, advancesFit, creditFits, halvesFit, accountFits, yearFits, isRun, advanceFits, balanceFits, closingFits, ownerOf, rangesFit, zeroBytesFit, nextOf, firstEntryOf, numberOf, userNextFits, numberIsNew, firstEntryFits, entryNextFits, ownerFits, hits, pointersFrom, pointersTo, pointedOnce, rankOf, inOrder, activationOf, openYearOf, firstInOrder, nextInOrder, linksFit, goodRecord, goodHead, faulty, sound}
+use Rattle.calls.specs.Bookings.{findBelow, findUser, newAccount, enrolledAs, enrolled, withAccount, withEntry, elected, runAmount, advanceEntry, advanced, closingEntry, closed, valuesOf}
+use Rattle.calls.specs.Calls.{Call, enrol, elect, close, refusalOf, paidBy, booked, bookAfter}
+use Rattle.calls.specs.Refusals.{hasRoom, numberFree, present, dayAndOption, electionOpen, runOpen, orderFits, yearOpen, enrolRefusal, electRefusal, advanceRefusal, closeRefusal, statementRefusal}
+use Rattle.values.specs.declared.Details.{Details}
+use Rattle.soundness.specs.Verdicts.{freshAnswer, freshAfter}
+use Rattle.layout.proofs.ByteRanges.{Bytes}
+use Rattle.demand.specs.Demand.{Typed, AllTyped, bookAfterAll}
+use Rattle.demand.proofs.Theorem as demand
+use Rattle.claims.specs.Runs.{Made, made, Runs}
+use Rattle.claims.specs.Claims.{here, UserRight}
+use Rattle.claims.proofs.Theorem.{third-demand}
+use Rattle.claims.proofs.Possible.{madeOf, possible, lent}
+
+abbrev pub details : Details
+details = record { class = 1; plant = 1; power = 3000; year = 2013; month = 1; island = 0 }
+
+unfoldable pub words : List ℕ → List ℕ
+words [] = []
+words (n ∷ ns) = bytesOf 4 n ++ words ns
+
+-- 100 kWh injected at 0.05 €/kWh and 50 withdrawn at 0.06
+unfoldable pub month : List ℕ
+month = words (50 ∷ 0 ∷ 0 ∷ 100 ∷ 0 ∷ 0 ∷ 0 ∷ 0 ∷ 0 ∷ 6000 ∷ 0 ∷ 0 ∷ 0 ∷ 5000 ∷ 5000 ∷ []) ++ replicate 36 0
+
+unfoldable pub months : ℕ → List ℕ
+months zero = []
+months (suc n) = month ++ months n
+
+unfoldable pub sheetOf : ℕ → List ℕ
+sheetOf year = bytesOf 4 7 ++ (bytesOf 2 year ++ (replicate 26 0 ++ months 12))
+
+-- enrolled on credit, then liquidation is elected; the second enrolment of the number is refused with 4
+unfoldable pub calls : List Call
+calls = enrol 7 details 0 ∷ close (sheetOf 2013) ∷ elect 7 1 2014 6 30 ∷ close (sheetOf 2014) ∷ enrol 7 details 0 ∷ []
+
+unfoldable pub others : List Made
+others = made (close (sheetOf 2013)) 0 ∷ made (elect 7 1 2014 6 30) 0 ∷ made (close (sheetOf 2014)) 0 ∷ made (enrol 7 details 0) 4 ∷ []
+
+answered : madeOf (freshBook 480) calls ≡ made (enrol 7 details 0) 0 ∷ others
+unfolding madeOf calls others sumBelow allBelow anyBelow littleEndian bytesOf part number stored table1 rowsOfKind reaches firstReaching tableEuroPerMwh domestic monthlyMethod between above tiers tierSum annualTiers monthlyTiers meanRate limit tierRate flatRateOf leap daysIn isDay notAfter inWindow halvesPaid due halvesCount paidOf amountOf withdrawnReading injectedReading word headerFits lastWordsFit refused11 limitAt aboveLimit unusedBand strayBand atFault refused13 monthWithdrawn refused14 costIn costOf bandPrice singlePrice valueIn valueOf monthInjected withdrawnOver injectedOver exchangedOver monthExchanged someMonthAbove monthRate annualRate monthFlatRate annualFlatRate flatRateOver halfOf yearValues outcomeOf liquidationIn lapsedIn creditIn settlementOf accountElected accountAdvanced accountClosed closedOf contributionOf liquidationOf lapsedOf creditAfter balanceOf get zeros recordAt putRecord written headImage userImage advanceImage closingImage accountIn userIn advanceIn closingIn lengthFits freshBook used firstUser usedFits kindAt hasKind isEntry detailsFit openYearFits halvesOf runMade dueIfMade runsFit halvesMade advancesFit creditFits halvesFit accountFits yearFits isRun advanceFits balanceFits closingFits ownerOf rangesFit zeroBytesFit nextOf firstEntryOf numberOf userNextFits numberIsNew firstEntryFits entryNextFits ownerFits hits pointersFrom pointersTo pointedOnce rankOf inOrder activationOf openYearOf firstInOrder nextInOrder linksFit goodRecord goodHead faulty sound findBelow findUser newAccount enrolledAs enrolled withAccount withEntry elected runAmount advanceEntry advanced closingEntry closed valuesOf refusalOf paidBy booked bookAfter hasRoom numberFree present dayAndOption electionOpen runOpen orderFits yearOpen enrolRefusal electRefusal advanceRefusal closeRefusal statementRefusal words month months sheetOf
+answered = refl
+
+-- every byte of the sheets is one
+unfoldable small : List ℕ → Bool
+small [] = true
+small (x ∷ s) = ltb x 256 && small s
+
+small-bytes : (s : List ℕ) → small s ≡ true → Bytes s
+unfolding small
+small-bytes [] h k = omega arith
+small-bytes (x ∷ s) h zero = ltb-true x 256 (and-left (ltb x 256) (small s) h)
+small-bytes (x ∷ s) h (suc k) = small-bytes s (and-right (ltb x 256) (small s) h) k
+
+bytes-2013 : Bytes (sheetOf 2013)
+unfolding small bytesOf words month months sheetOf
+bytes-2013 = small-bytes (sheetOf 2013) refl
+
+bytes-2014 : Bytes (sheetOf 2014)
+unfolding small bytesOf words month months sheetOf
+bytes-2014 = small-bytes (sheetOf 2014) refl
+
+enrolment-typed : Typed (enrol 7 details 0)
+unfolding Typed
+enrolment-typed = (omega arith, omega arith, omega arith, omega arith, omega arith, omega arith, omega arith, omega arith)
+
+election-typed : Typed (elect 7 1 2014 6 30)
+unfolding Typed
+election-typed = (omega arith, omega arith, omega arith, omega arith, omega arith)
+
+typed : AllTyped calls
+unfolding AllTyped Typed calls
+typed = (enrolment-typed, (bytes-2013, (election-typed, (bytes-2014, (enrolment-typed, tt)))))
+
+-- a buffer of 480 bytes
+abbrev buffer : List ℕ
+buffer = replicate 480 0
+
+fits : lengthFits buffer ≡ true
+unfolding lengthFits
+fits = refl
+
+abbrev after : List ℕ
+after = bookAfterAll (freshBook 480) calls
+
+-- each call is answered, and the book as the last one left it goes to the next
+pub run : Runs (freshBook 480) (made (enrol 7 details 0) 0 ∷ others) after
+run = subst (λ ms. Runs (freshBook 480) ms after) answered (possible (freshBook 480) calls typed (demand.never-damaged buffer fits calls typed))
+
+freshened : freshAfter buffer ≡ freshBook 480
+unfolding freshAfter lengthFits
+freshened = refl
+
+-- the third demand of this list, for user 7
+pub user-7-right : UserRight (made (enrol 7 details 0) 0 ∷ others) after 7
+unfolding freshAnswer freshAfter lengthFits
+user-7-right =
+    third-demand ([], tt) (lent buffer, tt) 0 (lent (freshBook 480), tt) (refl, refl) refl (made (enrol 7 details 0) 0 ∷ others) after run .1 7 (here details 0 others)

@@ -1,0 +1,79 @@
+-- The third demand is not empty: every list of calls from a fresh book can be made, each call answered as its contract
+-- says.
+use Prim.Native.Nat.{ℕ}
+use mathlib.Core.Path.{_≡_, refl, subst}
+use mathlib.Core.Bool.{Bool, true, false, cond}
+use mathlib.Core.List.{List, [], _∷_}
+use lib.Dec.{eqb}
+use denote.Ref.{RefT}
+use contract.Lifetimes.{Lfts}
+use Rattle.units.specs.Units.{recordIndex, userNumber, ticks}
+use Rattle.units.specs.declared.Rate.{Rate}
+use Rattle.units.specs.declared.WideKwh.{WideKwh}
+use Rattle.book.specs.Book.{used}
+use Rattle.calls.specs.Calls.{Call, enrol, elect, advance, close, statement, refusalOf, booked, bookAfter}
+use Rattle.answers.specs.Answers.{Answered}
+use Rattle.advance.specs.Advances.{ticksAnswered}
+use Rattle.close.specs.Closings.{sumsAnswered}
+use Rattle.statement.specs.Stated.{sumsStated}
+use Rattle.demand.specs.Demand.{bookAfterAll, AllTyped, NeverDamaged}
+use Rattle.claims.specs.Runs.{Made, made, Calls, enrols, elects, advances, closes, states, Runs, done, andThen}
+
+-- a buffer that holds these bytes
+abbrev pub lent : List ℕ → RefT (List ℕ)
+lent b = record { ptr = (0, 0); name = 0; now = b }
+
+module _ (b : List ℕ) where
+  right : (c : Call) (answered : ℕ) → (refusalOf b c ≡ 2 → ⊥) → Answered b c answered (refusalOf b c) (cond (eqb (refusalOf b c) 0) answered 0) (bookAfter b c)
+  right c answered other = record { refusal-is = refl; names = record { damaged = λ two. absurd (other two); else = λ p. refl }; book-is = refl }
+
+  stated-left : (n : ℕ) → bookAfter b (statement n) ≡ b
+  unfolding bookAfter booked
+  stated-left n = by-value (eqb (refusalOf b (statement n)) 0)
+    where
+      by-value : (t : Bool) → cond t b b ≡ b
+      by-value true = refl
+      by-value false = refl
+
+  performed : (c : Call) → (refusalOf b c ≡ 2 → ⊥) → Calls b (made c (refusalOf b c)) (bookAfter b c)
+  performed (enrol n d o) other =
+      let c = enrol n d o in
+      enrols ([], tt) (lent b, (userNumber n, (d, (o, tt)))) (record { refusal = refusalOf b c; «record» = recordIndex (cond (eqb (refusalOf b c) 0) (used b) 0) }) (lent (bookAfter b c), (userNumber n, (d, (o, tt))))
+      (right c (used b) other)
+  performed (elect n o y m d) other =
+      let c = elect n o y m d in
+      elects ([], tt) (lent b, (userNumber n, (o, (y, (m, (d, tt)))))) (record { refusal = refusalOf b c; «record» = recordIndex (cond (eqb (refusalOf b c) 0) 0 0) }) (lent (bookAfter b c), (userNumber n, (o, (y, (m, (d, tt))))))
+      (right c 0 other)
+  performed (advance n y r p e₁ e₂) other =
+      let c = advance n y r p e₁ e₂ in
+      let price : Rate = record { 0 = p } in
+      let estimate1 : WideKwh = record { 0 = e₁ } in
+      let estimate2 : WideKwh = record { 0 = e₂ } in
+      advances ([], tt) (lent b, (userNumber n, (y, (r, (price, (estimate1, (estimate2, tt)))))))
+      (record { refusal = refusalOf b c; «record» = recordIndex (cond (eqb (refusalOf b c) 0) 0 0); ticks = ticksAnswered b n y r p e₁ e₂ (refusalOf b c) })
+      (lent (bookAfter b c), (userNumber n, (y, (r, (price, (estimate1, (estimate2, tt))))))) (right c 0 other, refl)
+  performed (close s) other =
+      let c = close s in
+      closes ([], ([], tt)) (lent b, (lent s, tt))
+      (record { refusal = refusalOf b c; «record» = recordIndex (cond (eqb (refusalOf b c) 0) 0 0); sums = sumsAnswered b s (refusalOf b c) })
+      (lent (bookAfter b c), (lent s, tt)) (right c 0 other, refl)
+  performed (statement n) other =
+      let c = statement n in
+      let same = stated-left n in
+      rw same
+      (states ([], tt) (lent b, (userNumber n, tt))
+      (record { refusal = refusalOf b c; «record» = recordIndex (cond (eqb (refusalOf b c) 0) 0 0); sums = sumsStated b n (refusalOf b c) })
+      (lent b, (userNumber n, tt))
+      (subst (Answered b c 0 (refusalOf b c) (cond (eqb (refusalOf b c) 0) 0 0)) same (right c 0 other), refl))
+
+-- the calls of a list with what they answer
+unfoldable pub madeOf : List ℕ → List Call → List Made
+madeOf b [] = []
+madeOf b (c ∷ cs) = made c (refusalOf b c) ∷ madeOf (bookAfter b c) cs
+
+pub possible : (b : List ℕ) (cs : List Call) → AllTyped cs → NeverDamaged b cs → Runs b (madeOf b cs) (bookAfterAll b cs)
+unfolding madeOf bookAfterAll AllTyped NeverDamaged
+possible b [] typed sound = done b
+possible b (c ∷ cs) typed sound =
+    andThen b (bookAfter b c) (bookAfterAll (bookAfter b c) cs) (made c (refusalOf b c)) (madeOf (bookAfter b c) cs) (performed b c (sound .1)) (typed .0)
+    (possible (bookAfter b c) cs (typed .1) (sound .2))

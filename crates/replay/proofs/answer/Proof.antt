@@ -1,0 +1,118 @@
+-- A new book is within the buffer, and so is the book that a call is made on. A line that is no call does nothing.
+use Prim.Native.Nat.{_≤_}
+use mathlib.Core.Path.{sym, _∙_}
+use mathlib.Core.List.{[], _∷_}
+use native.Mathlib.Omega.{arith}
+use borrow.Author.Needs.{needs}
+use denote.Ref.{now}
+use lib.ListN.{length}
+use lib.Seq.{length-take-le}
+use types.Run.{miss}
+use Rattle.script.proofs.Within.{new-fits}
+use Rattle.replay.proofs.answer.Statement.{statement}
+use Rattle.replay.proofs.answer.Tie as tie
+
+order-of-requires : tie.Need-order-of-requires
+order-of-requires c κs = search needs
+
+enum-known-order : tie.Need-enum-known-order
+enum-known-order c = search needs
+
+new-book-requires : tie.Need-new-book-requires
+new-book-requires c κs =
+    let a = c .before .before .before .before .before .before .before .before .args in
+    let order = sym (c .before .before .before .before .order-of .ensures) ∙ c .before .before .order .given .1 in
+    let fits = rw order at (new-fits (now (a .line))) in
+    omega arith
+
+enum-known-order-2 : tie.Need-enum-known-order-2
+enum-known-order-2 c = search needs
+
+load-book-requires : tie.Need-load-book-requires
+load-book-requires c κs = search needs
+
+enum-told : tie.Need-enum-told
+enum-told c = search needs
+
+show-error-requires : tie.Need-show-error-requires
+show-error-requires c κs = search needs
+
+slice-relend-prefix-call : tie.Need-slice-relend-prefix-call
+slice-relend-prefix-call c = search needs
+
+slice-aggregate-call : tie.Need-slice-aggregate-call
+slice-aggregate-call c =
+    let a = c .before .before .before .before .before .before .args in
+    let within : a .len ≤ length (now (a .buffer)) = omega arith in
+    sym (length-take-le (a .len) (now (a .buffer)) within)
+
+call-requires : tie.Need-call-requires
+call-requires c κs =
+    let a = c .before .before .before .before .before .before .before .args in
+    let within : a .len ≤ length (now (a .buffer)) = omega arith in
+    rw (length-take-le (a .len) (now (a .buffer)) within) (omega arith)
+
+same-length : tie.Need-same-length
+same-length c = search needs
+
+returns : tie.Need-returns
+returns c =
+    let asked = c .before .before .before .before .before .before in
+    let read = asked .before .order-of .ensures in
+    record {
+      within = search needs;
+      wrong = λ e. let other = rw (read ∙ e) at (asked .match .keys1) in absurd (miss (0 ∷ []) 10 tt other);
+    }
+
+same-length-2 : tie.Need-same-length-2
+same-length-2 c = search needs
+
+returns-2 : tie.Need-returns-2
+returns-2 c =
+    let asked = c .before .before .before .before .before .before in
+    let read = asked .before .order-of .ensures in
+    record {
+      within = search needs;
+      wrong = λ e. let other = rw (read ∙ e) at (asked .match .keys2) in absurd (miss (1 ∷ []) 10 tt other);
+    }
+
+returns-3 : tie.Need-returns-3
+returns-3 c = search needs
+
+same-length-3 : tie.Need-same-length-3
+same-length-3 c = search needs
+
+same-length-4 : tie.Need-same-length-4
+same-length-4 c = search needs
+
+returns-4 : tie.Need-returns-4
+returns-4 c =
+    let asked = c .before .before .before .before .before .before .before in
+    let read = asked .before .order-of .ensures in
+    record {
+      within = search needs;
+      wrong = λ e. let other = rw (read ∙ e) at (asked .match .keys4) in absurd (miss (2 ∷ 3 ∷ 4 ∷ 5 ∷ 6 ∷ 7 ∷ 8 ∷ 9 ∷ []) 10 tt other);
+    }
+
+pub answer-spec : {M : Type 1} → statement M
+answer-spec =
+    tie.close
+    (tie.spec
+    order-of-requires
+    enum-known-order
+    new-book-requires
+    enum-known-order-2
+    load-book-requires
+    enum-told
+    show-error-requires
+    slice-relend-prefix-call
+    slice-aggregate-call
+    call-requires
+    same-length
+    returns
+    same-length-2
+    returns-2
+    returns-3
+    same-length-3
+    same-length-4
+    returns-4)

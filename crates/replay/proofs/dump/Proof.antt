@@ -1,0 +1,48 @@
+-- The digits and the line feed stand within the text.
+use Prim.Native.Nat.{_+_}
+use mathlib.Core.Path.{sym}
+use native.Mathlib.Omega.{arith}
+use lib.ListN.{set, length-set}
+use lib.Seq.{length-take-le}
+use borrow.Author.Needs.{needs}
+use Rattle.replay.proofs.dump.Statement.{statement}
+use Rattle.replay.proofs.dump.Tie as tie
+
+hex-to-requires : tie.Need-hex-to-requires
+hex-to-requires c κs = search needs
+
+slice-write-out : tie.Need-slice-write-out
+slice-write-out c = search needs
+
+add-write-all : tie.Need-add-write-all
+add-write-all c = search needs
+
+slice-reshare-prefix-write-all : tie.Need-slice-reshare-prefix-write-all
+slice-reshare-prefix-write-all c = simp length-set (omega arith)
+
+slice-aggregate-write-all : tie.Need-slice-aggregate-write-all
+slice-aggregate-write-all c =
+    let text = c .before .before .before .hex-to in
+    sym (length-take-le (text .result + 1) (set (text .last .1 .0) (text .result) 10) (simp length-set (omega arith)))
+
+write-all-requires : tie.Need-write-all-requires
+write-all-requires c κs = search needs
+
+same-length : tie.Need-same-length
+same-length c = search needs
+
+returns : tie.Need-returns
+returns c = search needs
+
+pub dump-spec : {M : Type 1} → statement M
+dump-spec =
+    tie.close
+    (tie.spec
+    hex-to-requires
+    slice-write-out
+    add-write-all
+    slice-reshare-prefix-write-all
+    slice-aggregate-write-all
+    write-all-requires
+    same-length
+    returns)

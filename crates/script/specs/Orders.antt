@@ -1,0 +1,159 @@
+-- What a line of a script asks: the words in ASCII, what has to stand after each, and every other line wrong.
+use Prim.Native.Nat.{ℕ, _+_, _*_, _≤_, _<_}
+use mathlib.Core.Path.{_≡_}
+use mathlib.Core.Bool.{Bool, true, false, cond, _&&_, _||_}
+use mathlib.Core.List.{List, [], _∷_}
+use lib.Dec.{leb, ltb, eqb}
+use lib.ListN.{length, getD, drop}
+use Rattle.units.specs.Folds.{allBelow}
+use Rattle.text.specs.declared.Number.{Number}
+use Rattle.text.specs.declared.Number.the-variants as number
+use Rattle.text.specs.Text.{isHex, isBlankAt, afterBlank, fieldAt, afterFields}
+use Rattle.script.specs.declared.Order.{Order}
+use Rattle.script.specs.declared.Order.the-variants as order
+use Rattle.script.specs.declared.Fields.{Fields}
+
+-- the words
+abbrev pub newWord : List ℕ
+newWord = 110 ∷ 101 ∷ 119 ∷ []
+
+abbrev pub loadWord : List ℕ
+loadWord = 108 ∷ 111 ∷ 97 ∷ 100 ∷ []
+
+abbrev pub freshWord : List ℕ
+freshWord = 102 ∷ 114 ∷ 101 ∷ 115 ∷ 104 ∷ []
+
+abbrev pub enrolWord : List ℕ
+enrolWord = 101 ∷ 110 ∷ 114 ∷ 111 ∷ 108 ∷ []
+
+abbrev pub electWord : List ℕ
+electWord = 101 ∷ 108 ∷ 101 ∷ 99 ∷ 116 ∷ []
+
+abbrev pub advanceWord : List ℕ
+advanceWord = 97 ∷ 100 ∷ 118 ∷ 97 ∷ 110 ∷ 99 ∷ 101 ∷ []
+
+abbrev pub closeWord : List ℕ
+closeWord = 99 ∷ 108 ∷ 111 ∷ 115 ∷ 101 ∷ []
+
+abbrev pub statementWord : List ℕ
+statementWord = 115 ∷ 116 ∷ 97 ∷ 116 ∷ 101 ∷ 109 ∷ 101 ∷ 110 ∷ 116 ∷ []
+
+abbrev pub dumpWord : List ℕ
+dumpWord = 100 ∷ 117 ∷ 109 ∷ 112 ∷ []
+
+abbrev pub listWord : List ℕ
+listWord = 108 ∷ 105 ∷ 115 ∷ 116 ∷ []
+
+-- the longest buffer in bytes, and the longest line: `load`, a blank and two digits for each of its bytes
+abbrev pub longestBook : ℕ
+longestBook = 65536
+
+abbrev pub longestLine : ℕ
+longestLine = length loadWord + 1 + 2 * longestBook
+
+-- the largest numbers of 8, 16, 32 and 64 bits
+abbrev pub most8 : ℕ
+most8 = 255
+
+abbrev pub most16 : ℕ
+most16 = 65535
+
+abbrev pub most32 : ℕ
+most32 = 4294967295
+
+abbrev pub most64 : ℕ
+most64 = 18446744073709551615
+
+-- the widths of the arguments in the exported interface, in the order of the line
+abbrev pub enrolMost : List ℕ
+enrolMost = most32 ∷ most8 ∷ most8 ∷ most8 ∷ most32 ∷ most16 ∷ most8 ∷ most8 ∷ []
+
+abbrev pub electMost : List ℕ
+electMost = most32 ∷ most8 ∷ most32 ∷ most32 ∷ most32 ∷ []
+
+abbrev pub advanceMost : List ℕ
+advanceMost = most32 ∷ most32 ∷ most8 ∷ most64 ∷ most64 ∷ most64 ∷ []
+
+unfoldable pub begins : List ℕ → List ℕ → Bool
+begins line word = allBelow (length word) (λ i. eqb (getD line i 0) (getD word i 0))
+
+-- a number that stands there, and is at most so much
+unfoldable pub isAtMost : ℕ → Number → Bool
+isAtMost most (number.Read value next) = leb value most
+isAtMost most number.Missing = false
+
+unfoldable pub valueOf : Number → ℕ
+valueOf (number.Read value next) = value
+valueOf number.Missing = 0
+
+-- from a place to its end the line is one number for each of these, at most that, with one blank before each
+unfoldable pub numbersFit : List ℕ → ℕ → List ℕ → Bool
+numbersFit line at most =
+    allBelow (length most) (λ k. isAtMost (getD most k 0) (fieldAt line (afterFields line at k)))
+    && eqb (afterFields line at (length most)) (length line)
+
+-- the number that stands k numbers after a place
+unfoldable pub numberOf : List ℕ → ℕ → ℕ → ℕ
+numberOf line at k = valueOf (fieldAt line (afterFields line at k))
+
+-- from a place to its end the line is one blank and bytes in hexadecimal, or nothing
+unfoldable pub bytesFit : List ℕ → ℕ → Bool
+bytesFit line at = (isBlankAt line at || eqb at (length line)) && isHex (drop (afterBlank line at) line) longestBook
+
+-- a word, and what has to stand after it
+unfoldable pub newOrder : List ℕ → Order
+newOrder line = cond (numbersFit line (length newWord) (longestBook ∷ [])) (order.New (numberOf line (length newWord) 0)) order.Wrong
+
+unfoldable pub enrolOrder : List ℕ → Order
+enrolOrder line =
+    let n : ℕ → ℕ = numberOf line (length enrolWord) in
+    cond (numbersFit line (length enrolWord) enrolMost) (order.Enrol (n 0) (n 1) (n 2) (n 3) (n 4) (n 5) (n 6) (n 7)) order.Wrong
+
+unfoldable pub electOrder : List ℕ → Order
+electOrder line =
+    let n : ℕ → ℕ = numberOf line (length electWord) in
+    cond (numbersFit line (length electWord) electMost) (order.Elect (n 0) (n 1) (n 2) (n 3) (n 4)) order.Wrong
+
+unfoldable pub advanceOrder : List ℕ → Order
+advanceOrder line =
+    let n : ℕ → ℕ = numberOf line (length advanceWord) in
+    cond (numbersFit line (length advanceWord) advanceMost) (order.Advance (n 0) (n 1) (n 2) (n 3) (n 4) (n 5)) order.Wrong
+
+unfoldable pub statementOrder : List ℕ → Order
+statementOrder line =
+    cond (numbersFit line (length statementWord) (most32 ∷ [])) (order.Statement (numberOf line (length statementWord) 0)) order.Wrong
+
+unfoldable pub loadOrder : List ℕ → Order
+loadOrder line = cond (bytesFit line (length loadWord)) (order.Load (afterBlank line (length loadWord))) order.Wrong
+
+unfoldable pub closeOrder : List ℕ → Order
+closeOrder line = cond (bytesFit line (length closeWord)) (order.Close (afterBlank line (length closeWord))) order.Wrong
+
+-- a word alone
+unfoldable pub aloneOrder : List ℕ → List ℕ → Order → Order
+aloneOrder line word asked = cond (eqb (length line) (length word)) asked order.Wrong
+
+unfoldable pub callOrder : List ℕ → Order
+callOrder line =
+    cond (begins line enrolWord) (enrolOrder line)
+    (cond (begins line electWord) (electOrder line)
+    (cond (begins line advanceWord) (advanceOrder line)
+    (cond (begins line closeWord) (closeOrder line)
+    (cond (begins line statementWord) (statementOrder line) order.Wrong))))
+
+unfoldable pub bookOrder : List ℕ → Order
+bookOrder line =
+    cond (begins line newWord) (newOrder line)
+    (cond (begins line loadWord) (loadOrder line)
+    (cond (begins line freshWord) (aloneOrder line freshWord order.Fresh)
+    (cond (begins line dumpWord) (aloneOrder line dumpWord order.Dump)
+    (cond (begins line listWord) (aloneOrder line listWord order.List) (callOrder line)))))
+
+unfoldable pub orderOf : List ℕ → Order
+orderOf line = cond (ltb longestLine (length line)) order.Wrong (bookOrder line)
+
+-- numbers were read: whether they fit, and where they do, each is the one that stands there and within its width
+pub record NumbersRead (line : List ℕ) (at : ℕ) (most : List ℕ) (r : Fields) : Type 0 where
+  pub fit : r .fit ≡ numbersFit line at most
+  pub same : r .fit ≡ true → (k : ℕ) → k < length most → getD (r .values) k 0 ≡ numberOf line at k
+  pub within : r .fit ≡ true → (k : ℕ) → k < length most → getD (r .values) k 0 ≤ getD most k 0
