@@ -56,8 +56,8 @@ fn any_bytes() {
         bytes[..4].copy_from_slice(&(dice.below(records + 2) as u32).to_le_bytes());
         let before = bytes.clone();
         judged(&mut bytes);
+        let mut clerk = Clerk::new(seed, 50);
         for _ in 0..3 {
-            let mut clerk = Clerk::new(seed, 50);
             let refused = clerk.next_call().make(&mut Book::over(&mut bytes));
             assert!(refused.is_ok() || bytes == before, "a refusal writes");
             books += 1;

@@ -80,7 +80,11 @@ fn conserved_sum_holds() {
 }
 
 #[test]
-fn full_book() {
-    let accepted = history(2013, 2, 800, 2_000);
-    println!("2000 calls on a book of 800 records, {accepted} accepted");
+fn longest_book() {
+    let (mut calls, mut accepted) = (0, 0);
+    for seed in 1..=5 {
+        calls += 3_000;
+        accepted += history(2_000 + seed, 2, 800, 3_000);
+    }
+    println!("{calls} calls on books of 800 records, {accepted} accepted");
 }
