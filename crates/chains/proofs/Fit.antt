@@ -85,7 +85,7 @@ module _ (b : List ℕ) (f : Faultless b) (i : ℕ) (u : isUser b i ≡ true) wh
       by-test true q = rw q (advance-range b f e (and-left (isAdvance b e) (p (advanceIn (recordAt b e) .year)) q))
       by-test false q = rw q (omega arith)
 
-  advance-sum : lengthFits b ≡ true → (p : ℕ → Bool) → sumOver (advancePart p b) (entriesOf b i) ≤ maxYearTicks * mostRecords
+  pub advance-sum : lengthFits b ≡ true → (p : ℕ → Bool) → sumOver (advancePart p b) (entriesOf b i) ≤ maxYearTicks * mostRecords
   advance-sum l p =
       let sum = sum-at-most (Owned b i) (advancePart p b) maxYearTicks (λ e o. advance-term p e) (entriesOf b i) (entries-only b f i u) in
       omega (arith, sum, entries-few, used-within b (f .used-fits), records-within b l)

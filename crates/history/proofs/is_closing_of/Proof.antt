@@ -1,0 +1,18 @@
+-- Test by test.
+use Rattle.history.specs.History.{isClosingOf}
+use borrow.Author.Needs.{needs}
+use Rattle.history.proofs.is_closing_of.Statement.{statement}
+use Rattle.history.proofs.is_closing_of.Tie as tie
+
+is-closing-requires : tie.Need-is-closing-requires
+is-closing-requires c κs = search needs
+
+rank-of-requires : tie.Need-rank-of-requires
+rank-of-requires c κs = search needs
+
+returns : tie.Need-returns
+unfolding isClosingOf
+returns c = cc
+
+pub is-closing-of-spec : {M : Type 1} → statement M
+is-closing-of-spec = tie.close (tie.spec is-closing-requires rank-of-requires returns)
