@@ -105,7 +105,7 @@ fn contribution_of(option: u8, credit: Ticks, values: YearValues) -> Ticks
 }
 
 // What a closing does with the credit before it.
-fn outcome_of(option: u8, credit: Ticks, value: Ticks, cost: Ticks) -> Outcome
+pub fn outcome_of(option: u8, credit: Ticks, value: Ticks, cost: Ticks) -> Outcome
     requires { ⌜ credit .0 + value .0 < 2 ^ 64 ⌝ }
     ensures { λ r. ⌜ r ≡ outcomeOf option (credit .0) (value .0) (cost .0) ⌝ }
 {
@@ -138,7 +138,7 @@ pub fn lapsed_in(outcome: Outcome) -> Ticks
 }
 
 // The credit that stands after a closing.
-fn credit_after(outcome: Outcome) -> Ticks
+pub fn credit_after(outcome: Outcome) -> Ticks
     ensures { λ r. ⌜ r .0 ≡ creditIn outcome ⌝ }
 {
     match outcome {

@@ -1,16 +1,17 @@
 // A user's account year by year (document 01, "Closing"): the closing of each year, the advances of the year, and the
 // credit after it.
 ghost use mathlib.Core.Path.{_≡_};
-ghost use mathlib.Core.Bool.{true};
-ghost use Prim.Native.Nat.{_+_, _≤_, _<_, _^_};
+ghost use mathlib.Core.Bool.{true, cond};
+ghost use Prim.Native.Nat.{_+_, _*_, _≤_, _<_};
 ghost use lib.Dec.{eqb};
 ghost use Rattle.units.specs.Units.{ticks, recordIndex};
-ghost use Rattle.account.specs.Closing.{creditAfter};
-ghost use Rattle.book.specs.Book.{lengthFits, sound, isUser};
+ghost use Rattle.units.specs.Limits.{maxYearTicks};
+ghost use Rattle.layout.specs.Fields.{recordAt};
+ghost use Rattle.records.specs.Records.{closingIn};
+ghost use Rattle.book.specs.Book.{lengthFits, sound, isUser, isClosing};
 ghost use Rattle.chains.specs.Statements.{advancePart};
-ghost use Rattle.history.specs.History.{isClosingOf, closingOf, advancesOf, creditAfterYears, yearOf, mostYears};
+ghost use Rattle.history.specs.History.{isClosingOf, closingOf, closingAfter, advancesOf, creditOver, creditAfterYears, yearOf, mostYears};
 use account::Balance;
-use records::ClosingRecord;
 use units::RecordIndex;
 use units::Ticks;
 
@@ -79,4 +80,88 @@ pub fn advances_of(book: &[u8], user: RecordIndex, year: u16) -> Ticks
         at = view::next_of(book, at);
     }
     sum
+}
+
+// The closing of the year n years after the activation.
+fn closing_after(book: &[u8], user: RecordIndex, n: u16) -> RecordIndex
+    requires { ⌜ lengthFits (now book) ≡ true ⌝ }
+    requires { ⌜ sound (now book) ≡ true ⌝ }
+    requires { ⌜ (isUser (now book) (user .0) ≡ true) × (n ≤ mostYears) ⌝ }
+    ensures { λ r. ⌜ r ≡ recordIndex (closingAfter (now (book .entry)) (user .0) n) ⌝ }
+{
+    closing_of(book, user, view::activation_of(book, user) + n)
+}
+
+// The credit after a closing, from the credit before it.
+fn credit_over(book: &[u8], entry: RecordIndex, credit: Ticks) -> Ticks
+    requires { ⌜ lengthFits (now book) ≡ true ⌝ }
+    requires { ⌜ sound (now book) ≡ true ⌝ }
+    requires { ⌜ (isClosing (now book) (entry .0) ≡ true) × (credit .0 ≤ maxYearTicks * mostYears) ⌝ }
+    ensures { λ r. ⌜ (r .0 ≡ creditOver (closingIn (recordAt (now (book .entry)) (entry .0))) (credit .0)) × (r .0 ≤ credit .0 + maxYearTicks) ⌝ }
+{
+    let closing = records::read_closing(layout::record(book, entry));
+    let outcome = account::outcome_of(closing.option, credit, closing.value, closing.cost);
+    account::credit_after(outcome)
+}
+
+// The same, where a year without a closing leaves the credit.
+fn next_credit(book: &[u8], entry: RecordIndex, credit: Ticks) -> Ticks
+    requires { ⌜ lengthFits (now book) ≡ true ⌝ }
+    requires { ⌜ sound (now book) ≡ true ⌝ }
+    requires { ⌜ ((entry .0 ≡ 0 → ⊥) → isClosing (now book) (entry .0) ≡ true) × (credit .0 ≤ maxYearTicks * mostYears) ⌝ }
+    ensures { λ r. ⌜ (r .0 ≡ cond (eqb (entry .0) 0) (credit .0) (creditOver (closingIn (recordAt (now (book .entry)) (entry .0))) (credit .0))) × (r .0 ≤ credit .0 + maxYearTicks) ⌝ }
+{
+    if entry.0 == 0 {
+        credit
+    } else {
+        credit_over(book, entry, credit)
+    }
+}
+
+// The credit after the first years: the rule of "Closing", from zero.
+pub fn credit_after_years(book: &[u8], user: RecordIndex, years: u16) -> Ticks
+    requires { ⌜ lengthFits (now book) ≡ true ⌝ }
+    requires { ⌜ sound (now book) ≡ true ⌝ }
+    requires { ⌜ (isUser (now book) (user .0) ≡ true) × (years ≤ mostYears) ⌝ }
+    ensures { λ r. ⌜ r ≡ ticks (creditAfterYears (now (book .entry)) (user .0) years) ⌝ }
+{
+    let mut credit = Ticks(0);
+    for n in 0..years {
+        let entry = closing_after(book, user, n);
+        credit = next_credit(book, entry, credit);
+    }
+    credit
+}
+
+// The year n years after the activation.
+pub fn year_of(book: &[u8], user: RecordIndex, n: u16) -> Year
+    requires { ⌜ lengthFits (now book) ≡ true ⌝ }
+    requires { ⌜ sound (now book) ≡ true ⌝ }
+    requires { ⌜ (isUser (now book) (user .0) ≡ true) × (n < mostYears) ⌝ }
+    ensures { λ r. ⌜ r ≡ yearOf (now (book .entry)) (user .0) n ⌝ }
+{
+    let year = view::activation_of(book, user) + n;
+    let closing = records::read_closing(layout::record(book, closing_after(book, user, n)));
+    let advances = advances_of(book, user, year);
+    let credit = credit_after_years(book, user, n + 1);
+    let value = closing.value;
+    let cost = closing.cost;
+    let flat_rate = closing.flat_rate;
+    let contribution = closing.contribution;
+    let balance = closing.balance;
+    let liquidation = closing.liquidation;
+    let lapsed = closing.lapsed;
+    Year {
+        year,
+        option: closing.option,
+        value,
+        cost,
+        flat_rate,
+        contribution,
+        advances,
+        balance,
+        liquidation,
+        lapsed,
+        credit,
+    }
 }
