@@ -118,3 +118,26 @@ sums-fit b f l i u =
       advances = omega (arith, advance-sum b f i u l (λ y. true));
       closedAdvances = omega (arith, advance-sum b f i u l (λ y. ltb y (accountAt b i .«open_year»)));
     }
+
+-- and the conserved sum of them fits too: lapsed credit is below 2^62, what else it is made of below 2^59
+pub record SumsSmall (s : Statement) : Type 0 where
+  pub credit : s .credit < 2 ^ 59
+  pub value : s .value < 2 ^ 59
+  pub flatRate : s .flatRate < 2 ^ 59
+  pub liquidation : s .liquidation < 2 ^ 59
+  pub lapsed : s .lapsed < 2 ^ 62
+  pub balance : natAbs (s .balance) < 2 ^ 59
+  pub closedAdvances : s .closedAdvances < 2 ^ 59
+
+pub sums-small : (b : List ℕ) → Faultless b → lengthFits b ≡ true → (i : ℕ) → isUser b i ≡ true → SumsSmall (statementAt b i)
+unfolding statementAt
+sums-small b f l i u =
+    record {
+      credit = omega (arith, credit-range b f i u);
+      value = omega (arith, closing-sum b f i u (λ c. c .value .0) maxYearTicks (λ c r. r .value));
+      flatRate = omega (arith, closing-sum b f i u (λ c. c .«flat_rate» .0) maxFlatRate (λ c r. r .flatRate));
+      liquidation = omega (arith, closing-sum b f i u (λ c. c .liquidation .0) maxYearTicks (λ c r. r .liquidation));
+      lapsed = omega (arith, closing-sum b f i u (λ c. c .lapsed .0) (maxYearTicks * mostYears) (λ c r. r .lapsed));
+      balance = omega (arith, balance-sum b f i u);
+      closedAdvances = omega (arith, advance-sum b f i u l (λ y. ltb y (accountAt b i .«open_year»)));
+    }

@@ -51,7 +51,7 @@ pub fn link_at(book: &[u8], at: RecordIndex) -> Link
 }
 
 // The sum of two balances, which adds their bits.
-fn joined(a: Balance, b: Balance) -> Balance
+pub fn joined(a: Balance, b: Balance) -> Balance
     requires { ⌜ mag (toZ w64 (a .0) +ℤ toZ w64 (b .0)) < 2 ^ 63 ⌝ }
     ensures { λ r. ⌜ r ≡ balanceBits (toZ w64 (a .0) +ℤ toZ w64 (b .0)) ⌝ }
 {
