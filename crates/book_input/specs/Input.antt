@@ -1,9 +1,9 @@
 -- How much is read: never more than there is room for.
 use Prim.Native.Nat.{ℕ, _≤_}
-use Rattle.listing.specs.declared.Step.{Step}
-use Rattle.listing.specs.declared.Step.the-variants as step
-use Rattle.listing.specs.declared.Input.{Input}
-use Rattle.listing.specs.declared.Input.the-variants as input
+use Rattle.book_input.specs.declared.Step.{Step}
+use Rattle.book_input.specs.declared.Step.the-variants as step
+use Rattle.book_input.specs.declared.Input.{Input}
+use Rattle.book_input.specs.declared.Input.the-variants as input
 
 -- a byte more than the longest book has
 abbrev pub roomForInput : ℕ

@@ -5,8 +5,8 @@ use mathlib.Core.Logic.{⊎-elim}
 use lib.ListN.{length}
 use native.Mathlib.Omega.{arith}
 use borrow.Author.Needs.{needs}
-use Rattle.listing.proofs.read_book.Statement.{statement}
-use Rattle.listing.proofs.read_book.Tie as tie
+use Rattle.book_input.proofs.read_book.Statement.{statement}
+use Rattle.book_input.proofs.read_book.Tie as tie
 
 abbrev Inv-loop : tie.InvT-loop
 Inv-loop book₀ filled₀ turn₀ book filled turn = (filled ≤ length book) × (length book ≡ length book₀)

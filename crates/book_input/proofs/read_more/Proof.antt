@@ -3,8 +3,8 @@ use lib.ListN.{length}
 use denote.Ref.{now}
 use Prim.Native.Nat.{_-_}
 use borrow.Author.Needs.{needs}
-use Rattle.listing.proofs.read_more.Statement.{statement}
-use Rattle.listing.proofs.read_more.Tie as tie
+use Rattle.book_input.proofs.read_more.Statement.{statement}
+use Rattle.book_input.proofs.read_more.Tie as tie
 
 sub-rest : tie.Need-sub-rest
 sub-rest c = search needs
