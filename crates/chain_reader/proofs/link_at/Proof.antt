@@ -1,0 +1,22 @@
+-- The next index and the kind of the record.
+use Rattle.book.specs.Book.{nextOf, kindAt}
+use Rattle.chain_reader.specs.Link.{linkAt}
+use borrow.Author.Needs.{needs}
+use Rattle.chain_reader.proofs.link_at.Statement.{statement}
+use Rattle.chain_reader.proofs.link_at.Tie as tie
+
+record-requires : tie.Need-record-requires
+record-requires c κs = search needs
+
+next-of-requires : tie.Need-next-of-requires
+next-of-requires c κs = search needs
+
+kind-of-requires : tie.Need-kind-of-requires
+kind-of-requires c κs = search needs
+
+returns : tie.Need-returns
+unfolding linkAt nextOf kindAt
+returns c = cc
+
+pub link-at-spec : {M : Type 1} → statement M
+link-at-spec = tie.close (tie.spec record-requires next-of-requires kind-of-requires returns)
