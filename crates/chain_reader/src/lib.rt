@@ -20,10 +20,9 @@ pub fn link_at(book: &[u8], at: RecordIndex) -> Link
     ensures { λ r. ⌜ r ≡ linkAt (now (book .entry)) (at .0) ⌝ }
 {
     let r = layout::record(book, at);
-    Link {
-        next: layout::next_of(r),
-        kind: layout::kind_of(r),
-    }
+    let next = layout::next_of(r);
+    let kind = layout::kind_of(r);
+    Link { next, kind }
 }
 
 pub fn chain_at<'a>(book: &'a [u8], at: RecordIndex) -> Chain<'a>
