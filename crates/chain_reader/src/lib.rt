@@ -16,7 +16,7 @@ pub struct Link {
     pub kind: u8,
 }
 
-pub fn link_at(book: &[u8], at: RecordIndex) -> Link
+fn link_at(book: &[u8], at: RecordIndex) -> Link
     ensures { λ r. ⌜ r ≡ linkAt (now (book .entry)) (at .0) ⌝ }
 {
     let r = layout::record(book, at);
