@@ -1,4 +1,9 @@
 -- The next index and the kind of the record.
+use Prim.Native.Nat.{ℕ}
+use mathlib.Core.Path.{ap, _∙_}
+use mathlib.Core.List.{List}
+use Rattle.units.specs.Units.{recordIndex}
+use Rattle.layout.specs.Fields.{get, nextField, kindField}
 use Rattle.book.specs.Book.{nextOf, kindAt}
 use Rattle.chain_reader.specs.Link.{linkAt}
 use borrow.Author.Needs.{needs}
@@ -16,7 +21,11 @@ kind-of-requires c κs = search needs
 
 returns : tie.Need-returns
 unfolding linkAt nextOf kindAt
-returns c = cc
+returns c =
+    let here = c .before .before .«record» .ensures in
+    let next = c .before .next-of .ensures ∙ ap (λ (r : List ℕ). recordIndex (get nextField r)) here in
+    let kind = c .kind-of .ensures ∙ ap (get kindField) here in
+    λ i. record { next = next i; kind = kind i }
 
 pub link-at-spec : {M : Type 1} → statement M
 link-at-spec = tie.close (tie.spec record-requires next-of-requires kind-of-requires returns)
