@@ -82,10 +82,10 @@ fn lines_of(book: &[u8], out: &mut [u8]) -> usize
     let mut end = 0;
     let mut user = view::first_user(book);
     while user.0 != 0 {
-        let next = view::next_of(book, user);
+        let link = chain_reader::follow(book, user);
         let account = view::account_at(book, user);
         end = line_at(out, end, account);
-        user = next;
+        user = link.next;
     }
     end
 }

@@ -8,17 +8,16 @@ use lib.IntN.{pos, _+ℤ_}
 use lib.Signed.{mag}
 use mir.Syntax.{w64}
 use mir.Val.{toZ}
-use Rattle.units.specs.Units.{ticks, recordIndex}
+use Rattle.units.specs.Units.{ticks}
 use Rattle.account.specs.declared.Account.{Account}
 use Rattle.account.specs.Account.{balanceBits}
 use Rattle.layout.specs.Fields.{recordAt}
 use Rattle.records.specs.declared.AdvanceRecord.{AdvanceRecord}
 use Rattle.records.specs.declared.ClosingRecord.{ClosingRecord}
 use Rattle.records.specs.Records.{advanceIn, closingIn}
-use Rattle.book.specs.Book.{isAdvance, isClosing, kindAt, nextOf}
+use Rattle.book.specs.Book.{isAdvance, isClosing}
 use Rattle.ledger.specs.Ledger.{Statement}
 use Rattle.statements.specs.declared.Sums.{Sums}
-use Rattle.statements.specs.declared.Link.{Link}
 
 unfoldable pub sumsOf : Statement → Sums
 sumsOf s =
@@ -35,9 +34,6 @@ sumsOf s =
       advances = ticks (s .advances);
       «closed_advances» = ticks (s .closedAdvances);
     }
-
-unfoldable pub linkAt : List ℕ → ℕ → Link
-linkAt b e = record { next = recordIndex (nextOf b e); kind = kindAt b e }
 
 unfoldable pub sumsBefore : Account → Sums
 sumsBefore a =

@@ -9,7 +9,7 @@ ghost use mir.Val.{toZ};
 ghost use Rattle.account.specs.Account.{balanceBits};
 ghost use Rattle.book.specs.Book.{lengthFits, sound, isUser, isEntry, kindAt};
 ghost use Rattle.chains.specs.Statements.{statementAt};
-ghost use Rattle.statements.specs.Walk.{sumsOf, linkAt, sumsBefore, closingAdded, advanceAdded, entryAdded, ClosingRoom, AdvanceRoom, EntryRoom};
+ghost use Rattle.statements.specs.Walk.{sumsOf, sumsBefore, closingAdded, advanceAdded, entryAdded, ClosingRoom, AdvanceRoom, EntryRoom};
 use account::Account;
 use account::Balance;
 use layout::kind;
@@ -32,22 +32,6 @@ pub struct Sums {
     pub balance: Balance,
     pub advances: Ticks,
     pub closed_advances: Ticks,
-}
-
-// A link of a chain: the index that follows, and the kind of the record.
-pub struct Link {
-    pub next: RecordIndex,
-    pub kind: u8,
-}
-
-pub fn link_at(book: &[u8], at: RecordIndex) -> Link
-    ensures { λ r. ⌜ r ≡ linkAt (now (book .entry)) (at .0) ⌝ }
-{
-    let r = layout::record(book, at);
-    Link {
-        next: layout::next_of(r),
-        kind: layout::kind_of(r),
-    }
 }
 
 // The sum of two balances, which adds their bits.
@@ -139,7 +123,7 @@ pub fn statement_of(book: &[u8], user: RecordIndex) -> Sums
     let mut sums = sums_before(records::read_account(r));
     let mut at = layout::first_entry_of(r);
     while at.0 != 0 {
-        let link = link_at(book, at);
+        let link = chain_reader::follow(book, at);
         sums = with_entry(book, at, link.kind, sums);
         at = link.next;
     }

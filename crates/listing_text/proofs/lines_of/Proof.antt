@@ -3,6 +3,7 @@ use Prim.Native.Nat.{_<_}
 use mathlib.Core.Path.{sym, ap, subst}
 use borrow.Author.Needs.{needs}
 use denote.Ref.{now}
+use Rattle.chain_reader.specs.Link.{linkAt}
 use Rattle.listing_text.proofs.Walk.{Walking, begins, room-here, next-falls, goes-on, ends}
 use Rattle.listing_text.proofs.lines_of.Statement.{statement}
 use Rattle.listing_text.proofs.lines_of.Tie as tie
@@ -23,8 +24,8 @@ loop-holds c =
     (sym (ap (λ k. k .0) (c .first-user .ensures)))
     (begins (now (start .args .book)) (start .pre .0) (start .pre .1 .0) (now (start .args .out)) (start .pre .1 .1))
 
-next-of-requires : tie.Need-next-of-requires Inv-loop μ-loop
-next-of-requires c κs = search needs
+follow-requires : tie.Need-follow-requires Inv-loop μ-loop
+follow-requires c κs = search needs
 
 account-at-requires : tie.Need-account-at-requires Inv-loop μ-loop
 account-at-requires c κs = search needs
@@ -36,22 +37,24 @@ line-at-requires c κs =
     room-here (now (a .book)) (now (a .out)) (l .out) (l .end) (l .user .0) (l .inv) (c .before .before .before .if1 .taken)
 
 loop-less : tie.Need-loop-less Inv-loop μ-loop
+unfolding linkAt
 loop-less c =
-    let l = c .before .before .before .before .before .before .before .before .loop in
-    let a = c .before .before .before .before .before .before .before .before .before .before .before .before .args in
-    subst (λ k. k < l .user .0) (sym (ap (λ k. k .0) (c .before .before .before .before .before .next-of .ensures)))
-    (next-falls (now (a .book)) (now (a .out)) (l .out) (l .end) (l .user .0) (l .inv) (c .before .before .before .before .before .before .if1 .taken))
+    let l = c .before .before .before .before .before .before .before .before .before .loop in
+    let a = c .before .before .before .before .before .before .before .before .before .before .before .before .before .args in
+    subst (λ k. k < l .user .0) (sym (ap (λ k. k .next .0) (c .before .before .before .before .before .before .follow .ensures)))
+    (next-falls (now (a .book)) (now (a .out)) (l .out) (l .end) (l .user .0) (l .inv) (c .before .before .before .before .before .before .before .if1 .taken))
 
 loop-again : tie.Need-loop-again Inv-loop μ-loop
+unfolding linkAt
 loop-again c =
-    let l = c .before .before .before .before .before .before .before .before .loop in
-    let a = c .before .before .before .before .before .before .before .before .before .before .before .before .args in
-    let n = c .before .before .before .before .before .next-of in
-    let d = c .before .before .before .before .account-at in
-    let t = c .before .before .line-at in
-    goes-on (now (a .book)) (now (a .out)) (l .out) (l .end) (l .user .0) (l .inv) (c .before .before .before .before .before .before .if1 .taken)
-    (d .result) (t .last .0) (t .result) (n .result .0)
-    (d .ensures) (t .ensures .0) (t .ensures .1) (ap (λ k. k .0) (n .ensures))
+    let l = c .before .before .before .before .before .before .before .before .before .loop in
+    let a = c .before .before .before .before .before .before .before .before .before .before .before .before .before .args in
+    let n = c .before .before .before .before .before .before .follow in
+    let d = c .before .before .before .before .before .account-at in
+    let t = c .before .before .before .line-at in
+    goes-on (now (a .book)) (now (a .out)) (l .out) (l .end) (l .user .0) (l .inv) (c .before .before .before .before .before .before .before .if1 .taken)
+    (d .result) (t .last .0) (t .result) (n .result .next .0)
+    (d .ensures) (t .ensures .0) (t .ensures .1) (ap (λ k. k .next .0) (n .ensures))
 
 same-length : tie.Need-same-length Inv-loop μ-loop
 same-length c = c .before .before .loop .inv .same
@@ -71,7 +74,7 @@ lines-of-spec =
     μ-loop
     first-user-requires
     loop-holds
-    next-of-requires
+    follow-requires
     account-at-requires
     line-at-requires
     loop-less

@@ -6,7 +6,8 @@ use denote.Ref.{now}
 use Rattle.layout.specs.Fields.{get, firstEntryField}
 use Rattle.records.specs.Records.{accountIn}
 use Rattle.book.specs.Book.{accountAt, firstEntryOf}
-use Rattle.statements.specs.Walk.{linkAt, sumsBefore}
+use Rattle.chain_reader.specs.Link.{linkAt}
+use Rattle.statements.specs.Walk.{sumsBefore}
 use Rattle.statements.proofs.Walk.{Walking, begins, entry-here, entry-room, turned, next-falls, ends}
 use borrow.Author.Needs.{needs}
 use Rattle.statements.proofs.statement_of.Statement.{statement}
@@ -56,8 +57,8 @@ loop-holds c =
     subst₂ (λ s k. Walking (book-of c) s k s k) (sym (sums-begin c)) (sym (index-begins c))
     (begins (book-of c) (user-of c) (given .0) (given .1 .0) (given .1 .1))
 
-link-at-requires : tie.Need-link-at-requires Inv-loop μ-loop
-link-at-requires c κs = search needs
+follow-requires : tie.Need-follow-requires Inv-loop μ-loop
+follow-requires c κs = search needs
 
 with-entry-requires : tie.Need-with-entry-requires Inv-loop μ-loop
 unfolding linkAt
@@ -69,7 +70,7 @@ with-entry-requires c κs =
     let f = first .first-entry-of .result .0 in (
       entry-here b s f (l .sums) (l .at .0) (l .inv) (c .before .if1 .taken),
       (
-        ap (λ k. k .kind) (c .link-at .ensures),
+        ap (λ k. k .kind) (c .follow .ensures),
         entry-room b s f (l .sums) (l .at .0) (l .inv) (c .before .if1 .taken),
       ),
     )
@@ -82,7 +83,7 @@ loop-less c =
     let b = book-of first in
     let s = first .before .sums-before .result in
     let f = first .first-entry-of .result .0 in
-    subst (λ k. k < l .at .0) (sym (ap (λ k. k .next .0) (c .before .before .link-at .ensures)))
+    subst (λ k. k < l .at .0) (sym (ap (λ k. k .next .0) (c .before .before .follow .ensures)))
     (next-falls b s f (l .sums) (l .at .0) (l .inv) (c .before .before .before .if1 .taken))
 
 loop-again : tie.Need-loop-again Inv-loop μ-loop
@@ -93,7 +94,7 @@ loop-again c =
     let b = book-of first in
     let s = first .before .sums-before .result in
     let f = first .first-entry-of .result .0 in
-    subst₂ (Walking b s f) (sym (c .before .with-entry .ensures)) (sym (ap (λ k. k .next .0) (c .before .before .link-at .ensures)))
+    subst₂ (Walking b s f) (sym (c .before .with-entry .ensures)) (sym (ap (λ k. k .next .0) (c .before .before .follow .ensures)))
     (turned b s f (l .sums) (l .at .0) (l .inv) (c .before .before .before .if1 .taken))
 
 returns : tie.Need-returns Inv-loop μ-loop
@@ -115,7 +116,7 @@ statement-of-spec =
     sums-before-requires
     first-entry-of-requires
     loop-holds
-    link-at-requires
+    follow-requires
     with-entry-requires
     loop-less
     loop-again

@@ -1,0 +1,10 @@
+-- A link of a chain ("Book": chains run by a next index, and zero ends the chain).
+use Prim.Native.Nat.{ℕ}
+use mathlib.Core.List.{List}
+use Rattle.units.specs.Units.{recordIndex}
+use Rattle.book.specs.Book.{kindAt, nextOf}
+use Rattle.chain_reader.specs.declared.Link.{Link}
+
+-- the index that follows a record, and the record's kind
+unfoldable pub linkAt : List ℕ → ℕ → Link
+linkAt b e = record { next = recordIndex (nextOf b e); kind = kindAt b e }

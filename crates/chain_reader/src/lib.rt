@@ -1,0 +1,45 @@
+// The chain reader: a struct that holds the book's slice and the current index (document 01, "Book": chains run by a next
+// index, and zero ends the chain). The functions over it are few and thin: the work is done on the plain slice and the index.
+ghost use mathlib.Core.Path.{_≡_};
+ghost use Rattle.chain_reader.specs.Link.{linkAt};
+use units::RecordIndex;
+
+// A place on a chain of a book.
+pub struct Chain<'a> {
+    book: &'a [u8],
+    at: RecordIndex,
+}
+
+// A link of a chain: the index that follows, and the kind of the record.
+pub struct Link {
+    pub next: RecordIndex,
+    pub kind: u8,
+}
+
+fn link_at(book: &[u8], at: RecordIndex) -> Link
+    ensures { λ r. ⌜ r ≡ linkAt (now (book .entry)) (at .0) ⌝ }
+{
+    let r = layout::record(book, at);
+    let next = layout::next_of(r);
+    let kind = layout::kind_of(r);
+    Link { next, kind }
+}
+
+pub fn chain_at<'a>(book: &'a [u8], at: RecordIndex) -> Chain<'a>
+    ensures { λ r. ⌜ (r .book ≡ book .entry) × (r .at ≡ at) ⌝ }
+{
+    Chain { book, at }
+}
+
+pub fn following<'a>(chain: Chain<'a>) -> Link
+    ensures { λ r. ⌜ r ≡ linkAt (now (chain .entry .book)) (chain .entry .at .0) ⌝ }
+{
+    link_at(chain.book, chain.at)
+}
+
+// A step along a chain, for callers that hold a plain slice.
+pub fn follow(book: &[u8], at: RecordIndex) -> Link
+    ensures { λ r. ⌜ r ≡ linkAt (now (book .entry)) (at .0) ⌝ }
+{
+    following(chain_at(book, at))
+}
