@@ -1,4 +1,1 @@
-pub mod Closing
-pub mod Outcomes
-pub mod Balances
-pub mod Settlements
+pub mod Users

@@ -9,8 +9,8 @@ use lib.Dec.{eqb}
 use Rattle.units.specs.declared.RecordIndex.{RecordIndex}
 use Rattle.units.specs.declared.Ticks.{Ticks}
 use Rattle.units.specs.Units.{recordIndex, ticks}
-use Rattle.account.specs.declared.Account.{Account}
-use Rattle.account.specs.Account.{accountAdvanced}
+use Rattle.accounts.specs.declared.Account.{Account}
+use Rattle.accounts.specs.Account.{accountAdvanced}
 use Rattle.book.specs.Book.{isUser, accountAt, accountFits, halvesFit}
 use Rattle.book.proofs.Faultless.{sound-faultless}
 use Rattle.soundness.specs.Verdicts.{Accepted}

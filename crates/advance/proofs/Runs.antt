@@ -11,8 +11,8 @@ use Rattle.units.specs.Units.{recordIndex, ticks}
 use Rattle.units.specs.Limits.{maxPrice, maxHalfKwh}
 use Rattle.calendar.specs.declared.Halves.{Halves}
 use Rattle.calendar.specs.ElectionAndAdvances.{amountOf}
-use Rattle.account.specs.declared.Account.{Account}
-use Rattle.account.specs.Account.{accountAdvanced}
+use Rattle.accounts.specs.declared.Account.{Account}
+use Rattle.accounts.specs.Account.{accountAdvanced}
 use Rattle.records.specs.Records.{advanceImage}
 use Rattle.book.specs.Book.{halvesFit, halvesOf, firstEntryOf, accountAt}
 use Rattle.calls.specs.Bookings.{runAmount, advanceEntry, withEntry, advanced}

@@ -10,7 +10,7 @@ ghost use Rattle.calls.specs.Calls.{advance};
 ghost use Rattle.soundness.specs.Verdicts.{Accepted};
 ghost use Rattle.answers.specs.Answers.{Answered};
 ghost use Rattle.advance.specs.Advances.{RunFits, ticksAnswered};
-use account::Account;
+use accounts::Account;
 use records::AdvanceRecord;
 use soundness::Checked;
 use units::Kwh;

@@ -10,7 +10,7 @@ use Rattle.units.specs.Folds.{sumBelow, anyBelow}
 use Rattle.calendar.specs.declared.Halves.{Halves}
 use Rattle.calendar.specs.ElectionAndAdvances.{june, october, january, halvesPaid, due, halvesCount}
 use Rattle.values.specs.declared.Details.{Details}
-use Rattle.account.specs.declared.Account.{Account}
+use Rattle.accounts.specs.declared.Account.{Account}
 use Rattle.layout.specs.Fields.{get, zeros, recordAt, capacity, recordLength, usedField, firstUserField, nextField, kindField, userKind, numberField, firstEntryField, activationYearField, openYearField, advanceKind, closingKind, yearField, ownerField}
 use Rattle.records.specs.declared.AdvanceRecord.{AdvanceRecord}
 use Rattle.records.specs.declared.ClosingRecord.{ClosingRecord}

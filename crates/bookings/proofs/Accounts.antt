@@ -12,10 +12,10 @@ use Rattle.calendar.specs.ElectionAndAdvances.{june, october, january, due, hal
 use Rattle.values.specs.declared.Details.{Details}
 use Rattle.values.specs.declared.YearValues.{YearValues}
 use Rattle.values.specs.YearsValues.{ValuesFit}
-use Rattle.account.specs.declared.Account.{Account}
-use Rattle.account.specs.Account.{accountElected, accountAdvanced, accountClosed}
-use Rattle.account.specs.Closing.{creditAfter}
-use Rattle.account.proofs.Closing.{credit-capped}
+use Rattle.accounts.specs.declared.Account.{Account}
+use Rattle.accounts.specs.Account.{accountElected, accountAdvanced, accountClosed}
+use Rattle.accounts.specs.Closing.{creditAfter}
+use Rattle.accounts.proofs.Closing.{credit-capped}
 use Rattle.book.specs.Book.{detailsFit, openYearFits, halvesOf, runMade, dueIfMade, runsFit, halvesMade, advancesFit, creditFits, halvesFit, accountFits, isRun}
 use Rattle.calls.specs.Bookings.{newAccount}
 use Rattle.bookings.proofs.Ranges.{conjuncts, AccountGood, account-good, account-fits, DetailsWithin, details-within}

@@ -12,8 +12,8 @@ use Rattle.units.specs.Limits.{maxPrice, maxHalfKwh, maxHalfTicks, maxYearTicks
 use Rattle.calendar.specs.declared.Halves.{Halves}
 use Rattle.calendar.specs.ElectionAndAdvances.{halvesPaid, halvesCount, due, amountOf}
 use Rattle.calendar.proofs.Amounts.{half-at-most, halves-at-most, run-of-shares}
-use Rattle.account.specs.declared.Account.{Account}
-use Rattle.account.specs.Account.{accountAdvanced}
+use Rattle.accounts.specs.declared.Account.{Account}
+use Rattle.accounts.specs.Account.{accountAdvanced}
 use Rattle.layout.specs.Fields.{capacity}
 use Rattle.layout.proofs.ByteRanges.{Bytes}
 use Rattle.records.specs.Records.{accountIn, advanceImage}

@@ -16,11 +16,11 @@ use Rattle.units.specs.Limits.{maxYearTicks, maxFlatRate, maxContribution, last
 use Rattle.sheet.specs.YearSheet.{sheetUser, sheetYear}
 use Rattle.values.specs.declared.YearValues.{YearValues}
 use Rattle.values.specs.YearsValues.{ValuesFit}
-use Rattle.account.specs.declared.Account.{Account}
-use Rattle.account.specs.Account.{accountClosed}
-use Rattle.account.specs.Closing.{contributionOf, liquidationOf, lapsedOf, balanceOf}
-use Rattle.account.proofs.Closing.{contribution-capped, liquidation-capped, lapsed-at-most}
-use Rattle.account.proofs.Balances.{balance-bits-in-range, balance-fits}
+use Rattle.accounts.specs.declared.Account.{Account}
+use Rattle.accounts.specs.Account.{accountClosed}
+use Rattle.accounts.specs.Closing.{contributionOf, liquidationOf, lapsedOf, balanceOf}
+use Rattle.accounts.proofs.Closing.{contribution-capped, liquidation-capped, lapsed-at-most}
+use Rattle.accounts.proofs.Balances.{balance-bits-in-range, balance-fits}
 use Rattle.layout.specs.Fields.{capacity}
 use Rattle.layout.proofs.ByteRanges.{Bytes}
 use Rattle.records.specs.Records.{accountIn, closingImage}

@@ -7,7 +7,7 @@ use borrow.Author.Tests.{eqb-true, eqb-false, not-true}
 use lib.Dec.{eqb, leb}
 use Rattle.units.proofs.Bools.{and-left, and-right}
 use Rattle.values.specs.declared.Details.{Details}
-use Rattle.account.specs.Account.{accountElected}
+use Rattle.accounts.specs.Account.{accountElected}
 use Rattle.layout.proofs.ByteRanges.{Bytes}
 use Rattle.calendar.specs.ElectionAndAdvances.{isDay}
 use Rattle.book.specs.Book.{used, accountAt, accountFits}

@@ -7,7 +7,7 @@ use native.Mathlib.Omega.{arith}
 use borrow.Author.Tests.{lt-ltb, eqb-true, eq-eqb}
 use lib.Dec.{eqb, ltb, lit<}
 use Rattle.units.proofs.Bools.{and-both}
-use Rattle.account.specs.declared.Account.{Account}
+use Rattle.accounts.specs.declared.Account.{Account}
 use Rattle.layout.specs.Fields.{recordAt, capacity, userKind}
 use Rattle.book.specs.Book.{used, firstUser, accountFits, accountAt, isUser, nextOf, firstEntryOf, numberOf, userNextFits, numberIsNew, firstEntryFits, firstInOrder, inOrder}
 use Rattle.book.proofs.Faultless.{Faultless, UserGood, kind-index}

@@ -8,7 +8,7 @@ use native.Mathlib.Omega.{arith}
 use borrow.Author.Tests.{lt-ltb, eqb-true, eq-eqb, ne-eqb}
 use lib.Dec.{eqb, ltb, lit<}
 use Rattle.units.proofs.Bools.{and-left, and-right, and-both}
-use Rattle.account.specs.declared.Account.{Account}
+use Rattle.accounts.specs.declared.Account.{Account}
 use Rattle.layout.specs.Fields.{recordAt, capacity, userKind, advanceKind, closingKind}
 use Rattle.book.specs.Book.{used, firstUser, accountFits, accountAt, isUser, isAdvance, isClosing, isEntry, nextOf, firstEntryOf, ownerOf, rankOf, activationOf, openYearOf, firstEntryFits, firstInOrder, inOrder, nextInOrder, ownerFits, entryNextFits, hits, pointersFrom}
 use Rattle.book.proofs.Faultless.{Faultless, UserGood, EntryLinks, kind-index}

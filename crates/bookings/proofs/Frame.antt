@@ -8,7 +8,7 @@ use native.Mathlib.Decide.{ℕ-discrete}
 use native.Mathlib.Omega.{arith}
 use lib.ListN.{length}
 use Rattle.values.specs.declared.Details.{Details}
-use Rattle.account.specs.declared.Account.{Account}
+use Rattle.accounts.specs.declared.Account.{Account}
 use Rattle.layout.specs.Fields.{get, recordAt, userKind, advanceKind, closingKind, kindField, nextField, numberField, ownerField, openYearField, usedField}
 use Rattle.records.specs.declared.UserRecord.{UserRecord}
 use Rattle.records.specs.Records.{accountIn}

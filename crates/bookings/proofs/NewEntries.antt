@@ -8,7 +8,7 @@ use native.Mathlib.Omega.{arith}
 use borrow.Author.Tests.{eq-eqb, ne-eqb}
 use lib.Dec.{eqb}
 use Rattle.units.proofs.Bools.{and-both}
-use Rattle.account.specs.declared.Account.{Account}
+use Rattle.accounts.specs.declared.Account.{Account}
 use Rattle.layout.specs.Fields.{recordAt, capacity, userKind, advanceKind, closingKind, firstEntryField}
 use Rattle.layout.proofs.ByteRanges.{field-below}
 use Rattle.records.specs.declared.AdvanceRecord.{AdvanceRecord}

@@ -6,7 +6,7 @@ use mathlib.Core.List.{List}
 use native.Mathlib.Decide.{decLt, ℕ-discrete}
 use native.Mathlib.Omega.{arith}
 use borrow.Author.Tests.{eq-eqb}
-use Rattle.account.specs.declared.Account.{Account}
+use Rattle.accounts.specs.declared.Account.{Account}
 use Rattle.layout.specs.Fields.{get, recordAt, userKind, usedField, firstUserField}
 use Rattle.records.specs.declared.UserRecord.{UserRecord}
 use Rattle.units.specs.Folds.{sumBelow}

@@ -8,7 +8,7 @@ use lib.Dec.{leb, ltb, eqb}
 use Rattle.units.proofs.Bools.{and-left, and-right, and-both}
 use Rattle.units.specs.Limits.{maxPower, maxHalfKwh, maxYearTicks, firstActivation, lastActivation, lastOpenYear}
 use Rattle.values.specs.declared.Details.{Details}
-use Rattle.account.specs.declared.Account.{Account}
+use Rattle.accounts.specs.declared.Account.{Account}
 use Rattle.book.specs.Book.{detailsFit, openYearFits, runsFit, advancesFit, creditFits, halvesFit, accountFits}
 
 pub ruleset conjuncts = (and-left, and-right)

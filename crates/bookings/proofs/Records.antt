@@ -3,7 +3,7 @@ use Prim.Native.Nat.{ℕ}
 use mathlib.Core.Path.{_≡_, ap, _∙_}
 use mathlib.Core.Bool.{Bool, true}
 use mathlib.Core.List.{List}
-use Rattle.account.specs.declared.Account.{Account}
+use Rattle.accounts.specs.declared.Account.{Account}
 use Rattle.layout.specs.Fields.{get, zeros, recordAt, userKind, advanceKind, closingKind, nextField, kindField, numberField, firstEntryField, activationYearField, openYearField, yearField, ownerField}
 use Rattle.records.specs.declared.UserRecord.{UserRecord}
 use Rattle.records.specs.declared.AdvanceRecord.{AdvanceRecord}

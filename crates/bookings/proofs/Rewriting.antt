@@ -7,7 +7,7 @@ use native.Mathlib.Nat.{le-of-eq}
 use native.Mathlib.Omega.{arith}
 use lib.Dec.{eqb, leb}
 use lib.ListN.{length}
-use Rattle.account.specs.declared.Account.{Account}
+use Rattle.accounts.specs.declared.Account.{Account}
 use Rattle.layout.specs.Fields.{recordAt, zeros, capacity, userKind, nextField, numberField, firstEntryField}
 use Rattle.layout.proofs.ByteRanges.{field-below}
 use Rattle.records.specs.Records.{accountIn}

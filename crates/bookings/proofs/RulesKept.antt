@@ -9,7 +9,7 @@ use borrow.Author.Tests.{eqb-true, eq-eqb, leb-true, le-leb, ltb-true}
 use lib.Dec.{eqb, ltb, leb}
 use Rattle.units.specs.Limits.{maxYearTicks, maxFlatRate, maxContribution}
 use Rattle.units.proofs.Bools.{and-left, and-right, and-both}
-use Rattle.account.specs.declared.Account.{Account}
+use Rattle.accounts.specs.declared.Account.{Account}
 use Rattle.layout.specs.Fields.{get, recordAt, userKind, advanceKind, closingKind, openYearField}
 use Rattle.records.specs.declared.AdvanceRecord.{AdvanceRecord}
 use Rattle.records.specs.declared.ClosingRecord.{ClosingRecord}

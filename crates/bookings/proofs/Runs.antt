@@ -7,7 +7,7 @@ use borrow.Author.Tests.{eqb-true, eqb-false, eq-eqb}
 use lib.Dec.{leb, ltb, eqb}
 use Rattle.units.specs.Limits.{maxHalfTicks, maxYearTicks}
 use Rattle.calendar.specs.ElectionAndAdvances.{june, october, january, halves, halvesPaid, due, halvesCount}
-use Rattle.account.specs.declared.Account.{Account}
+use Rattle.accounts.specs.declared.Account.{Account}
 use Rattle.book.specs.Book.{halvesOf, runMade, halvesMade, isRun}
 
 -- the halves of the three runs of a year

@@ -6,7 +6,7 @@ use native.Mathlib.Omega.{arith}
 use borrow.Author.Tests.{leb-true, ltb-true}
 use Rattle.units.specs.Units.{recordIndex}
 use Rattle.units.specs.Limits.{maxYearTicks, maxFlatRate, maxContribution, maxHalfTicks, maxHalfKwh, lastOpenYear}
-use Rattle.account.specs.declared.Account.{Account}
+use Rattle.accounts.specs.declared.Account.{Account}
 use Rattle.records.specs.declared.UserRecord.{UserRecord}
 use Rattle.records.specs.declared.AdvanceRecord.{AdvanceRecord}
 use Rattle.records.specs.declared.ClosingRecord.{ClosingRecord}

@@ -7,7 +7,7 @@ use native.Mathlib.Omega.{arith}
 use lib.ListN.{length}
 use Rattle.units.specs.Units.{recordIndex}
 use Rattle.values.specs.declared.Details.{Details}
-use Rattle.account.specs.declared.Account.{Account}
+use Rattle.accounts.specs.declared.Account.{Account}
 use Rattle.layout.specs.Fields.{recordLength, get, zeros, recordAt, putRecord, capacity, usedField, firstUserField, userKind}
 use Rattle.layout.proofs.Places.{length-put, record-put-same, record-put-other}
 use Rattle.layout.proofs.ByteRanges.{Bytes, bytes-put, field-below}

@@ -10,9 +10,9 @@ use Rattle.sheet.specs.YearSheet.{sheetUser, sheetYear}
 use Rattle.values.specs.declared.Details.{Details}
 use Rattle.values.specs.declared.YearValues.{YearValues}
 use Rattle.values.specs.YearsValues.{yearValues}
-use Rattle.account.specs.declared.Account.{Account}
-use Rattle.account.specs.Closing.{contributionOf, liquidationOf, lapsedOf, balanceOf}
-use Rattle.account.specs.Account.{balanceBits, accountElected, accountAdvanced, accountClosed}
+use Rattle.accounts.specs.declared.Account.{Account}
+use Rattle.accounts.specs.Closing.{contributionOf, liquidationOf, lapsedOf, balanceOf}
+use Rattle.accounts.specs.Account.{balanceBits, accountElected, accountAdvanced, accountClosed}
 use Rattle.layout.specs.Fields.{putRecord}
 use Rattle.records.specs.declared.AdvanceRecord.{AdvanceRecord}
 use Rattle.records.specs.declared.ClosingRecord.{ClosingRecord}

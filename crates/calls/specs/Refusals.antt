@@ -7,7 +7,7 @@ use Rattle.units.specs.Limits.{maxPrice, maxHalfKwh, lastActivation, lastOpenYe
 use Rattle.calendar.specs.ElectionAndAdvances.{isDay, inWindow, due, halvesPaid}
 use Rattle.sheet.specs.YearSheet.{sheetUser, sheetYear, refused11, refused13, refused14}
 use Rattle.values.specs.declared.Details.{Details}
-use Rattle.account.specs.declared.Account.{Account}
+use Rattle.accounts.specs.declared.Account.{Account}
 use Rattle.layout.specs.Fields.{capacity}
 use Rattle.book.specs.Book.{lengthFits, sound, used, detailsFit, isRun, runMade, accountAt}
 use Rattle.calls.specs.Bookings.{findUser}

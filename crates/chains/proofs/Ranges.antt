@@ -12,7 +12,7 @@ use mir.Val.{toZ}
 use borrow.Author.Tests.{leb-true, lt-ltb, le-ltb}
 use Rattle.units.specs.Limits.{maxYearTicks, maxFlatRate, maxContribution, maxPower, firstActivation, lastActivation, lastOpenYear}
 use Rattle.units.proofs.Bools.{and-left, and-right}
-use Rattle.account.specs.declared.Account.{Account}
+use Rattle.accounts.specs.declared.Account.{Account}
 use Rattle.layout.specs.Fields.{recordAt}
 use Rattle.records.specs.declared.ClosingRecord.{ClosingRecord}
 use Rattle.records.specs.Records.{advanceIn, closingIn}

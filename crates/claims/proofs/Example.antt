@@ -17,8 +17,8 @@ use Rattle.calendar.specs.ElectionAndAdvances.{leap, daysIn, isDay, notAfter, i
 use Rattle.sheet.specs.YearSheet.{withdrawnReading, injectedReading, word, headerFits, lastWordsFit, refused11, limitAt, aboveLimit, unusedBand, strayBand, atFault, refused13, monthWithdrawn, refused14}
 use Rattle.prices.specs.ValueAndCost.{costIn, costOf, bandPrice, singlePrice, valueIn, valueOf}
 use Rattle.values.specs.YearsValues.{monthInjected, withdrawnOver, injectedOver, exchangedOver, monthExchanged, someMonthAbove, monthRate, annualRate, monthFlatRate, annualFlatRate, flatRateOver, halfOf, yearValues}
-use Rattle.account.specs.Account.{outcomeOf, liquidationIn, lapsedIn, creditIn, settlementOf, accountElected, accountAdvanced, accountClosed, closedOf}
-use Rattle.account.specs.Closing.{contributionOf, liquidationOf, lapsedOf, creditAfter, balanceOf}
+use Rattle.accounts.specs.Account.{outcomeOf, liquidationIn, lapsedIn, creditIn, settlementOf, accountElected, accountAdvanced, accountClosed, closedOf}
+use Rattle.accounts.specs.Closing.{contributionOf, liquidationOf, lapsedOf, creditAfter, balanceOf}
 use Rattle.layout.specs.Fields.{get, zeros, recordAt, putRecord, written}
 use Rattle.records.specs.Records.{headImage, userImage, advanceImage, closingImage, accountIn, userIn, advanceIn, closingIn}
 use Rattle.book.specs.Book.{lengthFits, freshBook, used, firstUser, usedFits, kindAt, hasKind, isEntry, detailsFit, openYearFits, halvesOf, runMade, dueIfMade, runsFit, halvesMade, advancesFit, creditFits, halvesFit, accountFits, yearFits, isRun, advanceFits, balanceFits, closingFits, ownerOf, rangesFit, zeroBytesFit, nextOf, firstEntryOf, numberOf, userNextFits, numberIsNew, firstEntryFits, entryNextFits, ownerFits, hits, pointersFrom, pointersTo, pointedOnce, rankOf, inOrder, activationOf, openYearOf, firstInOrder, nextInOrder, linksFit, goodRecord, goodHead, faulty, sound}

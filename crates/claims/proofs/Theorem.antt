@@ -15,7 +15,7 @@ use mir.Val.{toZ}
 use mir.Facts.{toZ-ofZ}
 use denote.Ref.{now}
 use Rattle.values.specs.declared.Details.{Details}
-use Rattle.account.specs.Account.{balanceBits}
+use Rattle.accounts.specs.Account.{balanceBits}
 use Rattle.book.specs.Book.{lengthFits, freshBook}
 use Rattle.book.proofs.Faultless.{sound-faultless}
 use Rattle.soundness.specs.Verdicts.{freshAnswer, freshAfter}

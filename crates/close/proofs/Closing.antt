@@ -14,8 +14,8 @@ use Rattle.units.specs.Limits.{lastActivation}
 use Rattle.sheet.specs.YearSheet.{sheetUser, sheetYear, refused11, refused13, refused14, Passed}
 use Rattle.values.specs.declared.YearValues.{YearValues}
 use Rattle.values.specs.YearsValues.{yearValues, ValuesFit}
-use Rattle.account.specs.declared.Account.{Account}
-use Rattle.account.specs.Account.{InRange}
+use Rattle.accounts.specs.declared.Account.{Account}
+use Rattle.accounts.specs.Account.{InRange}
 use Rattle.book.specs.Book.{isUser, accountAt, accountFits}
 use Rattle.book.proofs.Faultless.{sound-faultless}
 use Rattle.soundness.specs.Verdicts.{Accepted}

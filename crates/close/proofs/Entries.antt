@@ -6,11 +6,11 @@ use Rattle.units.specs.declared.RecordIndex.{RecordIndex}
 use Rattle.units.specs.declared.Ticks.{Ticks}
 use Rattle.units.specs.Units.{recordIndex, ticks}
 use Rattle.values.specs.declared.YearValues.{YearValues}
-use Rattle.account.specs.declared.Account.{Account}
-use Rattle.account.specs.declared.Closed.{Closed}
-use Rattle.account.specs.declared.Settlement.{Settlement}
-use Rattle.account.specs.Account.{liquidationIn, lapsedIn, settlementOf, accountClosed, closedOf}
-use Rattle.account.proofs.Outcomes.{outcome-liquidation, outcome-lapsed}
+use Rattle.accounts.specs.declared.Account.{Account}
+use Rattle.accounts.specs.declared.Closed.{Closed}
+use Rattle.accounts.specs.declared.Settlement.{Settlement}
+use Rattle.accounts.specs.Account.{liquidationIn, lapsedIn, settlementOf, accountClosed, closedOf}
+use Rattle.accounts.proofs.Outcomes.{outcome-liquidation, outcome-lapsed}
 use Rattle.records.specs.declared.ClosingRecord.{ClosingRecord}
 use Rattle.records.specs.Records.{closingImage}
 use Rattle.book.specs.Book.{firstEntryOf, accountAt}

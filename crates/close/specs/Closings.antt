@@ -9,8 +9,8 @@ use lib.ListN.{length}
 use Rattle.units.specs.Units.{ticks}
 use Rattle.sheet.specs.YearSheet.{sheetUser}
 use Rattle.values.specs.declared.YearValues.{YearValues}
-use Rattle.account.specs.declared.Account.{Account}
-use Rattle.account.specs.Account.{balanceBits, InRange}
+use Rattle.accounts.specs.declared.Account.{Account}
+use Rattle.accounts.specs.Account.{balanceBits, InRange}
 use Rattle.layout.specs.Fields.{recordLength}
 use Rattle.records.specs.declared.ClosingRecord.{ClosingRecord}
 use Rattle.book.specs.Book.{used, accountAt}

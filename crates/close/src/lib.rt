@@ -3,16 +3,16 @@ ghost use mathlib.Core.Path.{_≡_};
 ghost use mathlib.Core.List.{List};
 ghost use Prim.Native.Nat.{ℕ};
 ghost use Rattle.units.specs.Units.{recordIndex};
-ghost use Rattle.account.specs.Account.{closedOf};
+ghost use Rattle.accounts.specs.Account.{closedOf};
 ghost use Rattle.book.specs.Book.{firstEntryOf, accountAt};
 ghost use Rattle.calls.specs.Bookings.{closingEntry, closed};
 ghost use Rattle.calls.specs.Calls.{close};
 ghost use Rattle.soundness.specs.Verdicts.{Accepted};
 ghost use Rattle.answers.specs.Answers.{Answered};
 ghost use Rattle.close.specs.Closings.{YearFits, entrySums, noSums, sumsAnswered};
-use account::Account;
-use account::Balance;
-use account::Settlement;
+use accounts::Account;
+use accounts::Balance;
+use accounts::Settlement;
 use records::ClosingRecord;
 use soundness::Checked;
 use units::RecordIndex;
@@ -87,8 +87,8 @@ fn closing_entry(
     let contribution = settlement.contribution;
     let balance = settlement.balance;
     let outcome = settlement.outcome;
-    let liquidation = account::liquidation_in(outcome);
-    let lapsed = account::lapsed_in(outcome);
+    let liquidation = accounts::liquidation_in(outcome);
+    let lapsed = accounts::lapsed_in(outcome);
     ClosingRecord {
         next: first,
         option: account.option,

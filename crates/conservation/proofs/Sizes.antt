@@ -8,9 +8,9 @@ use lib.Signed.{mag}
 use mir.Syntax.{w64}
 use mir.Val.{toZ}
 use mir.Facts.{toZ-ofZ, toZ-inj}
-use Rattle.account.specs.declared.Balance.{Balance}
-use Rattle.account.specs.Closing.{balanceOf}
-use Rattle.account.specs.Account.{balanceBits}
+use Rattle.accounts.specs.declared.Balance.{Balance}
+use Rattle.accounts.specs.Closing.{balanceOf}
+use Rattle.accounts.specs.Account.{balanceBits}
 use Rattle.ledger.specs.Ledger.{Statement}
 use Rattle.ledger.specs.Accounting.{conserved}
 use Rattle.chains.proofs.Sums.{size-sum, size-negated}

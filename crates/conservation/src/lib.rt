@@ -8,7 +8,7 @@ ghost use lib.Signed.{mag};
 ghost use mir.Syntax.{w64};
 ghost use mir.Val.{toZ};
 ghost use Rattle.conservation.specs.Conservation.{conservedIn, Small};
-use account::Balance;
+use accounts::Balance;
 use statements::Sums;
 use units::Ticks;
 
@@ -23,7 +23,7 @@ fn less(sum: Balance, part: Ticks) -> Balance
     requires { ⌜ (part .0 < 2 ^ 63) × (mag (toZ w64 (sum .0) -ℤ pos (part .0)) < 2 ^ 63) ⌝ }
     ensures { λ r. ⌜ toZ w64 (r .0) ≡ toZ w64 (sum .0) -ℤ pos (part .0) ⌝ }
 {
-    statements::joined(sum, account::balance_bits(Ticks(0), part))
+    statements::joined(sum, accounts::balance_bits(Ticks(0), part))
 }
 
 // In ticks, signed: it may be negative in a book that was not made by the calls.

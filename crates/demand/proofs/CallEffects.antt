@@ -16,9 +16,9 @@ use Rattle.values.specs.declared.Details.{Details}
 use Rattle.values.specs.declared.YearValues.{YearValues}
 use Rattle.values.specs.YearsValues.{yearValues}
 use Rattle.demand.proofs.Ranges.{values-fit}
-use Rattle.account.specs.declared.Account.{Account}
-use Rattle.account.specs.Account.{accountElected, accountAdvanced, accountClosed}
-use Rattle.account.proofs.Closing.{contribution-capped}
+use Rattle.accounts.specs.declared.Account.{Account}
+use Rattle.accounts.specs.Account.{accountElected, accountAdvanced, accountClosed}
+use Rattle.accounts.proofs.Closing.{contribution-capped}
 use Rattle.layout.specs.Fields.{recordAt, userKind, advanceKind, closingKind}
 use Rattle.book.specs.Book.{used, isUser, isAdvance, isClosing, isEntry, isRun, runMade, nextOf, firstEntryOf, ownerOf, accountAt, kindAt, hasKind, accountFits}
 use Rattle.book.proofs.Faultless.{Faultless, kind-index, kind-of}

@@ -13,9 +13,9 @@ use Rattle.sheet.specs.YearSheet.{sheetYear}
 use Rattle.prices.specs.ValueAndCost.{costOf}
 use Rattle.values.specs.declared.Details.{Details}
 use Rattle.values.specs.YearsValues.{yearValues}
-use Rattle.account.specs.declared.Account.{Account}
-use Rattle.account.specs.Closing.{contributionOf}
-use Rattle.account.specs.Account.{accountElected, accountAdvanced, accountClosed}
+use Rattle.accounts.specs.declared.Account.{Account}
+use Rattle.accounts.specs.Closing.{contributionOf}
+use Rattle.accounts.specs.Account.{accountElected, accountAdvanced, accountClosed}
 use Rattle.layout.specs.Fields.{recordAt, userKind}
 use Rattle.records.specs.declared.AdvanceRecord.{AdvanceRecord}
 use Rattle.records.specs.Records.{accountIn, advanceIn, closingIn}

@@ -8,7 +8,7 @@ use Rattle.layout.specs.Fields.{recordAt}
 use Rattle.records.specs.declared.AdvanceRecord.{AdvanceRecord}
 use Rattle.records.specs.declared.ClosingRecord.{ClosingRecord}
 use Rattle.records.specs.Records.{advanceIn, closingIn}
-use Rattle.account.specs.declared.Account.{Account}
+use Rattle.accounts.specs.declared.Account.{Account}
 use Rattle.book.specs.Book.{used, isUser, isAdvance, isClosing, nextOf, firstEntryOf, accountAt}
 use Rattle.chains.proofs.Links.{Owned}
 use Rattle.bookings.proofs.Good.{Good}

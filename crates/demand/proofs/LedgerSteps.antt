@@ -16,10 +16,10 @@ use Rattle.prices.specs.ValueAndCost.{costOf}
 use Rattle.values.specs.declared.Details.{Details}
 use Rattle.values.specs.declared.YearValues.{YearValues}
 use Rattle.values.specs.YearsValues.{yearValues}
-use Rattle.account.specs.declared.Account.{Account}
-use Rattle.account.specs.Closing.{contributionOf, liquidationOf, lapsedOf, creditAfter, balanceOf}
-use Rattle.account.specs.Account.{balanceBits, accountElected, accountAdvanced, accountClosed}
-use Rattle.account.proofs.Balances.{balance-back}
+use Rattle.accounts.specs.declared.Account.{Account}
+use Rattle.accounts.specs.Closing.{contributionOf, liquidationOf, lapsedOf, creditAfter, balanceOf}
+use Rattle.accounts.specs.Account.{balanceBits, accountElected, accountAdvanced, accountClosed}
+use Rattle.accounts.proofs.Balances.{balance-back}
 use Rattle.book.specs.Book.{accountAt}
 use Rattle.ledger.specs.Ledger.{Item, Advance, Ledger, openYear, yearAfter, sumAdvances, elected, advanceAmount, advanced, itemOf, sheetValue, sheetFlatRate, closed}
 use Rattle.ledger.proofs.Kept.{Kept, no-advance-yet}

@@ -11,7 +11,7 @@ use lib.Dec.{eqb}
 use Rattle.sheet.specs.YearSheet.{sheetUser, sheetYear}
 use Rattle.values.specs.declared.Details.{Details}
 use Rattle.values.specs.YearsValues.{yearValues}
-use Rattle.account.specs.Account.{accountElected, accountAdvanced, accountClosed}
+use Rattle.accounts.specs.Account.{accountElected, accountAdvanced, accountClosed}
 use Rattle.book.specs.Book.{isUser, numberOf, accountAt}
 use Rattle.ledger.specs.Ledger.{Ledger, sheetValue}
 use Rattle.ledger.specs.Ledger as ledger

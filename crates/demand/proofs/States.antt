@@ -11,7 +11,7 @@ use Rattle.layout.specs.Fields.{userKind, get, numberField}
 use Rattle.records.specs.Records.{accountIn}
 use Rattle.records.specs.declared.AdvanceRecord.{AdvanceRecord}
 use Rattle.records.specs.declared.ClosingRecord.{ClosingRecord}
-use Rattle.account.specs.declared.Account.{Account}
+use Rattle.accounts.specs.declared.Account.{Account}
 use Rattle.book.specs.Book.{used, isUser, numberOf, firstEntryOf, accountAt}
 use Rattle.book.proofs.Faultless.{kind-index}
 use Rattle.ledger.specs.Ledger.{Ledger}

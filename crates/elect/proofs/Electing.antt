@@ -9,8 +9,8 @@ use lib.Dec.{eqb}
 use lib.ListN.{length}
 use Rattle.units.specs.declared.RecordIndex.{RecordIndex}
 use Rattle.units.specs.Units.{recordIndex}
-use Rattle.account.specs.declared.Account.{Account}
-use Rattle.account.specs.Account.{accountElected}
+use Rattle.accounts.specs.declared.Account.{Account}
+use Rattle.accounts.specs.Account.{accountElected}
 use Rattle.layout.specs.Fields.{recordLength}
 use Rattle.book.specs.Book.{accountAt}
 use Rattle.soundness.specs.Verdicts.{Accepted}

@@ -9,7 +9,7 @@ use lib.ListN.{length}
 use Rattle.units.specs.declared.RecordIndex.{RecordIndex}
 use Rattle.units.specs.Units.{recordIndex}
 use Rattle.values.specs.declared.Details.{Details}
-use Rattle.account.specs.declared.Account.{Account}
+use Rattle.accounts.specs.declared.Account.{Account}
 use Rattle.layout.specs.Fields.{recordLength}
 use Rattle.book.specs.Book.{used, detailsFit}
 use Rattle.soundness.specs.Verdicts.{Accepted}

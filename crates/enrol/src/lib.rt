@@ -5,7 +5,7 @@ ghost use Rattle.calls.specs.Bookings.{newAccount};
 ghost use Rattle.calls.specs.Calls.{enrol};
 ghost use Rattle.soundness.specs.Verdicts.{Accepted};
 ghost use Rattle.answers.specs.Answers.{Answered};
-use account::Account;
+use accounts::Account;
 use answers::Booked;
 use soundness::Checked;
 use units::Kwh;

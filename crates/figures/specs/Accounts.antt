@@ -2,7 +2,7 @@
 use Prim.Native.Nat.{ℕ}
 use Rattle.units.specs.Units.{kwh, ticks, userNumber}
 use Rattle.values.specs.declared.YearValues.{YearValues}
-use Rattle.account.specs.declared.Account.{Account}
+use Rattle.accounts.specs.declared.Account.{Account}
 
 -- an account on credit, before its first closing
 abbrev pub opened : Account

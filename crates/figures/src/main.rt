@@ -1,6 +1,6 @@
 // The ten figures of document 01, "Figures to prove, one table", as the proved functions work them: a figure a line, its
 // number and then its values.
-use account::Account;
+use accounts::Account;
 use libc::STDOUT_FILENO;
 use units::Kwh;
 use units::Rate;
@@ -114,8 +114,8 @@ fn closings() {
     show(first.settlement.contribution.0);
     show(second.settlement.contribution.0);
     show(third.settlement.contribution.0);
-    show(account::liquidation_in(outcome).0);
-    show(account::lapsed_in(outcome).0);
+    show(accounts::liquidation_in(outcome).0);
+    show(accounts::lapsed_in(outcome).0);
     show(third.account.credit.0);
     end();
 }

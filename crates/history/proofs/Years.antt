@@ -12,10 +12,10 @@ use Rattle.units.specs.declared.RecordIndex.{RecordIndex}
 use Rattle.units.specs.declared.Ticks.{Ticks}
 use Rattle.units.specs.Units.{recordIndex, ticks}
 use Rattle.units.specs.Limits.{maxYearTicks, lastOpenYear}
-use Rattle.account.specs.declared.Outcome.{Outcome}
-use Rattle.account.specs.Closing.{creditAfter}
-use Rattle.account.specs.Account.{outcomeOf, creditIn}
-use Rattle.account.proofs.Outcomes.{outcome-credit}
+use Rattle.accounts.specs.declared.Outcome.{Outcome}
+use Rattle.accounts.specs.Closing.{creditAfter}
+use Rattle.accounts.specs.Account.{outcomeOf, creditIn}
+use Rattle.accounts.proofs.Outcomes.{outcome-credit}
 use Rattle.layout.specs.Fields.{recordAt}
 use Rattle.records.specs.declared.ClosingRecord.{ClosingRecord}
 use Rattle.records.specs.Records.{accountIn, closingIn}

@@ -11,7 +11,7 @@ ghost use Rattle.records.specs.Records.{closingIn};
 ghost use Rattle.book.specs.Book.{lengthFits, sound, isUser, isClosing};
 ghost use Rattle.chains.specs.Statements.{advancePart};
 ghost use Rattle.history.specs.History.{isClosingOf, closingOf, closingAfter, advancesOf, creditOver, creditAfterYears, yearOf, mostYears};
-use account::Balance;
+use accounts::Balance;
 use units::RecordIndex;
 use units::Ticks;
 
@@ -100,8 +100,8 @@ fn credit_over(book: &[u8], entry: RecordIndex, credit: Ticks) -> Ticks
     ensures { λ r. ⌜ (r .0 ≡ creditOver (closingIn (recordAt (now (book .entry)) (entry .0))) (credit .0)) × (r .0 ≤ credit .0 + maxYearTicks) ⌝ }
 {
     let closing = records::read_closing(layout::record(book, entry));
-    let outcome = account::outcome_of(closing.option, credit, closing.value, closing.cost);
-    account::credit_after(outcome)
+    let outcome = accounts::outcome_of(closing.option, credit, closing.value, closing.cost);
+    accounts::credit_after(outcome)
 }
 
 // The same, where a year without a closing leaves the credit.

@@ -11,8 +11,8 @@ use lib.IntN.{pos, _+ℤ_, _-ℤ_, +ℤ-comm, +ℤ-negℤ-cancel}
 use Rattle.values.specs.declared.Details.{Details}
 use Rattle.prices.specs.ValueAndCost.{costOf}
 use Rattle.sheet.specs.YearSheet.{sheetYear}
-use Rattle.account.specs.Closing.{liquidates, contributionOf, lapsedOf, creditAfter, balanceOf}
-use Rattle.account.proofs.Closing.{one-year}
+use Rattle.accounts.specs.Closing.{liquidates, contributionOf, lapsedOf, creditAfter, balanceOf}
+use Rattle.accounts.proofs.Closing.{one-year}
 use Rattle.ledger.specs.Ledger.{Item, Ledger, yearAfter, openYear, sumItems, sumBalances, sumAdvances, enrolled, elected, advanceAmount, advanced, itemOf, sheetValue, sheetFlatRate, closed, statementOf}
 use Rattle.ledger.specs.Accounting.{Standing, lapsedOver, conserved, Consecutive}
 use Rattle.ledger.proofs.Standing.{figure, standing-exists, standing-unique, lapsed-same}

@@ -8,7 +8,7 @@ use mathlib.Core.Logic.{_⊎_}
 use lib.ListN.{length, take}
 use lib.IntN.{ℤ, pos, _+ℤ_, _-ℤ_}
 use Rattle.values.specs.declared.Details.{Details}
-use Rattle.account.specs.Closing.{liquidates}
+use Rattle.accounts.specs.Closing.{liquidates}
 use Rattle.sheet.specs.YearSheet.{sheetYear}
 use Rattle.ledger.specs.Ledger.{Item, Ledger, Statement, yearAfter, openYear, sumItems, elected, advanced, closed, sheetValue, statementOf}
 

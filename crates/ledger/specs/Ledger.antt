@@ -10,7 +10,7 @@ use Rattle.prices.specs.ValueAndCost.{valueOf, costOf}
 use Rattle.values.specs.YearsValues.{flatRateOver, halfOf, onIsland, isPhotovoltaic}
 use Rattle.sheet.specs.YearSheet.{sheetYear}
 use Rattle.calendar.specs.ElectionAndAdvances.{halvesPaid, amountOf}
-use Rattle.account.specs.Closing.{contributionOf, liquidationOf, lapsedOf, creditAfter, balanceOf}
+use Rattle.accounts.specs.Closing.{contributionOf, liquidationOf, lapsedOf, creditAfter, balanceOf}
 
 -- "posts one item: year, option, C, O, F and the sums of "Closing""
 pub record Item : Type 0 where

@@ -2,9 +2,9 @@
 use mathlib.Core.Path.{_≡_}
 use mathlib.Core.List.{[], _∷_}
 use Rattle.values.specs.declared.YearValues.{YearValues}
-use Rattle.account.specs.declared.Account.{Account}
-use Rattle.account.specs.Closing.{creditAfter}
-use Rattle.account.specs.Account.{accountClosed}
+use Rattle.accounts.specs.declared.Account.{Account}
+use Rattle.accounts.specs.Closing.{creditAfter}
+use Rattle.accounts.specs.Account.{accountClosed}
 use Rattle.listing_text.specs.Listing.{blank, lineFeed, decimalOf}
 use Rattle.listing_text.specs.Written.{field, accountLine}
 

@@ -4,7 +4,7 @@ use mathlib.Core.Path.{_≡_, refl, sym, ap, _∙_}
 use mathlib.Core.List.{List, [], _∷_, _++_, append-assoc}
 use native.Mathlib.Omega.{arith}
 use lib.ListN.{length, set, length-append}
-use Rattle.account.specs.declared.Account.{Account}
+use Rattle.accounts.specs.declared.Account.{Account}
 use Rattle.codec.specs.Bytes.{stored}
 use Rattle.book.specs.Book.{accountAt}
 use Rattle.listing_text.specs.Listing.{decimal, blank, lineFeed, line}

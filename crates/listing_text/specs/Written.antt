@@ -3,7 +3,7 @@ use Prim.Native.Nat.{ℕ, _+_, _*_, _≤_, _<_}
 use mathlib.Core.Path.{_≡_}
 use mathlib.Core.List.{List, [], _∷_, _++_}
 use lib.ListN.{length}
-use Rattle.account.specs.declared.Account.{Account}
+use Rattle.accounts.specs.declared.Account.{Account}
 use Rattle.codec.specs.Bytes.{stored}
 use Rattle.listing_text.specs.declared.Listed.{Listed}
 use Rattle.listing_text.specs.declared.Listed.the-variants as listed

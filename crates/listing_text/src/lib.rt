@@ -8,7 +8,7 @@ ghost use Rattle.book.specs.Book.{lengthFits, sound};
 ghost use Rattle.chains.specs.Chains.{usersOf};
 ghost use Rattle.listing_text.specs.Listing.{mostDigits, decimal, lines, refused, listing};
 ghost use Rattle.listing_text.specs.Written.{longestField, longestLine, longestRefusal, longestText, field, accountLine, ListingAnswered};
-use account::Account;
+use accounts::Account;
 use soundness::Checked;
 
 // The longest listing: of each user three numbers of at most twenty digits, each with a byte after it.

@@ -1,8 +1,8 @@
 // The records of the book by value: read from a record's bytes, and written as a whole image (document 01, "Book").
 ghost use mathlib.Core.Path.{_≡_};
 ghost use Rattle.records.specs.Records.{headImage, userImage, advanceImage, closingImage, accountIn, userIn, advanceIn, closingIn};
-use account::Account;
-use account::Balance;
+use accounts::Account;
+use accounts::Balance;
 use layout::kind;
 use layout::place;
 use layout::put_u8;

@@ -9,7 +9,7 @@ use lib.Dec.{eqb, leb}
 use Rattle.units.specs.Limits.{lastActivation}
 use Rattle.units.proofs.Bools.{and-left, and-right}
 use Rattle.calendar.specs.ElectionAndAdvances.{due}
-use Rattle.account.specs.declared.Account.{Account}
+use Rattle.accounts.specs.declared.Account.{Account}
 use Rattle.book.specs.Book.{halvesOf, runMade, isRun}
 use Rattle.calls.specs.Refusals.{runOpen}
 

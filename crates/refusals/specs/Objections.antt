@@ -6,7 +6,7 @@ use mathlib.Core.List.{List}
 use lib.Dec.{eqb}
 use Rattle.sheet.specs.YearSheet.{sheetYear, refused11, refused13, refused14}
 use Rattle.values.specs.declared.Details.{Details}
-use Rattle.account.specs.declared.Account.{Account}
+use Rattle.accounts.specs.declared.Account.{Account}
 use Rattle.book.specs.Book.{detailsFit}
 use Rattle.calls.specs.Refusals.{refuse, dayAndOption, electionOpen, runOpen, orderFits, yearOpen}
 

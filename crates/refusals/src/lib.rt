@@ -2,7 +2,7 @@
 ghost use mathlib.Core.Path.{_≡_};
 ghost use Rattle.calls.specs.Refusals.{refuse, hasRoom, dayAndOption, electionOpen, runOpen, orderFits, yearOpen};
 ghost use Rattle.refusals.specs.Objections.{enrolObjection, electObjection, advanceObjection, closeObjection};
-use account::Account;
+use accounts::Account;
 use units::Rate;
 use units::RecordIndex;
 use units::UserNumber;

@@ -1,6 +1,6 @@
 // Replays a script of calls on a book: one call a line on standard input, one answer a line on standard output, numbers in
 // decimal with one blank between. A line that is no call is answered `error` and changes nothing.
-use account::Balance;
+use accounts::Balance;
 use advance::Advanced;
 use answers::Booked;
 use close::Closed;
@@ -33,7 +33,7 @@ fn show_next(n: u64) {
 }
 
 fn show_balance(balance: Balance) {
-    if account::signed(balance) < 0 {
+    if accounts::signed(balance) < 0 {
         io::write_all(STDOUT_FILENO, b" -");
         show(std::num::wrapping_sub_u64(0, balance.0));
     } else {

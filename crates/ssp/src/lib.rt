@@ -61,7 +61,7 @@ fn flat_closed(closed: close::Closed) -> Closed
     ensures { λ r. ⌜ r ≡ flatClosed (closed .refusal) (closed .record .0) (closed .sums) ⌝ }
 {
     let year = closed.sums;
-    let balance = account::signed(year.balance);
+    let balance = accounts::signed(year.balance);
     Closed {
         refusal: closed.refusal,
         record: closed.record.0,
@@ -79,7 +79,7 @@ fn flat_sums(stated: statement::Stated) -> Sums
     ensures { λ r. ⌜ r ≡ flatSums (stated .refusal) (stated .record .0) (stated .sums) ⌝ }
 {
     let sums = stated.sums;
-    let balance = account::signed(sums.balance);
+    let balance = accounts::signed(sums.balance);
     Sums {
         refusal: stated.refusal,
         record: stated.record.0,

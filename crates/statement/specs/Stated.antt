@@ -5,7 +5,7 @@ use mathlib.Core.List.{List}
 use lib.Dec.{eqb}
 use lib.IntN.{pos}
 use Rattle.units.specs.Units.{ticks}
-use Rattle.account.specs.Account.{balanceBits}
+use Rattle.accounts.specs.Account.{balanceBits}
 use Rattle.chains.specs.Statements.{statementAt}
 use Rattle.calls.specs.Bookings.{findUser}
 use Rattle.statements.specs.declared.Sums.{Sums}

@@ -4,7 +4,7 @@ ghost use Rattle.calls.specs.Calls.{statement};
 ghost use Rattle.soundness.specs.Verdicts.{Accepted};
 ghost use Rattle.answers.specs.Answers.{Answered};
 ghost use Rattle.statement.specs.Stated.{noSums, sumsStated};
-use account::Balance;
+use accounts::Balance;
 use soundness::Checked;
 use statements::Sums;
 use units::RecordIndex;

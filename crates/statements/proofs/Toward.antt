@@ -13,7 +13,7 @@ use mir.Val.{ofZ, toZ}
 use mir.Facts.{ofZ-toZ, fits-ofZ}
 use Rattle.units.specs.Units.{ticks}
 use Rattle.units.specs.Limits.{maxContribution}
-use Rattle.account.proofs.Balances.{signed-back}
+use Rattle.accounts.proofs.Balances.{signed-back}
 use Rattle.layout.specs.Fields.{recordAt}
 use Rattle.records.specs.declared.AdvanceRecord.{AdvanceRecord}
 use Rattle.records.specs.declared.ClosingRecord.{ClosingRecord}

@@ -9,8 +9,8 @@ use lib.Signed.{mag}
 use mir.Syntax.{w64}
 use mir.Val.{toZ}
 use Rattle.units.specs.Units.{ticks}
-use Rattle.account.specs.declared.Account.{Account}
-use Rattle.account.specs.Account.{balanceBits}
+use Rattle.accounts.specs.declared.Account.{Account}
+use Rattle.accounts.specs.Account.{balanceBits}
 use Rattle.layout.specs.Fields.{recordAt}
 use Rattle.records.specs.declared.AdvanceRecord.{AdvanceRecord}
 use Rattle.records.specs.declared.ClosingRecord.{ClosingRecord}

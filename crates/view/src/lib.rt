@@ -4,7 +4,7 @@ ghost use mathlib.Core.Path.{_≡_};
 ghost use Rattle.units.specs.Units.{userNumber, recordIndex};
 ghost use Rattle.book.specs.Book.{firstUser, usedFits, kindAt, hasKind, isUser, isAdvance, isClosing, isEntry, ownerOf, accountAt, nextOf, firstEntryOf, numberOf, rankOf, activationOf, openYearOf};
 ghost use Rattle.book.specs.Book.{used as usedIn};
-use account::Account;
+use accounts::Account;
 use layout::RECORD_LENGTH;
 use layout::record;
 use units::RecordIndex;

@@ -4,7 +4,7 @@ use mathlib.Core.Path.{_≡_}
 use mathlib.Core.List.{List}
 use Rattle.units.specs.declared.RecordIndex.{RecordIndex}
 use Rattle.units.specs.Units.{recordIndex}
-use Rattle.account.specs.declared.Account.{Account}
+use Rattle.accounts.specs.declared.Account.{Account}
 use Rattle.layout.specs.Fields.{putRecord}
 use Rattle.records.specs.Records.{headImage, userImage}
 use Rattle.book.specs.Book.{used, firstUser, nextOf}

@@ -5,7 +5,7 @@ ghost use lib.ListN.{length};
 ghost use Rattle.layout.specs.Fields.{recordLength};
 ghost use Rattle.book.specs.Book.{used};
 ghost use Rattle.calls.specs.Bookings.{enrolledAs, withAccount, withEntry};
-use account::Account;
+use accounts::Account;
 use records::UserRecord;
 use units::RecordIndex;
 

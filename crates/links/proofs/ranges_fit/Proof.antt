@@ -8,7 +8,7 @@ use Rattle.units.specs.Units.{recordIndex}
 use denote.Ref.{now}
 use Rattle.book.specs.Book.{kindAt, ownerOf, accountAt, accountFits, advanceFits, closingFits, rangesFit}
 use Rattle.layout.specs.Fields.{userKind, advanceKind, closingKind, recordAt}
-use Rattle.account.specs.declared.Account.{Account}
+use Rattle.accounts.specs.declared.Account.{Account}
 use Rattle.records.specs.declared.AdvanceRecord.{AdvanceRecord}
 use Rattle.records.specs.declared.ClosingRecord.{ClosingRecord}
 use Rattle.records.specs.Records.{advanceIn, closingIn}

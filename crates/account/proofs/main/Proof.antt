@@ -1,0 +1,88 @@
+-- The bytes read stand within the buffer.
+use mathlib.Core.Path.{sym}
+use lib.Seq.{length-take-le}
+use borrow.Author.Needs.{needs}
+use Rattle.account.proofs.main.Statement.{statement}
+use Rattle.account.proofs.main.Tie as tie
+
+request-requires : tie.Need-request-requires
+request-requires c κs = search needs
+
+enum-known-number : tie.Need-enum-known-number
+enum-known-number c = search needs
+
+enum-told : tie.Need-enum-told
+enum-told c = search needs
+
+slice-aggregate-write-all : tie.Need-slice-aggregate-write-all
+slice-aggregate-write-all c = search needs
+
+write-all-requires : tie.Need-write-all-requires
+write-all-requires c κs = search needs
+
+returns : tie.Need-returns
+returns c = search needs
+
+buffer-requires : tie.Need-buffer-requires
+buffer-requires c κs = search needs
+
+slice-aggregate-read-book : tie.Need-slice-aggregate-read-book
+slice-aggregate-read-book c = search needs
+
+read-book-requires : tie.Need-read-book-requires
+read-book-requires c κs = search needs
+
+enum-known-count : tie.Need-enum-known-count
+enum-known-count c = search needs
+
+enum-told-2 : tie.Need-enum-told-2
+enum-told-2 c = search needs
+
+slice-aggregate-fail : tie.Need-slice-aggregate-fail
+slice-aggregate-fail c = search needs
+
+fail-requires : tie.Need-fail-requires
+fail-requires c κs = search needs
+
+returns-2 : tie.Need-returns-2
+returns-2 c = search needs
+
+array-share-prefix-book : tie.Need-array-share-prefix-book
+array-share-prefix-book c =
+    let within = rw (c .before .count .given .1) at (c .before .before .before .before .read-book .ensures) in
+    within
+
+slice-aggregate-answer : tie.Need-slice-aggregate-answer
+slice-aggregate-answer c =
+    let r = c .before .before .before .before .before .read-book in
+    let within = rw (c .before .before .count .given .1) at (r .ensures) in
+    sym (length-take-le (c .before .before .count .given .0 .0) (r .last .0) within)
+
+answer-requires : tie.Need-answer-requires
+answer-requires c κs = search needs
+
+returns-3 : tie.Need-returns-3
+returns-3 c = search needs
+
+pub main-spec : {M : Type 1} → statement M
+main-spec =
+    tie.close
+    (tie.spec
+    request-requires
+    enum-known-number
+    enum-told
+    slice-aggregate-write-all
+    write-all-requires
+    returns
+    buffer-requires
+    slice-aggregate-read-book
+    read-book-requires
+    enum-known-count
+    enum-told-2
+    slice-aggregate-fail
+    fail-requires
+    returns-2
+    array-share-prefix-book
+    slice-aggregate-answer
+    answer-requires
+    returns-3)

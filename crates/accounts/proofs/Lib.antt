@@ -1,0 +1,4 @@
+pub mod Closing
+pub mod Outcomes
+pub mod Balances
+pub mod Settlements
