@@ -4,3 +4,4 @@ pub mod Fields
 pub mod HexTexts
 pub mod HexWriting
 pub mod Lines
+pub mod MoreRead

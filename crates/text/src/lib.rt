@@ -241,12 +241,36 @@ fn keep_rest(held: &mut [u8], from: usize, to: usize) -> usize
     count
 }
 
-// Reads on after what is kept at the front, to the end of the buffer or of the input, and answers how much it holds then.
+// One read after what is kept at the front; the answer is how much is held then: no more than before at the end of the
+// input.
+fn read_once(fd: i32, held: &mut [u8], kept: usize) -> usize
+    requires { ⌜ kept ≤ length (now held) ⌝ }
+    ensures { λ r. ⌜ ReadOn (now (held .entry)) kept r (now (held .exit)) ⌝ }
+{
+    let rest = &mut held[kept..];
+    let got = libc::read(fd, rest);
+    kept + io::count(got, rest)
+}
+
+// Reads on after what is kept at the front until a line ends in what was read, to the end of the buffer or of the input, and
+// answers how much it holds then. So whoever types a line gets its answer before typing the next. A proved loop has to end:
+// the reads are counted to a number that no input needs.
 fn read_on(fd: i32, held: &mut [u8], kept: usize) -> usize
     requires { ⌜ kept ≤ length (now held) ⌝ }
     ensures { λ r. ⌜ ReadOn (now (held .entry)) kept r (now (held .exit)) ⌝ }
 {
-    kept + io::read_full(fd, &mut held[kept..])
+    let mut filled = kept;
+    for turn in 0..u64::MAX {
+        let more = read_once(fd, held, filled);
+        if line_end(&held[..more], filled) < more {
+            return more;
+        }
+        if more == filled {
+            return more;
+        }
+        filled = more;
+    }
+    filled
 }
 
 // Before the first line: nothing is held.
