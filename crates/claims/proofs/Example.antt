@@ -11,20 +11,19 @@ use lib.ListN.{replicate}
 use Rattle.units.proofs.Bools.{and-left, and-right}
 use Rattle.units.specs.Folds.{sumBelow, allBelow, anyBelow}
 use Rattle.codec.specs.Bytes.{littleEndian, bytesOf, part, number, stored}
-use Rattle.tariff.specs.Table1.{table1, rowsOfKind, reaches, firstReaching, tableEuroPerMwh}
-use Rattle.tariff.specs.Tariff.{domestic, monthlyMethod, between, above, tiers, tierSum, annualTiers, monthlyTiers, meanRate, limit, tierRate, flatRateOf}
-use Rattle.calendar.specs.ElectionAndAdvances.{leap, daysIn, isDay, notAfter, inWindow, halvesPaid, due, halvesCount, paidOf, amountOf}
+use Rattle.tariff.specs.Tariff.{domestic, monthlyMethod, between, above, tiers, annualTiers, meanRate, tierRate, flatRateOf}
+use Rattle.calendar.specs.ElectionAndAdvances.{daysIn, isDay, notAfter, inWindow}
 use Rattle.sheet.specs.YearSheet.{withdrawnReading, injectedReading, word, headerFits, lastWordsFit, refused11, limitAt, aboveLimit, unusedBand, strayBand, atFault, refused13, monthWithdrawn, refused14}
-use Rattle.prices.specs.ValueAndCost.{costIn, costOf, bandPrice, singlePrice, valueIn, valueOf}
-use Rattle.values.specs.YearsValues.{monthInjected, withdrawnOver, injectedOver, exchangedOver, monthExchanged, someMonthAbove, monthRate, annualRate, monthFlatRate, annualFlatRate, flatRateOver, halfOf, yearValues}
-use Rattle.accounts.specs.Account.{outcomeOf, liquidationIn, lapsedIn, creditIn, settlementOf, accountElected, accountAdvanced, accountClosed, closedOf}
+use Rattle.prices.specs.ValueAndCost.{costIn, costOf, singlePrice, valueIn, valueOf}
+use Rattle.values.specs.YearsValues.{monthInjected, withdrawnOver, injectedOver, exchangedOver, monthExchanged, annualRate, annualFlatRate, flatRateOver, halfOf, yearValues}
+use Rattle.accounts.specs.Account.{accountElected, accountClosed}
 use Rattle.accounts.specs.Closing.{contributionOf, liquidationOf, lapsedOf, creditAfter, balanceOf}
 use Rattle.layout.specs.Fields.{get, zeros, recordAt, putRecord, written}
-use Rattle.records.specs.Records.{headImage, userImage, advanceImage, closingImage, accountIn, userIn, advanceIn, closingIn}
-use Rattle.book.specs.Book.{lengthFits, freshBook, used, firstUser, usedFits, kindAt, hasKind, isEntry, detailsFit, openYearFits, halvesOf, runMade, dueIfMade, runsFit, halvesMade, advancesFit, creditFits, halvesFit, accountFits, yearFits, isRun, advanceFits, balanceFits, closingFits, ownerOf, rangesFit, zeroBytesFit, nextOf, firstEntryOf, numberOf, userNextFits, numberIsNew, firstEntryFits, entryNextFits, ownerFits, hits, pointersFrom, pointersTo, pointedOnce, rankOf, inOrder, activationOf, openYearOf, firstInOrder, nextInOrder, linksFit, goodRecord, goodHead, faulty, sound}
-use Rattle.calls.specs.Bookings.{findBelow, findUser, newAccount, enrolledAs, enrolled, withAccount, withEntry, elected, runAmount, advanceEntry, advanced, closingEntry, closed, valuesOf}
-use Rattle.calls.specs.Calls.{Call, enrol, elect, close, refusalOf, paidBy, booked, bookAfter}
-use Rattle.calls.specs.Refusals.{hasRoom, numberFree, present, dayAndOption, electionOpen, runOpen, orderFits, yearOpen, enrolRefusal, electRefusal, advanceRefusal, closeRefusal, statementRefusal}
+use Rattle.records.specs.Records.{headImage, userImage, closingImage, accountIn, closingIn}
+use Rattle.book.specs.Book.{lengthFits, freshBook, used, firstUser, usedFits, kindAt, hasKind, isEntry, detailsFit, openYearFits, runMade, dueIfMade, runsFit, halvesMade, advancesFit, creditFits, halvesFit, accountFits, yearFits, balanceFits, closingFits, ownerOf, rangesFit, zeroBytesFit, nextOf, firstEntryOf, numberOf, userNextFits, numberIsNew, firstEntryFits, entryNextFits, ownerFits, hits, pointersFrom, pointersTo, pointedOnce, rankOf, inOrder, activationOf, openYearOf, firstInOrder, nextInOrder, linksFit, goodRecord, goodHead, faulty, sound}
+use Rattle.calls.specs.Bookings.{findBelow, findUser, newAccount, enrolledAs, enrolled, withAccount, withEntry, elected, closingEntry, closed, valuesOf}
+use Rattle.calls.specs.Calls.{Call, enrol, elect, close, refusalOf, booked, bookAfter}
+use Rattle.calls.specs.Refusals.{hasRoom, numberFree, present, dayAndOption, electionOpen, yearOpen, enrolRefusal, electRefusal, closeRefusal}
 use Rattle.values.specs.declared.Details.{Details}
 use Rattle.soundness.specs.Verdicts.{freshAnswer, freshAfter}
 use Rattle.layout.proofs.ByteRanges.{Bytes}
@@ -61,7 +60,7 @@ unfoldable pub others : List Made
 others = made (close (sheetOf 2013)) 0 ∷ made (elect 7 1 2014 6 30) 0 ∷ made (close (sheetOf 2014)) 0 ∷ made (enrol 7 details 0) 4 ∷ []
 
 answered : madeOf (freshBook 480) calls ≡ made (enrol 7 details 0) 0 ∷ others
-unfolding madeOf calls others sumBelow allBelow anyBelow littleEndian bytesOf part number stored table1 rowsOfKind reaches firstReaching tableEuroPerMwh domestic monthlyMethod between above tiers tierSum annualTiers monthlyTiers meanRate limit tierRate flatRateOf leap daysIn isDay notAfter inWindow halvesPaid due halvesCount paidOf amountOf withdrawnReading injectedReading word headerFits lastWordsFit refused11 limitAt aboveLimit unusedBand strayBand atFault refused13 monthWithdrawn refused14 costIn costOf bandPrice singlePrice valueIn valueOf monthInjected withdrawnOver injectedOver exchangedOver monthExchanged someMonthAbove monthRate annualRate monthFlatRate annualFlatRate flatRateOver halfOf yearValues outcomeOf liquidationIn lapsedIn creditIn settlementOf accountElected accountAdvanced accountClosed closedOf contributionOf liquidationOf lapsedOf creditAfter balanceOf get zeros recordAt putRecord written headImage userImage advanceImage closingImage accountIn userIn advanceIn closingIn lengthFits freshBook used firstUser usedFits kindAt hasKind isEntry detailsFit openYearFits halvesOf runMade dueIfMade runsFit halvesMade advancesFit creditFits halvesFit accountFits yearFits isRun advanceFits balanceFits closingFits ownerOf rangesFit zeroBytesFit nextOf firstEntryOf numberOf userNextFits numberIsNew firstEntryFits entryNextFits ownerFits hits pointersFrom pointersTo pointedOnce rankOf inOrder activationOf openYearOf firstInOrder nextInOrder linksFit goodRecord goodHead faulty sound findBelow findUser newAccount enrolledAs enrolled withAccount withEntry elected runAmount advanceEntry advanced closingEntry closed valuesOf refusalOf paidBy booked bookAfter hasRoom numberFree present dayAndOption electionOpen runOpen orderFits yearOpen enrolRefusal electRefusal advanceRefusal closeRefusal statementRefusal words month months sheetOf
+unfolding madeOf calls others sumBelow allBelow anyBelow littleEndian bytesOf part number stored domestic monthlyMethod between above tiers annualTiers meanRate tierRate flatRateOf daysIn isDay notAfter inWindow withdrawnReading injectedReading word headerFits lastWordsFit refused11 limitAt aboveLimit unusedBand strayBand atFault refused13 monthWithdrawn refused14 costIn costOf singlePrice valueIn valueOf monthInjected withdrawnOver injectedOver exchangedOver monthExchanged annualRate annualFlatRate flatRateOver halfOf yearValues accountElected accountClosed contributionOf liquidationOf lapsedOf creditAfter balanceOf get zeros recordAt putRecord written headImage userImage closingImage accountIn closingIn lengthFits freshBook used firstUser usedFits kindAt hasKind isEntry detailsFit openYearFits runMade dueIfMade runsFit halvesMade advancesFit creditFits halvesFit accountFits yearFits balanceFits closingFits ownerOf rangesFit zeroBytesFit nextOf firstEntryOf numberOf userNextFits numberIsNew firstEntryFits entryNextFits ownerFits hits pointersFrom pointersTo pointedOnce rankOf inOrder activationOf openYearOf firstInOrder nextInOrder linksFit goodRecord goodHead faulty sound findBelow findUser newAccount enrolledAs enrolled withAccount withEntry elected closingEntry closed valuesOf refusalOf booked bookAfter hasRoom numberFree present dayAndOption electionOpen yearOpen enrolRefusal electRefusal closeRefusal words month months sheetOf
 answered = refl
 
 -- every byte of the sheets is one
