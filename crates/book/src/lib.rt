@@ -1,9 +1,12 @@
 // The rules of document 01, "Book", on a record by itself, and the length of a book.
 ghost use mathlib.Core.Path.{_≡_};
+ghost use mathlib.Core.Bool.{_&&_};
 ghost use Prim.Native.Nat.{_-_, _*_, _≤_, _<_};
 ghost use lib.Dec.{leb};
 ghost use Rattle.units.specs.Limits.{maxYearTicks};
-ghost use Rattle.book.specs.Book.{lengthFits, detailsFit, openYearFits, halvesOf, runMade, dueIfMade, runsFit, halvesMade, advancesFit, creditFits, halvesFit, accountFits, yearFits, isRun, advanceFits, balanceFits, closingFits};
+ghost use Rattle.book.specs.Book.{lengthFits, detailsFit, openYearFits, halvesOf, runMade, dueIfMade, runsFit, halvesMade, advancesFit, creditFits, halvesFit, accountFits, isRun, advanceFits, balanceFits, closingFits, within};
+ghost use Rattle.layout.specs.Fields.{zeros};
+ghost use Rattle.records.specs.Records.{accountIn, advanceIn, closingIn};
 use accounts::Account;
 use accounts::Balance;
 use calendar::Halves;
@@ -118,6 +121,17 @@ fn advances_fit(a: Account) -> bool
     a.advances.0 <= MAX_HALF * halves
 }
 
+// Where no run is made nothing is paid.
+fn paid_fits(a: Account) -> bool
+    ensures { λ r. ⌜ r ≡ (runsFit a && advancesFit a) ⌝ }
+{
+    if a.runs == 0 {
+        a.advances.0 == 0
+    } else {
+        runs_fit(a) & advances_fit(a)
+    }
+}
+
 fn years_between(from: u16, to: u16) -> u64
     ensures { λ r. ⌜ r ≡ to - from ⌝ }
 {
@@ -149,17 +163,23 @@ fn halves_fit(a: Account) -> bool
     (a.half1.0 <= MAX_HALF_KWH) & (a.half2.0 <= MAX_HALF_KWH)
 }
 
+// What is paid is looked at last, where all else fits.
 pub fn account_fits(a: Account) -> bool
     ensures { λ r. ⌜ r ≡ accountFits a ⌝ }
 {
     let details = !(a.number.0 == 0) & (details_fit(a.details, a.option) & open_year_fits(a));
-    details & ((runs_fit(a) & advances_fit(a)) & (credit_fits(a) & halves_fit(a)))
+    if details & (credit_fits(a) & halves_fit(a)) {
+        paid_fits(a)
+    } else {
+        false
+    }
 }
 
-fn year_fits(owner: Account, year: u16) -> bool
-    ensures { λ r. ⌜ r ≡ yearFits owner year ⌝ }
+// An owner is known by its activation year and its open year.
+fn year_fits(activation: u16, open_year: u16, year: u16) -> bool
+    ensures { λ r. ⌜ r ≡ within activation open_year year ⌝ }
 {
-    (owner.details.year <= year) & (year <= owner.open_year)
+    (activation <= year) & (year <= open_year)
 }
 
 pub fn is_run(run: u8) -> bool
@@ -168,10 +188,10 @@ pub fn is_run(run: u8) -> bool
     (run == JUNE) | (run == OCTOBER) | (run == JANUARY)
 }
 
-pub fn advance_fits(owner: Account, a: AdvanceRecord) -> bool
-    ensures { λ r. ⌜ r ≡ advanceFits owner a ⌝ }
+fn advance_fits(activation: u16, open_year: u16, a: AdvanceRecord) -> bool
+    ensures { λ r. ⌜ ((owner : Account) → owner .details .year ≡ activation → owner .«open_year» ≡ open_year → r ≡ advanceFits owner a) ⌝ }
 {
-    year_fits(owner, a.year) & (is_run(a.run) & (a.ticks.0 <= MAX_YEAR))
+    year_fits(activation, open_year, a.year) & (is_run(a.run) & (a.ticks.0 <= MAX_YEAR))
 }
 
 fn balance_fits(balance: Balance) -> bool
@@ -180,12 +200,48 @@ fn balance_fits(balance: Balance) -> bool
     (balance.0 <= MAX_CONTRIBUTION) | (LEAST_BALANCE <= balance.0)
 }
 
-pub fn closing_fits(owner: Account, c: ClosingRecord) -> bool
-    ensures { λ r. ⌜ r ≡ closingFits owner c ⌝ }
+fn closing_fits(activation: u16, open_year: u16, c: ClosingRecord) -> bool
+    ensures { λ r. ⌜ ((owner : Account) → owner .details .year ≡ activation → owner .«open_year» ≡ open_year → r ≡ closingFits owner c) ⌝ }
 {
     let energy = (c.value.0 <= MAX_YEAR) & (c.cost.0 <= MAX_YEAR);
     let flat = (c.flat_rate.0 <= MAX_FLAT_RATE) & (c.contribution.0 <= MAX_CONTRIBUTION);
-    let lapse = fits_years(c.lapsed, owner.details.year, c.year);
+    let lapse = fits_years(c.lapsed, activation, c.year);
     let rest = ((c.liquidation.0 <= MAX_YEAR) & lapse) & balance_fits(c.balance);
-    (year_fits(owner, c.year) & (c.option <= 1)) & ((energy & flat) & rest)
+    (year_fits(activation, open_year, c.year) & (c.option <= 1)) & ((energy & flat) & rest)
+}
+
+// A RECORD'S OWN RULES: its ranges and its zero bytes. Those of an entry go by its owner's record too.
+
+pub fn user_record_fits(r: &[u8]) -> bool
+    ensures { λ s. ⌜ s ≡ (accountFits (accountIn (now (r .entry))) && (zeros 27 5 (now (r .entry)) && zeros 56 24 (now (r .entry)))) ⌝ }
+{
+    if layout::zeros(r, 27, 5) & layout::zeros(r, 56, 24) {
+        account_fits(records::read_account(r))
+    } else {
+        false
+    }
+}
+
+pub fn advance_record_fits(r: &[u8], owner: &[u8]) -> bool
+    ensures { λ s. ⌜ s ≡ (advanceFits (accountIn (now (owner .entry))) (advanceIn (now (r .entry))) && (zeros 16 48 (now (r .entry)) && zeros 68 12 (now (r .entry)))) ⌝ }
+{
+    let activation = layout::activation_year_of(owner);
+    let open_year = layout::open_year_of(owner);
+    if layout::zeros(r, 16, 48) & layout::zeros(r, 68, 12) {
+        advance_fits(activation, open_year, records::read_advance(r))
+    } else {
+        false
+    }
+}
+
+pub fn closing_record_fits(r: &[u8], owner: &[u8]) -> bool
+    ensures { λ s. ⌜ s ≡ (closingFits (accountIn (now (owner .entry))) (closingIn (now (r .entry))) && zeros 68 12 (now (r .entry))) ⌝ }
+{
+    let activation = layout::activation_year_of(owner);
+    let open_year = layout::open_year_of(owner);
+    if layout::zeros(r, 68, 12) {
+        closing_fits(activation, open_year, records::read_closing(r))
+    } else {
+        false
+    }
 }

@@ -1,7 +1,7 @@
 // Little-endian numbers in byte strings (document 01, "Units"). A byte past the end of a string reads as 0, so that every
 // string of bytes is an ordinary input.
 ghost use mathlib.Core.Path.{_≡_};
-ghost use Prim.Native.Nat.{_+_, _≤_, _<_, _^_};
+ghost use Prim.Native.Nat.{_+_, _*_, _≤_, _<_, _^_};
 ghost use lib.ListN.{getD, length};
 ghost use Rattle.codec.specs.Bytes.{number, stored, bytesOf};
 
@@ -11,35 +11,67 @@ pub fn byte_at(s: &[u8], at: usize) -> u8
     if at < s.len() { s[at] } else { 0 }
 }
 
-fn wide(b: u8) -> u64
-    ensures { λ r. ⌜ r ≡ b ⌝ }
+// Numbers of two, four and eight bytes.
+fn two(a: u8, b: u8) -> u16
+    ensures { λ r. ⌜ r ≡ a + 256 * b ⌝ }
 {
-    b as u64
+    (a as u16) + (b as u16) * 256
 }
 
+fn four(a: u8, b: u8, c: u8, d: u8) -> u32
+    ensures { λ r. ⌜ r ≡ a + 256 * b + 65536 * c + 16777216 * d ⌝ }
+{
+    let low = (a as u32) + (b as u32) * 256;
+    let high = (c as u32) + (d as u32) * 256;
+    low + high * 65536
+}
+
+fn eight(low: u32, high: u32) -> u64
+    ensures { λ r. ⌜ r ≡ low + 4294967296 * high ⌝ }
+{
+    (low as u64) + (high as u64) * 4294967296
+}
+
+// Bytes that all stand in the string are read at once; else each by itself.
 pub fn read_u16(s: &[u8], at: usize) -> u16
     requires { ⌜ at < 2 ^ 40 ⌝ }
     ensures { λ r. ⌜ r ≡ number 2 at (now (s .entry)) ⌝ }
 {
-    let low = wide(byte_at(s, at));
-    let high = wide(byte_at(s, at + 1));
-    (low + high * 256) as u16
+    if at + 2 <= s.len() {
+        two(s[at], s[at + 1])
+    } else {
+        two(byte_at(s, at), byte_at(s, at + 1))
+    }
 }
 
 pub fn read_u32(s: &[u8], at: usize) -> u32
     requires { ⌜ at < 2 ^ 40 ⌝ }
     ensures { λ r. ⌜ r ≡ number 4 at (now (s .entry)) ⌝ }
 {
-    let low = wide(byte_at(s, at)) + wide(byte_at(s, at + 1)) * 256;
-    let high = wide(byte_at(s, at + 2)) + wide(byte_at(s, at + 3)) * 256;
-    (low + high * 65536) as u32
+    if at + 4 <= s.len() {
+        four(s[at], s[at + 1], s[at + 2], s[at + 3])
+    } else {
+        four(
+            byte_at(s, at),
+            byte_at(s, at + 1),
+            byte_at(s, at + 2),
+            byte_at(s, at + 3),
+        )
+    }
 }
 
 pub fn read_u64(s: &[u8], at: usize) -> u64
     requires { ⌜ at + 4 < 2 ^ 40 ⌝ }
     ensures { λ r. ⌜ r ≡ number 8 at (now (s .entry)) ⌝ }
 {
-    (read_u32(s, at) as u64) + (read_u32(s, at + 4) as u64) * 4294967296
+    if at + 8 <= s.len() {
+        eight(
+            four(s[at], s[at + 1], s[at + 2], s[at + 3]),
+            four(s[at + 4], s[at + 5], s[at + 6], s[at + 7]),
+        )
+    } else {
+        eight(read_u32(s, at), read_u32(s, at + 4))
+    }
 }
 
 // The image with the lowest `width` bytes of a number from `at` on.

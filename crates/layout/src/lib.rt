@@ -38,6 +38,15 @@ pub fn record<'a>(book: &'a [u8], index: RecordIndex) -> &'a [u8]
     &book[from..to]
 }
 
+// The same, of a record that the book has whole.
+pub fn whole_record<'a>(book: &'a [u8], index: usize) -> &'a [u8]
+    requires { ⌜ recordLength * index + recordLength ≤ length (now book) ⌝ }
+    ensures { λ r. ⌜ now r ≡ recordAt (now (book .entry)) index ⌝ }
+{
+    let start = RECORD_LENGTH * index;
+    &book[start..start + RECORD_LENGTH]
+}
+
 // The image goes to its record's place.
 pub fn store(book: &mut [u8], index: RecordIndex, image: [u8; 80])
     requires { ⌜ recordLength * index .0 + recordLength ≤ length (now book) ⌝ }
@@ -78,14 +87,20 @@ pub fn put_u64(image: [u8; 80], at: usize, n: u64) -> [u8; 80]
     codec::write(image, at, 8, n)
 }
 
-// A stretch of a record is zero.
+// A stretch of a record is zero: word by word, and what is left byte by byte.
 pub fn zeros(r: &[u8], from: usize, count: usize) -> bool
     requires { ⌜ (from ≤ recordLength) × (count ≤ recordLength) ⌝ }
     ensures { λ s. ⌜ s ≡ allZero from count (now (r .entry)) ⌝ }
 {
     let mut all = true;
-    for i in 0..count {
+    let mut i = 0;
+    while i + 4 <= count {
+        all = all & (codec::read_u32(r, from + i) == 0);
+        i = i + 4;
+    }
+    while i < count {
         all = all & (codec::byte_at(r, from + i) == 0);
+        i = i + 1;
     }
     all
 }

@@ -10,7 +10,6 @@ use units::UserNumber;
 use view::ADVANCE;
 use view::CLOSING;
 use view::USER;
-use view::account_at;
 use view::activation_of;
 use view::first_entry_of;
 use view::first_user;
@@ -27,31 +26,15 @@ use view::rank_of;
 
 // WHAT DIFFERS BY KIND: ranges and zero bytes
 
-pub fn ranges_fit(book: &[u8], index: RecordIndex) -> bool
-    ensures { λ r. ⌜ r ≡ rangesFit (now (book .entry)) (index .0) ⌝ }
-{
-    match kind_at(book, index) {
-        USER => book::account_fits(account_at(book, index)),
-        ADVANCE => {
-            let owner = account_at(book, owner_of(book, index));
-            book::advance_fits(owner, records::read_advance(record(book, index)))
-        }
-        CLOSING => {
-            let owner = account_at(book, owner_of(book, index));
-            book::closing_fits(owner, records::read_closing(record(book, index)))
-        }
-        _ => false,
-    }
-}
-
-pub fn zero_bytes_fit(book: &[u8], index: RecordIndex) -> bool
-    ensures { λ r. ⌜ r ≡ zeroBytesFit (now (book .entry)) (index .0) ⌝ }
+fn own_rules_fit(book: &[u8], index: RecordIndex) -> bool
+    ensures { λ r. ⌜ r ≡ (rangesFit (now (book .entry)) (index .0) && zeroBytesFit (now (book .entry)) (index .0)) ⌝ }
 {
     let bytes = record(book, index);
-    match kind_at(book, index) {
-        USER => layout::zeros(bytes, 27, 5) & layout::zeros(bytes, 56, 24),
-        ADVANCE => layout::zeros(bytes, 16, 48) & layout::zeros(bytes, 68, 12),
-        CLOSING => layout::zeros(bytes, 68, 12),
+    let owner = record(book, layout::owner_of(bytes));
+    match layout::kind_of(bytes) {
+        USER => book::user_record_fits(bytes),
+        ADVANCE => book::advance_record_fits(bytes, owner),
+        CLOSING => book::closing_record_fits(bytes, owner),
         _ => false,
     }
 }
@@ -166,8 +149,7 @@ pub fn good_record(book: &[u8], index: RecordIndex, pointers: u16) -> bool
     requires { ⌜ pointers ≡ pointersTo (now book) (index .0) ⌝ }
     ensures { λ r. ⌜ r ≡ goodRecord (now (book .entry)) (index .0) ⌝ }
 {
-    let own = ranges_fit(book, index) & zero_bytes_fit(book, index);
-    (own & links_fit(book, index)) & (pointers == 1)
+    (own_rules_fit(book, index) & links_fit(book, index)) & (pointers == 1)
 }
 
 pub fn good_head(book: &[u8]) -> bool

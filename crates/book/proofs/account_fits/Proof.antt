@@ -1,5 +1,10 @@
--- The rule, test by test.
-use Rattle.book.specs.Book.{accountFits}
+-- The rule, test by test; what is paid is looked at last.
+use mathlib.Core.Path.{_≡_}
+use mathlib.Core.Bool.{Bool, true, false, not, _&&_}
+use lib.Dec.{eqb}
+use Rattle.accounts.specs.declared.Account.{Account}
+use Rattle.book.specs.Book.{detailsFit, openYearFits, runsFit, advancesFit, creditFits, halvesFit, accountFits}
+use Rattle.book.proofs.Guards.{tested-between, untested-between}
 use borrow.Author.Needs.{needs}
 use Rattle.book.proofs.account_fits.Statement.{statement}
 use Rattle.book.proofs.account_fits.Tie as tie
@@ -10,21 +15,40 @@ details-fit-requires c κs = search needs
 open-year-fits-requires : tie.Need-open-year-fits-requires
 open-year-fits-requires c κs = search needs
 
-runs-fit-requires : tie.Need-runs-fit-requires
-runs-fit-requires c κs = search needs
-
-advances-fit-requires : tie.Need-advances-fit-requires
-advances-fit-requires c κs = search needs
-
 credit-fits-requires : tie.Need-credit-fits-requires
 credit-fits-requires c κs = search needs
 
 halves-fit-requires : tie.Need-halves-fit-requires
 halves-fit-requires c κs = search needs
 
+paid-fits-requires : tie.Need-paid-fits-requires
+paid-fits-requires c κs = search needs
+
+module _ (a : Account) {details opened credit halves : Bool} (d : details ≡ detailsFit (a .details) (a .option)) (o : opened ≡ openYearFits a)
+    (k : credit ≡ creditFits a) (h : halves ≡ halvesFit a) where
+  abbrev known : Bool
+  known = not (eqb (a .number .0) 0) && (detailsFit (a .details) (a .option) && openYearFits a)
+
+  all-fit : {paid : Bool} → ((not (eqb (a .number .0) 0) && (details && opened)) && (credit && halves)) ≡ true
+      → paid ≡ (runsFit a && advancesFit a) → paid ≡ accountFits a
+  unfolding accountFits
+  all-fit e p = tested-between known (creditFits a && halvesFit a) (rw (d, o, k, h) at e) p
+
+  some-unfit : ((not (eqb (a .number .0) 0) && (details && opened)) && (credit && halves)) ≡ false → false ≡ accountFits a
+  unfolding accountFits
+  some-unfit e = untested-between known (runsFit a && advancesFit a) (creditFits a && halvesFit a) (rw (d, o, k, h) at e)
+
 returns : tie.Need-returns
-unfolding accountFits
-returns c = cc
+returns c =
+    let s = c .before .before in
+    all-fit (s .before .before .before .before .before .args .a) (s .before .before .before .details-fit .ensures) (s .before .before .open-year-fits .ensures)
+    (s .before .credit-fits .ensures) (s .halves-fit .ensures) (c .before .if1 .taken) (c .paid-fits .ensures)
+
+returns-2 : tie.Need-returns-2
+returns-2 c =
+    let s = c .before in
+    some-unfit (s .before .before .before .before .before .args .a) (s .before .before .before .details-fit .ensures) (s .before .before .open-year-fits .ensures)
+    (s .before .credit-fits .ensures) (s .halves-fit .ensures) (c .if1 .left)
 
 pub account-fits-spec : {M : Type 1} → statement M
 account-fits-spec =
@@ -32,8 +56,8 @@ account-fits-spec =
     (tie.spec
     details-fit-requires
     open-year-fits-requires
-    runs-fit-requires
-    advances-fit-requires
     credit-fits-requires
     halves-fit-requires
-    returns)
+    paid-fits-requires
+    returns
+    returns-2)

@@ -1,5 +1,5 @@
 -- The rule, test by test.
-use Rattle.book.specs.Book.{advanceFits}
+use Rattle.book.specs.Book.{yearFits, advanceFits}
 use borrow.Author.Needs.{needs}
 use Rattle.book.proofs.advance_fits.Statement.{statement}
 use Rattle.book.proofs.advance_fits.Tie as tie
@@ -11,8 +11,8 @@ is-run-requires : tie.Need-is-run-requires
 is-run-requires c κs = search needs
 
 returns : tie.Need-returns
-unfolding advanceFits
-returns c = cc
+unfolding advanceFits yearFits
+returns c owner from to = cc
 
 pub advance-fits-spec : {M : Type 1} → statement M
 advance-fits-spec = tie.close (tie.spec year-fits-requires is-run-requires returns)

@@ -1,5 +1,5 @@
 -- The rule, test by test.
-use Rattle.book.specs.Book.{closingFits}
+use Rattle.book.specs.Book.{yearFits, closingFits}
 use borrow.Author.Needs.{needs}
 use Rattle.book.proofs.closing_fits.Statement.{statement}
 use Rattle.book.proofs.closing_fits.Tie as tie
@@ -14,8 +14,8 @@ year-fits-requires : tie.Need-year-fits-requires
 year-fits-requires c κs = search needs
 
 returns : tie.Need-returns
-unfolding closingFits
-returns c = cc
+unfolding closingFits yearFits
+returns c owner from to = cc
 
 pub closing-fits-spec : {M : Type 1} → statement M
 closing-fits-spec =

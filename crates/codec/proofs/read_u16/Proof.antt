@@ -1,5 +1,4 @@
 -- The two bytes make the number.
-use mathlib.Core.Path.{sym, ap₂}
 use denote.Ref.{now}
 use native.Mathlib.Omega.{arith}
 use Rattle.codec.proofs.Numbers.{number-two}
@@ -7,11 +6,23 @@ use borrow.Author.Needs.{needs}
 use Rattle.codec.proofs.read_u16.Statement.{statement}
 use Rattle.codec.proofs.read_u16.Tie as tie
 
+add-if1 : tie.Need-add-if1
+add-if1 c = search needs
+
+shared-slice-read-two : tie.Need-shared-slice-read-two
+shared-slice-read-two c = search needs
+
+add-two : tie.Need-add-two
+add-two c = search needs
+
+shared-slice-read-two-2 : tie.Need-shared-slice-read-two-2
+shared-slice-read-two-2 c = search needs
+
+two-requires : tie.Need-two-requires
+two-requires c κs = search needs
+
 byte-at-requires : tie.Need-byte-at-requires
 byte-at-requires c κs = search needs
-
-wide-requires : tie.Need-wide-requires
-wide-requires c κs = search needs
 
 add-byte-at : tie.Need-add-byte-at
 add-byte-at c = search needs
@@ -19,31 +30,31 @@ add-byte-at c = search needs
 byte-at-requires-2 : tie.Need-byte-at-requires-2
 byte-at-requires-2 c κs = search needs
 
-wide-requires-2 : tie.Need-wide-requires-2
-wide-requires-2 c κs = search needs
-
-mul-result : tie.Need-mul-result
-mul-result c = search needs
-
-add-result : tie.Need-add-result
-add-result c = search needs
-
-cast-result : tie.Need-cast-result
-cast-result c = search needs
+two-requires-2 : tie.Need-two-requires-2
+two-requires-2 c κs = search needs
 
 returns : tie.Need-returns
-returns c = omega (arith, number-two (c .before .before .before .before .before .args .at) (now (c .before .before .before .before .before .args .s)))
+returns c =
+    let a = c .before .before .before .before .before .args in
+    omega (arith, number-two (a .at) (now (a .s)), c .two .ensures)
+
+returns-2 : tie.Need-returns-2
+returns-2 c =
+    let a = c .before .before .before .before .before .args in
+    omega (arith, number-two (a .at) (now (a .s)), c .two2 .ensures, c .before .byte-at2 .ensures, c .before .before .byte-at .ensures)
 
 pub read-u16-spec : {M : Type 1} → statement M
 read-u16-spec =
     tie.close
     (tie.spec
+    add-if1
+    shared-slice-read-two
+    add-two
+    shared-slice-read-two-2
+    two-requires
     byte-at-requires
-    wide-requires
     add-byte-at
     byte-at-requires-2
-    wide-requires-2
-    mul-result
-    add-result
-    cast-result
-    returns)
+    two-requires-2
+    returns
+    returns-2)

@@ -6,30 +6,26 @@ use mathlib.Core.List.{List}
 use denote.Ref.{now}
 use lib.Dec.{eqb}
 use Rattle.book.specs.Book.{rangesFit, zeroBytesFit, linksFit, pointersTo, pointedOnce, goodRecord}
-use Rattle.book.specs.Book.{pointedOnce, goodRecord}
 use borrow.Author.Needs.{needs}
 use Rattle.links.proofs.good_record.Statement.{statement}
 use Rattle.links.proofs.good_record.Tie as tie
 
-of-tests : (b : List ℕ) (i : ℕ) {ranges unnamed links : Bool} {pointers : ℕ} → ranges ≡ rangesFit b i → unnamed ≡ zeroBytesFit b i
-    → links ≡ linksFit b i → pointers ≡ pointersTo b i → (((ranges && unnamed) && links) && eqb pointers 1) ≡ goodRecord b i
+of-tests : (b : List ℕ) (i : ℕ) {own links : Bool} {pointers : ℕ} → own ≡ (rangesFit b i && zeroBytesFit b i) → links ≡ linksFit b i
+    → pointers ≡ pointersTo b i → ((own && links) && eqb pointers 1) ≡ goodRecord b i
 unfolding goodRecord pointedOnce
-of-tests b i r z l p = rw (r, z, l, p)
+of-tests b i o l p = rw (o, l, p)
 
-ranges-fit-requires : tie.Need-ranges-fit-requires
-ranges-fit-requires c κs = search needs
-
-zero-bytes-fit-requires : tie.Need-zero-bytes-fit-requires
-zero-bytes-fit-requires c κs = search needs
+own-rules-fit-requires : tie.Need-own-rules-fit-requires
+own-rules-fit-requires c κs = search needs
 
 links-fit-requires : tie.Need-links-fit-requires
 links-fit-requires c κs = search needs
 
 returns : tie.Need-returns
 returns c =
-    let s = c .before .before .before .before in
-    of-tests (now (s .args .book)) (s .args .index .0) (c .before .before .ranges-fit .ensures) (c .before .zero-bytes-fit .ensures) (c .links-fit .ensures) (s .pre)
+    let s = c .before .before .before in
+    of-tests (now (s .args .book)) (s .args .index .0) (c .before .own-rules-fit .ensures) (c .links-fit .ensures) (s .pre)
 
 pub good-record-spec : {M : Type 1} → statement M
 good-record-spec =
-    tie.close (tie.spec ranges-fit-requires zero-bytes-fit-requires links-fit-requires returns)
+    tie.close (tie.spec own-rules-fit-requires links-fit-requires returns)

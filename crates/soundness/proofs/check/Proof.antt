@@ -1,4 +1,4 @@
--- By the length, then as judged.
+-- By the length, then as passed or as judged.
 use mathlib.Core.Path.{_≡_, sym, subst, _∙_}
 use mathlib.Core.Bool.{true}
 use Prim.Native.Nat.{ℕ}
@@ -26,8 +26,18 @@ length-fits-requires c κs = search needs
 returns : tie.Need-returns
 returns c = sym (c .before .length-fits .ensures) ∙ not-true _ (c .if1 .taken)
 
+accepts-requires : tie.Need-accepts-requires
+accepts-requires c κs = sym (c .before .length-fits .ensures) ∙ not-false _ (c .if1 .left)
+
+returns-2 : tie.Need-returns-2
+returns-2 c =
+    let s = c .before .before in
+    record { fits = sym (s .before .length-fits .ensures) ∙ not-false _ (s .if1 .left); isSound = c .before .accepts .ensures (c .if2 .taken) }
+
 judge-requires : tie.Need-judge-requires
-judge-requires c κs = sym (c .before .length-fits .ensures) ∙ not-false _ (c .if1 .left)
+judge-requires c κs =
+    let s = c .before .before in
+    sym (s .before .length-fits .ensures) ∙ not-false _ (s .if1 .left)
 
 enum-told : tie.Need-enum-told
 enum-told c = search needs
@@ -35,16 +45,16 @@ enum-told c = search needs
 enum-known-index : tie.Need-enum-known-index
 enum-known-index c = search needs
 
-returns-2 : tie.Need-returns-2
-returns-2 c =
-    let s = c .before .before .before in
+returns-3 : tie.Need-returns-3
+returns-3 c =
+    let s = c .before .before .before .before .before in
     let b = now (s .before .before .before .args .book) in
     accepted b (sym (s .before .length-fits .ensures) ∙ not-false _ (s .if1 .left)) (c .before .before .judge .result) (c .before .before .judge .ensures) (c .enum-told .given .1)
 
-returns-3 : tie.Need-returns-3
-returns-3 c =
+returns-4 : tie.Need-returns-4
+returns-4 c =
     let i = c .before .index .given in
-    let s = c .before .before .before .before in
+    let s = c .before .before .before .before .before .before in
     let b = now (s .before .before .before .args .book) in
     objected b (sym (s .before .length-fits .ensures) ∙ not-false _ (s .if1 .left)) (c .before .before .before .judge .result) (i .0 .0) (c .before .before .before .judge .ensures) (i .1)
 
@@ -54,8 +64,10 @@ check-spec =
     (tie.spec
     length-fits-requires
     returns
+    accepts-requires
+    returns-2
     judge-requires
     enum-told
     enum-known-index
-    returns-2
-    returns-3)
+    returns-3
+    returns-4)

@@ -1,0 +1,47 @@
+-- The rules, test by test.
+use Prim.Native.Nat.{ℕ}
+use mathlib.Core.Path.{sym, ap, ap₂, _∙_}
+use mathlib.Core.Bool.{_&&_}
+use mathlib.Core.List.{List}
+use denote.Ref.{now}
+use Rattle.records.specs.Records.{accountIn}
+use Rattle.book.specs.Book.{accountFits}
+use Rattle.book.proofs.Guards.{tested, untested}
+use borrow.Author.Needs.{needs}
+use Rattle.book.proofs.user_record_fits.Statement.{statement}
+use Rattle.book.proofs.user_record_fits.Tie as tie
+
+zeros-requires : tie.Need-zeros-requires
+zeros-requires c κs = search needs
+
+zeros-requires-2 : tie.Need-zeros-requires-2
+zeros-requires-2 c κs = search needs
+
+read-account-requires : tie.Need-read-account-requires
+read-account-requires c κs = search needs
+
+account-fits-requires : tie.Need-account-fits-requires
+account-fits-requires c κs = search needs
+
+returns : tie.Need-returns
+returns c =
+    let s = c .before .before .before in
+    let gaps = ap₂ _&&_ (s .before .zeros .ensures) (s .zeros2 .ensures) in
+    tested (sym gaps ∙ c .before .before .if1 .taken) (c .account-fits .ensures ∙ ap accountFits (c .before .read-account .ensures))
+
+returns-2 : tie.Need-returns-2
+returns-2 c =
+    let r : List ℕ = now (c .before .before .before .before .args .r) in
+    let gaps = ap₂ _&&_ (c .before .before .zeros .ensures) (c .before .zeros2 .ensures) in
+    untested (accountFits (accountIn r)) (sym gaps ∙ c .if1 .left)
+
+pub user-record-fits-spec : {M : Type 1} → statement M
+user-record-fits-spec =
+    tie.close
+    (tie.spec
+    zeros-requires
+    zeros-requires-2
+    read-account-requires
+    account-fits-requires
+    returns
+    returns-2)

@@ -1,0 +1,5 @@
+pub mod Steps
+pub mod Users
+pub mod Entries
+pub mod Pointers
+pub mod Sound

@@ -1,0 +1,80 @@
+-- What a record that is met changes: a user moves the users' chain on, an entry that of its owner, and no other chain moves.
+use Prim.Native.Nat.{ℕ, suc, _+_}
+use mathlib.Core.Path.{_≡_, refl}
+use mathlib.Core.Bool.{Bool, true, false}
+use mathlib.Core.Logic.{_⊎_, inl, inr}
+use mathlib.Core.List.{List}
+use native.Mathlib.Omega.{arith}
+use borrow.Author.Tests.{eq-eqb, ne-eqb}
+use Rattle.layout.specs.Fields.{userKind, advanceKind, closingKind}
+use Rattle.book.specs.Book.{used, kindAt, isUser, isAdvance, isClosing, isEntry, ownerOf, nextOf, rankOf}
+use Rattle.view.proofs.RecordKinds.{entry-cases, kind-is}
+use Rattle.descent.specs.Descent.{met, owns, dueUser, dueEntry, dueYear, MetUser, MetEntry}
+
+-- the record i is met after all above it
+pub met-at : (b : List ℕ) (i d : ℕ) → i + suc d ≡ used b → met b d ≡ i
+met-at b i d e = omega arith
+
+-- a test that cannot pass fails
+pub fails : (t : Bool) → (t ≡ true → ⊥) → t ≡ false
+fails true n = absurd (n refl)
+fails false n = refl
+
+-- a record has one kind
+pub entry-no-user : (b : List ℕ) (i : ℕ) → isEntry b i ≡ true → kindAt b i ≡ userKind → ⊥
+entry-no-user b i h k = by-kind (entry-cases b i h)
+  where
+    by-kind : (isAdvance b i ≡ true) ⊎ (isClosing b i ≡ true) → ⊥
+    by-kind (inl a) = omega (arith, kind-is b advanceKind i a)
+    by-kind (inr c) = omega (arith, kind-is b closingKind i c)
+
+pub not-both : (b : List ℕ) (i : ℕ) → isUser b i ≡ true → isEntry b i ≡ true → ⊥
+not-both b i u h = entry-no-user b i h (kind-is b userKind i u)
+
+-- a user is met
+module _ (b : List ℕ) (d : ℕ) (m : MetUser b d) where
+  owned-by-none : (o : ℕ) → owns b o (met b d) ≡ false
+  unfolding owns
+  owned-by-none o = rw (fails (isEntry b (met b d)) (not-both b (met b d) (m .user)))
+
+  pub user-moves : dueUser b (suc d) ≡ nextOf b (met b d)
+  unfolding dueUser
+  user-moves = rw (m .user)
+
+  pub user-keeps-entry : (o : ℕ) → dueEntry b o (suc d) ≡ dueEntry b o d
+  unfolding dueEntry
+  user-keeps-entry o = rw (owned-by-none o)
+
+  pub user-keeps-year : (o : ℕ) → dueYear b o (suc d) ≡ dueYear b o d
+  unfolding dueYear
+  user-keeps-year o = rw (owned-by-none o)
+
+-- an entry is met
+module _ (b : List ℕ) (d : ℕ) (m : MetEntry b d) where
+  owned : owns b (ownerOf b (met b d)) (met b d) ≡ true
+  unfolding owns
+  owned = rw (m .entry, eq-eqb (ownerOf b (met b d)) (ownerOf b (met b d)) refl)
+
+  owned-by-no-other : (o : ℕ) → (ownerOf b (met b d) ≡ o → ⊥) → owns b o (met b d) ≡ false
+  unfolding owns
+  owned-by-no-other o n = rw (m .entry, ne-eqb (ownerOf b (met b d)) o n)
+
+  pub entry-keeps-user : dueUser b (suc d) ≡ dueUser b d
+  unfolding dueUser
+  entry-keeps-user = rw (fails (isUser b (met b d)) (λ u. not-both b (met b d) u (m .entry)))
+
+  pub entry-moves : dueEntry b (ownerOf b (met b d)) (suc d) ≡ nextOf b (met b d)
+  unfolding dueEntry
+  entry-moves = rw owned
+
+  pub entry-moves-year : dueYear b (ownerOf b (met b d)) (suc d) ≡ rankOf b (met b d)
+  unfolding dueYear
+  entry-moves-year = rw owned
+
+  pub entry-keeps-other : (o : ℕ) → (ownerOf b (met b d) ≡ o → ⊥) → dueEntry b o (suc d) ≡ dueEntry b o d
+  unfolding dueEntry
+  entry-keeps-other o n = rw (owned-by-no-other o n)
+
+  pub entry-keeps-year : (o : ℕ) → (ownerOf b (met b d) ≡ o → ⊥) → dueYear b o (suc d) ≡ dueYear b o d
+  unfolding dueYear
+  entry-keeps-year o n = rw (owned-by-no-other o n)

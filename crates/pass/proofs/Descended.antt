@@ -1,0 +1,290 @@
+-- What is known between two records of the pass, and that a record that fits keeps it.
+use Prim.Native.Nat.{ℕ, zero, suc, _+_, _-_, _*_, _%_, _≤_, _<_}
+use mathlib.Core.Path.{_≡_, refl, sym, ap, _∙_, subst}
+use mathlib.Core.Logic.{_⊎_, inl, inr}
+use mathlib.Core.Bool.{true, not, _&&_}
+use mathlib.Core.List.{List}
+use native.Mathlib.Decide.{ℕ-discrete}
+use native.Mathlib.Omega.{arith}
+use borrow.Author.Tests.{ne-eqb, eqb-false, leb-true, not-true}
+use lib.Dec.{eqb, leb}
+use lib.ListN.{length, getD, set, replicate, length-set}
+use lib.Seq.{getD-set-same, getD-set-other}
+use Rattle.units.proofs.Bools.{and-left, and-right}
+use Rattle.units.proofs.Folds.{below-suc}
+use Rattle.layout.specs.Fields.{recordLength, get, zeros, recordAt, kindField, numberField, nextField, ownerField, yearField, userKind, advanceKind, closingKind}
+use Rattle.records.specs.Records.{accountIn, advanceIn, closingIn}
+use Rattle.book.specs.Book.{used, usedFits, firstUser, kindAt, isUser, isEntry, isAdvance, isClosing, ownerOf, nextOf, firstEntryOf, openYearOf, activationOf, numberOf, rankOf, accountFits, advanceFits, closingFits, rangesFit, zeroBytesFit, lengthFits, detailsFit, openYearFits, runsFit, advancesFit, creditFits, halvesFit, sound}
+use Rattle.book.proofs.Faultless.{used-within}
+use Rattle.view.proofs.RecordKinds.{has-kind, kind-is, advance-entry, closing-entry}
+use Rattle.descent.specs.Descent.{met, dueUser, dueEntry, dueYear, MetUser, MetEntry, Passed}
+use Rattle.descent.proofs.Steps.{met-at, not-both, user-moves, user-keeps-entry, user-keeps-year, entry-keeps-user, entry-moves, entry-moves-year, entry-keeps-other, entry-keeps-year}
+use Rattle.descent.proofs.Sound.{passed-sound}
+use Rattle.numbers.specs.Held.{Held, Inserted}
+use Rattle.pass.specs.Steps.{entryDue, yearDue, UserFits, AdvanceFits, ClosingFits, EntryFits, StateAfter}
+
+-- the records from `left` on are met
+pub record Descended (b : List ℕ) (left expected : ℕ) (states seen : List ℕ) : Type 0 where
+  pub gone : ℕ
+  pub place : left + gone ≡ used b
+  pub some : 1 ≤ left
+  pub user : expected ≡ dueUser b gone
+  pub entry : (o : ℕ) → entryDue (recordAt b o) (getD states o 0) ≡ dueEntry b o gone
+  pub year : (o : ℕ) → yearDue (recordAt b o) (getD states o 0) ≡ dueYear b o gone
+  pub each : (d : ℕ) → d < gone → MetUser b d ⊎ MetEntry b d
+  pub held : (d : ℕ) → d < gone → isUser b (met b d) ≡ true → Held seen (numberOf b (met b d))
+
+-- no state is known at first
+none-known : (n o : ℕ) → _≡_ {A = ℕ} (getD (replicate n 0) o 0) 0
+none-known zero o = refl
+none-known (suc n) zero = refl
+none-known (suc n) (suc o) = none-known n o
+
+pub started : (b : List ℕ) (n : ℕ) (seen : List ℕ) {left expected : ℕ} → left ≡ used b → 1 ≤ used b → expected ≡ firstUser b
+    → Descended b left expected (replicate n 0) seen
+unfolding dueUser dueEntry dueYear entryDue yearDue firstEntryOf openYearOf
+started b n seen l lo e =
+    record {
+      gone = 0;
+      place = omega arith;
+      some = omega arith;
+      user = e;
+      entry = λ o. rw (none-known n o);
+      year = λ o. rw (none-known n o);
+      each = λ d h. let z : ⊥ = omega arith in absurd z;
+      held = λ d h. let z : ⊥ = omega arith in absurd z;
+    }
+
+-- the record at `index` is met
+module _ (b : List ℕ) {left expected : ℕ} {states seen : List ℕ} (s : Descended b left expected states seen) (index : ℕ) (l : left ≡ index + 1)
+    (lo : 1 ≤ index) (r : List ℕ) (bytes : r ≡ recordAt b index) where
+  after : index + suc (s .gone) ≡ used b
+  after = let p = s .place in omega arith
+
+  here : met b (s .gone) ≡ index
+  here = met-at b index (s .gone) after
+
+  inside : index < used b
+  inside = let p = after in omega arith
+
+  -- a user
+  module _ (kind : get kindField r ≡ userKind) {state : ℕ} (known : state ≡ getD states index 0) (f : UserFits r index expected state)
+      {number : ℕ} (n : number ≡ get numberField r) {seen' : List ℕ} (ins : Inserted seen number seen') where
+    kind-here : kindAt b index ≡ userKind
+    unfolding kindAt
+    kind-here = rw bytes at kind
+
+    user-here : isUser b index ≡ true
+    user-here = has-kind b userKind index lo inside kind-here
+
+    own-here : (accountFits (accountIn (recordAt b index)) && (zeros 27 5 (recordAt b index) && zeros 56 24 (recordAt b index))) ≡ true
+    own-here = rw bytes at (f .own)
+
+    ranges-here : rangesFit b index ≡ true
+    unfolding rangesFit
+    ranges-here =
+        rw kind-here (and-left (accountFits (accountIn (recordAt b index))) (zeros 27 5 (recordAt b index) && zeros 56 24 (recordAt b index)) own-here)
+
+    zeros-here : zeroBytesFit b index ≡ true
+    unfolding zeroBytesFit
+    zeros-here =
+        rw kind-here (and-right (accountFits (accountIn (recordAt b index))) (zeros 27 5 (recordAt b index) && zeros 56 24 (recordAt b index)) own-here)
+
+    number-here : number ≡ numberOf b index
+    unfolding numberOf
+    number-here = rw (n, bytes)
+
+    ended-here : dueEntry b index (s .gone) ≡ 0
+    ended-here = sym (s .entry index) ∙ (rw (bytes, known) at (f .ended))
+
+    opened-here : dueYear b index (s .gone) ≡ activationOf b index
+    unfolding activationOf
+    opened-here = sym (s .year index) ∙ (rw (bytes, known) at (f .opened))
+
+    met-user : MetUser b (s .gone)
+    met-user =
+        record {
+          user = rw here user-here;
+          ranges = rw here ranges-here;
+          zero-bytes = rw here zeros-here;
+          due = sym (s .user) ∙ f .due ∙ sym here;
+          ended = rw here ended-here;
+          opened = rw here opened-here;
+          unlike = λ e h u same. ins .fresh (subst (Held seen) (same ∙ ap (numberOf b) here ∙ sym number-here) (s .held e h u));
+        }
+
+    pub user-met : {next : ℕ} → next ≡ get nextField r → Descended b index next states seen'
+    unfolding nextOf
+    user-met e =
+        record {
+          gone = suc (s .gone);
+          place = after;
+          some = lo;
+          user = e ∙ ap (get nextField) bytes ∙ ap (nextOf b) (sym here) ∙ sym (user-moves b (s .gone) met-user);
+          entry = λ o. s .entry o ∙ sym (user-keeps-entry b (s .gone) met-user o);
+          year = λ o. s .year o ∙ sym (user-keeps-year b (s .gone) met-user o);
+          each = below-suc (λ d. MetUser b d ⊎ MetEntry b d) (s .gone) (s .each) (inl met-user);
+          held =
+              below-suc (λ d. isUser b (met b d) ≡ true → Held seen' (numberOf b (met b d))) (s .gone)
+              (λ d h u. ins .kept (numberOf b (met b d)) (s .held d h u))
+              (λ u. subst (Held seen') (number-here ∙ ap (numberOf b) (sym here)) (ins .held));
+        }
+
+  -- an entry
+  module _ {home : ℕ} (h : home ≡ get ownerField r) (home-lo : 1 ≤ home) (home-hi : home < index) (owner : List ℕ) (owner-bytes : owner ≡ recordAt b home)
+      {state : ℕ} (known : state ≡ getD states home 0) (f : EntryFits r owner index state) {state' : ℕ} (after-state : StateAfter r state')
+      (room : home < length states) where
+    owner-here : ownerOf b index ≡ home
+    unfolding ownerOf
+    owner-here = sym (h ∙ ap (get ownerField) bytes)
+
+    owner-user : isUser b home ≡ true
+    unfolding kindAt
+    owner-user = has-kind b userKind home home-lo (let p = inside in omega arith) (rw owner-bytes at (f .user))
+
+    rank-here : get yearField r ≡ rankOf b index
+    unfolding rankOf
+    rank-here = ap (get yearField) bytes
+
+    next-here : get nextField r ≡ nextOf b index
+    unfolding nextOf
+    next-here = ap (get nextField) bytes
+
+    due-here : dueEntry b (ownerOf b index) (s .gone) ≡ index
+    due-here = rw owner-here (sym (s .entry home) ∙ (rw (owner-bytes, known) at (f .due)))
+
+    year-due : yearDue owner state ≡ dueYear b (ownerOf b index) (s .gone)
+    year-due = rw (owner-here, owner-bytes, known) (s .year home)
+
+    -- its kind is known, and with it its own rules and its year
+    record Entered : Type 0 where
+      entry : isEntry b index ≡ true
+      ranges : rangesFit b index ≡ true
+      zero-bytes : zeroBytesFit b index ≡ true
+      advance-year : isAdvance b index ≡ true → rankOf b index ≡ dueYear b (ownerOf b index) (s .gone)
+      closing-year : isClosing b index ≡ true → rankOf b index + 1 ≡ dueYear b (ownerOf b index) (s .gone)
+
+    advance-entered : AdvanceFits r owner state → Entered
+    unfolding rangesFit zeroBytesFit kindAt
+    advance-entered a =
+        let k : kindAt b index ≡ advanceKind = rw bytes at (a .kind) in
+        let adv : isAdvance b index ≡ true = has-kind b advanceKind index lo inside k in
+        let own : (advanceFits (accountIn (recordAt b (ownerOf b index))) (advanceIn (recordAt b index)) && (zeros 16 48 (recordAt b index) && zeros 68 12 (recordAt b index))) ≡ true =
+        rw (bytes, owner-bytes, ← owner-here) at (a .own) in
+        record {
+          entry = advance-entry b index adv;
+          ranges = rw k (and-left (advanceFits (accountIn (recordAt b (ownerOf b index))) (advanceIn (recordAt b index))) (zeros 16 48 (recordAt b index) && zeros 68 12 (recordAt b index)) own);
+          zero-bytes = rw k (and-right (advanceFits (accountIn (recordAt b (ownerOf b index))) (advanceIn (recordAt b index))) (zeros 16 48 (recordAt b index) && zeros 68 12 (recordAt b index)) own);
+          advance-year = λ _. sym rank-here ∙ a .year ∙ year-due;
+          closing-year = λ q. let z : ⊥ = omega (arith, k, kind-is b closingKind index q) in absurd z;
+        }
+
+    closing-entered : ClosingFits r owner state → Entered
+    unfolding rangesFit zeroBytesFit kindAt
+    closing-entered a =
+        let k : kindAt b index ≡ closingKind = rw bytes at (a .kind) in
+        let clo : isClosing b index ≡ true = has-kind b closingKind index lo inside k in
+        let own : (closingFits (accountIn (recordAt b (ownerOf b index))) (closingIn (recordAt b index)) && zeros 68 12 (recordAt b index)) ≡ true =
+        rw (bytes, owner-bytes, ← owner-here) at (a .own) in
+        record {
+          entry = closing-entry b index clo;
+          ranges = rw k (and-left (closingFits (accountIn (recordAt b (ownerOf b index))) (closingIn (recordAt b index))) (zeros 68 12 (recordAt b index)) own);
+          zero-bytes = rw k (and-right (closingFits (accountIn (recordAt b (ownerOf b index))) (closingIn (recordAt b index))) (zeros 68 12 (recordAt b index)) own);
+          advance-year = λ q. let z : ⊥ = omega (arith, k, kind-is b advanceKind index q) in absurd z;
+          closing-year = λ _. ap (λ (y : ℕ). y + 1) (sym rank-here) ∙ a .year ∙ year-due;
+        }
+
+    entered : Entered
+    entered = by-kind (f .by-kind)
+      where
+        by-kind : AdvanceFits r owner state ⊎ ClosingFits r owner state → Entered
+        by-kind (inl a) = advance-entered a
+        by-kind (inr a) = closing-entered a
+
+    met-entry : MetEntry b (s .gone)
+    met-entry =
+        record {
+          entry = rw here (entered .entry);
+          ranges = rw here (entered .ranges);
+          zero-bytes = rw here (entered .zero-bytes);
+          owner = rw (here, owner-here) owner-user;
+          due = rw here due-here;
+          advance-year = rw here (entered .advance-year);
+          closing-year = rw here (entered .closing-year);
+        }
+
+    owner-met : ownerOf b (met b (s .gone)) ≡ home
+    owner-met = ap (ownerOf b) here ∙ owner-here
+
+    known-after : state' ≡ 0 → ⊥
+    known-after z = let y = after-state .year in let p = f .some in omega arith
+
+    entry-after : (o : ℕ) → entryDue (recordAt b o) (getD (set states home state') o 0) ≡ dueEntry b o (suc (s .gone))
+    unfolding entryDue
+    entry-after o = by-owner (ℕ-discrete o home)
+      where
+        by-owner : Dec (o ≡ home) → entryDue (recordAt b o) (getD (set states home state') o 0) ≡ dueEntry b o (suc (s .gone))
+        by-owner (yes own) =
+            let moved : dueEntry b home (suc (s .gone)) ≡ nextOf b index = rw (here, owner-here) at (entry-moves b (s .gone) met-entry) in
+            rw (own, getD-set-same states home state' 0 room, ne-eqb state' 0 known-after) (after-state .next ∙ next-here ∙ sym moved)
+        by-owner (no other) =
+            rw (getD-set-other states home o state' 0 other) (s .entry o ∙ sym (entry-keeps-other b (s .gone) met-entry o (λ e. other (sym e ∙ owner-met))))
+
+    year-after : (o : ℕ) → yearDue (recordAt b o) (getD (set states home state') o 0) ≡ dueYear b o (suc (s .gone))
+    unfolding yearDue
+    year-after o = by-owner (ℕ-discrete o home)
+      where
+        by-owner : Dec (o ≡ home) → yearDue (recordAt b o) (getD (set states home state') o 0) ≡ dueYear b o (suc (s .gone))
+        by-owner (yes own) =
+            let moved : dueYear b home (suc (s .gone)) ≡ rankOf b index = rw (here, owner-here) at (entry-moves-year b (s .gone) met-entry) in
+            rw (own, getD-set-same states home state' 0 room, ne-eqb state' 0 known-after) (after-state .year ∙ rank-here ∙ sym moved)
+        by-owner (no other) =
+            rw (getD-set-other states home o state' 0 other) (s .year o ∙ sym (entry-keeps-year b (s .gone) met-entry o (λ e. other (sym e ∙ owner-met))))
+
+    pub entry-met : Descended b index expected (set states home state') seen
+    entry-met =
+        record {
+          gone = suc (s .gone);
+          place = after;
+          some = lo;
+          user = s .user ∙ sym (entry-keeps-user b (s .gone) met-entry);
+          entry = entry-after;
+          year = year-after;
+          each = below-suc (λ d. MetUser b d ⊎ MetEntry b d) (s .gone) (s .each) (inr met-entry);
+          held =
+              below-suc (λ d. isUser b (met b d) ≡ true → Held seen (numberOf b (met b d))) (s .gone) (s .held)
+              (λ u. absurd (not-both b (met b (s .gone)) u (met-entry .entry)));
+        }
+
+-- a user that fits has a number
+pub number-some : {r : List ℕ} {index expected state : ℕ} → UserFits r index expected state → 0 < get numberField r
+unfolding accountFits accountIn
+number-some {r} f =
+    let a = accountIn r in
+    let fits = and-left (accountFits a) (zeros 27 5 r && zeros 56 24 r) (f .own) in
+    let known : (not (eqb (get numberField r) 0) && (detailsFit (a .details) (a .option) && openYearFits a)) ≡ true =
+    and-left (not (eqb (get numberField r) 0) && (detailsFit (a .details) (a .option) && openYearFits a))
+    ((runsFit a && advancesFit a) && (creditFits a && halvesFit a)) fits in
+    let some = eqb-false (get numberField r) 0 (not-true (eqb (get numberField r) 0) (and-left (not (eqb (get numberField r) 0)) (detailsFit (a .details) (a .option) && openYearFits a) known)) in
+    omega (arith, some)
+
+-- the book has room for each record that it uses, and the states have a place for it
+pub record Roomy (b : List ℕ) (left : ℕ) : Type 0 where
+  pub whole : recordLength * left ≤ length b
+  pub counted : left ≤ 800
+
+pub roomy : (b : List ℕ) → lengthFits b ≡ true → usedFits b ≡ true → Roomy b (used b)
+unfolding lengthFits
+roomy b fits u =
+    let long = leb-true (length b) 64000 (and-right (leb 160 (length b)) (leb (length b) 64000) (and-left (leb 160 (length b) && leb (length b) 64000) (eqb (length b % recordLength) 0) fits)) in
+    let most = used-within b u .1 in
+    record { whole = omega arith; counted = omega arith }
+
+-- all records but the head are met
+pub descended : (b : List ℕ) {left expected : ℕ} {states seen : List ℕ} → Descended b left expected states seen → left ≤ 1 → expected ≡ 0
+    → usedFits b ≡ true → zeros 8 72 (recordAt b 0) ≡ true → sound b ≡ true
+descended b {left} s l e fits rest =
+    let p = s .place in
+    let q = s .some in
+    let all : used b - 1 ≡ s .gone = omega arith in
+    passed-sound b record { used-fits = fits; rest = rest; each = λ d h. s .each d (omega arith); end = rw all (sym (s .user) ∙ e) }

@@ -1,0 +1,34 @@
+-- The next and the year, side by side.
+use mathlib.Core.Path.{_≡_, ap}
+use native.Mathlib.Omega.{arith}
+use denote.Ref.{now}
+use Rattle.units.specs.declared.RecordIndex.{RecordIndex}
+use Rattle.layout.specs.Fields.{get, nextField}
+use borrow.Author.Needs.{needs}
+use Rattle.pass.proofs.state_after.Statement.{statement}
+use Rattle.pass.proofs.state_after.Tie as tie
+
+next-of-requires : tie.Need-next-of-requires
+next-of-requires c κs = search needs
+
+mul-result : tie.Need-mul-result
+mul-result c = omega (arith, ap (λ (i : RecordIndex). i .0) (c .before .next-of .ensures), c .before .before .before .pre)
+
+year-of-requires : tie.Need-year-of-requires
+year-of-requires c κs = search needs
+
+cast-result : tie.Need-cast-result
+cast-result c = search needs
+
+add-result : tie.Need-add-result
+add-result c = omega (arith, ap (λ (i : RecordIndex). i .0) (c .before .before .next-of .ensures), c .before .before .before .before .pre)
+
+returns : tie.Need-returns
+returns c =
+    let next : c .before .before .next-of .result .0 ≡ get nextField (now (c .before .before .before .before .args .r)) = ap (λ (i : RecordIndex). i .0) (c .before .before .next-of .ensures) in
+    record { next = omega (arith, c .year-of .ensures); year = omega (arith, c .year-of .ensures) }
+
+pub state-after-spec : {M : Type 1} → statement M
+state-after-spec =
+    tie.close
+    (tie.spec next-of-requires mul-result year-of-requires cast-result add-result returns)

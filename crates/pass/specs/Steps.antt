@@ -1,0 +1,49 @@
+-- What the pass keeps of each user, and what it tests where it meets a record.
+use Prim.Native.Nat.{ℕ, _+_, _/_, _%_, _<_}
+use mathlib.Core.Path.{_≡_}
+use mathlib.Core.Logic.{_⊎_}
+use mathlib.Core.Bool.{true, cond, _&&_}
+use mathlib.Core.List.{List}
+use lib.Dec.{eqb}
+use Rattle.layout.specs.Fields.{get, zeros, kindField, nextField, firstEntryField, activationYearField, openYearField, yearField, userKind, advanceKind, closingKind}
+use Rattle.records.specs.Records.{accountIn, advanceIn, closingIn}
+use Rattle.book.specs.Book.{accountFits, advanceFits, closingFits}
+
+-- The state of a user is 0 until an entry of it is met; then it is the next of that entry times 65,536 and its year. With the
+-- user's record it tells the entry and the year that are due.
+unfoldable pub entryDue : List ℕ → ℕ → ℕ
+entryDue r state = cond (eqb state 0) (get firstEntryField r) (state / 65536)
+
+unfoldable pub yearDue : List ℕ → ℕ → ℕ
+yearDue r state = cond (eqb state 0) (get openYearField r) (state % 65536)
+
+-- a user at an index: the users' chain leads to it, and its own chain has ended
+pub record UserFits (r : List ℕ) (index expected state : ℕ) : Type 0 where
+  pub due : expected ≡ index
+  pub ended : entryDue r state ≡ 0
+  pub opened : yearDue r state ≡ get activationYearField r
+  pub own : (accountFits (accountIn r) && (zeros 27 5 r && zeros 56 24 r)) ≡ true
+
+-- an entry at an index, by its kind
+pub record AdvanceFits (r owner : List ℕ) (state : ℕ) : Type 0 where
+  pub kind : get kindField r ≡ advanceKind
+  pub year : get yearField r ≡ yearDue owner state
+  pub own : (advanceFits (accountIn owner) (advanceIn r) && (zeros 16 48 r && zeros 68 12 r)) ≡ true
+
+pub record ClosingFits (r owner : List ℕ) (state : ℕ) : Type 0 where
+  pub kind : get kindField r ≡ closingKind
+  pub year : get yearField r + 1 ≡ yearDue owner state
+  pub own : (closingFits (accountIn owner) (closingIn r) && zeros 68 12 r) ≡ true
+
+-- its owner's chain leads to it, and on to an entry that is still to be met
+pub record EntryFits (r owner : List ℕ) (index state : ℕ) : Type 0 where
+  pub user : get kindField owner ≡ userKind
+  pub due : entryDue owner state ≡ index
+  pub next : get nextField r < index
+  pub some : 0 < get yearField r
+  pub by-kind : AdvanceFits r owner state ⊎ ClosingFits r owner state
+
+-- the state once the entry is met
+pub record StateAfter (r : List ℕ) (state : ℕ) : Type 0 where
+  pub next : state / 65536 ≡ get nextField r
+  pub year : state % 65536 ≡ get yearField r

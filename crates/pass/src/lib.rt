@@ -1,0 +1,109 @@
+// A sound book told in one pass over its records, from the last one down (document 01, "Book"). Where the pass does not accept a
+// book nothing is said of it: the judge that names a faulty record decides.
+ghost use mathlib.Core.Path.{_≡_};
+ghost use mathlib.Core.Bool.{true};
+ghost use Prim.Native.Nat.{_<_};
+ghost use Rattle.layout.specs.Fields.{get, nextField};
+ghost use Rattle.book.specs.Book.{lengthFits, sound};
+ghost use Rattle.pass.specs.Steps.{entryDue, yearDue, UserFits, EntryFits, StateAfter};
+use layout::whole_record;
+use units::RecordIndex;
+use view::ADVANCE;
+use view::CLOSING;
+use view::USER;
+
+// The entry and the year that are due of a user, from its state and its record.
+fn entry_due(r: &[u8], state: u32) -> u32
+    ensures { λ e. ⌜ e ≡ entryDue (now (r .entry)) state ⌝ }
+{
+    if state == 0 {
+        layout::first_entry_of(r).0
+    } else {
+        state / 65536
+    }
+}
+
+fn year_due(r: &[u8], state: u32) -> u16
+    ensures { λ y. ⌜ y ≡ yearDue (now (r .entry)) state ⌝ }
+{
+    if state == 0 {
+        layout::open_year_of(r)
+    } else {
+        (state % 65536) as u16
+    }
+}
+
+fn state_after(r: &[u8]) -> u32
+    requires { ⌜ get nextField (now r) < 65536 ⌝ }
+    ensures { λ s. ⌜ StateAfter (now (r .entry)) s ⌝ }
+{
+    layout::next_of(r).0 * 65536 + layout::year_of(r) as u32
+}
+
+fn user_fits(r: &[u8], index: usize, expected: u32, state: u32) -> bool
+    ensures { λ s. ⌜ (s ≡ true → UserFits (now (r .entry)) index expected state) ⌝ }
+{
+    let opened = year_due(r, state) == layout::activation_year_of(r);
+    let ended = (entry_due(r, state) == 0) & opened;
+    if (expected as usize == index) & ended {
+        book::user_record_fits(r)
+    } else {
+        false
+    }
+}
+
+fn entry_fits(r: &[u8], owner: &[u8], index: usize, state: u32) -> bool
+    ensures { λ s. ⌜ (s ≡ true → EntryFits (now (r .entry)) (now (owner .entry)) index state) ⌝ }
+{
+    let year = layout::year_of(r);
+    let from = year_due(owner, state);
+    let due = entry_due(owner, state) as usize == index;
+    let leads = due & ((layout::next_of(r).0 as usize) < index);
+    if !(leads & ((0 < year) & (layout::kind_of(owner) == USER))) {
+        return false;
+    }
+    match layout::kind_of(r) {
+        ADVANCE => (year == from) & book::advance_record_fits(r, owner),
+        CLOSING => (year as u32 + 1 == from as u32) & book::closing_record_fits(r, owner),
+        _ => false,
+    }
+}
+
+pub fn accepts(book: &[u8]) -> bool
+    requires { ⌜ lengthFits (now book) ≡ true ⌝ }
+    ensures { λ r. ⌜ (r ≡ true → sound (now (book .entry)) ≡ true) ⌝ }
+{
+    let head = layout::record(book, RecordIndex(0));
+    if !(view::used_fits(book) & layout::zeros(head, 8, 72)) {
+        return false;
+    }
+    let mut states = [0u32; 800];
+    let mut seen = [0u32; 2848];
+    let mut expected = view::first_user(book).0;
+    let mut left = view::used(book) as usize;
+    while 1 < left {
+        let index = left - 1;
+        let r = whole_record(book, index);
+        if layout::kind_of(r) == USER {
+            if !user_fits(r, index, expected, states[index]) {
+                return false;
+            }
+            if !numbers::insert(&mut seen, layout::number_of(r).0) {
+                return false;
+            }
+            expected = layout::next_of(r).0;
+        } else {
+            let home = layout::owner_of(r).0 as usize;
+            if (home == 0) | (index <= home) {
+                return false;
+            }
+            let owner = whole_record(book, home);
+            if !entry_fits(r, owner, index, states[home]) {
+                return false;
+            }
+            states[home] = state_after(r);
+        }
+        left = index;
+    }
+    expected == 0
+}
