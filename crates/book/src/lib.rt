@@ -5,7 +5,8 @@ ghost use Prim.Native.Nat.{_-_, _*_, _≤_, _<_};
 ghost use lib.Dec.{leb};
 ghost use Rattle.units.specs.Limits.{maxYearTicks};
 ghost use Rattle.book.specs.Book.{lengthFits, detailsFit, openYearFits, halvesOf, runMade, dueIfMade, runsFit, halvesMade, advancesFit, creditFits, halvesFit, accountFits, isRun, advanceFits, balanceFits, closingFits, within};
-ghost use Rattle.layout.specs.Fields.{zeros};
+ghost use Rattle.layout.specs.Fields.{recordLength, zeros};
+ghost use lib.ListN.{length};
 ghost use Rattle.records.specs.Records.{accountIn, advanceIn, closingIn};
 use accounts::Account;
 use accounts::Balance;
@@ -213,8 +214,10 @@ fn closing_fits(activation: u16, open_year: u16, c: ClosingRecord) -> bool
 // A RECORD'S OWN RULES: its ranges and its zero bytes. Those of an entry go by its owner's record too.
 
 pub fn user_record_fits(r: &[u8]) -> bool
+    requires { ⌜ length (now r) ≡ recordLength ⌝ }
     ensures { λ s. ⌜ s ≡ (accountFits (accountIn (now (r .entry))) && (zeros 27 5 (now (r .entry)) && zeros 56 24 (now (r .entry)))) ⌝ }
 {
+    let r = layout::whole(r);
     if layout::zeros(r, 27, 5) & layout::zeros(r, 56, 24) {
         account_fits(records::read_account(r))
     } else {
@@ -223,8 +226,10 @@ pub fn user_record_fits(r: &[u8]) -> bool
 }
 
 pub fn advance_record_fits(r: &[u8], owner: &[u8]) -> bool
+    requires { ⌜ length (now r) ≡ recordLength ⌝ }
     ensures { λ s. ⌜ s ≡ (advanceFits (accountIn (now (owner .entry))) (advanceIn (now (r .entry))) && (zeros 16 48 (now (r .entry)) && zeros 68 12 (now (r .entry)))) ⌝ }
 {
+    let r = layout::whole(r);
     let activation = layout::activation_year_of(owner);
     let open_year = layout::open_year_of(owner);
     if layout::zeros(r, 16, 48) & layout::zeros(r, 68, 12) {
@@ -235,8 +240,10 @@ pub fn advance_record_fits(r: &[u8], owner: &[u8]) -> bool
 }
 
 pub fn closing_record_fits(r: &[u8], owner: &[u8]) -> bool
+    requires { ⌜ length (now r) ≡ recordLength ⌝ }
     ensures { λ s. ⌜ s ≡ (closingFits (accountIn (now (owner .entry))) (closingIn (now (r .entry))) && zeros 68 12 (now (r .entry))) ⌝ }
 {
+    let r = layout::whole(r);
     let activation = layout::activation_year_of(owner);
     let open_year = layout::open_year_of(owner);
     if layout::zeros(r, 68, 12) {

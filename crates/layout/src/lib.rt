@@ -47,6 +47,14 @@ pub fn whole_record<'a>(book: &'a [u8], index: usize) -> &'a [u8]
     &book[start..start + RECORD_LENGTH]
 }
 
+// A whole record as a part of known length, so that no read of it has to look for its end.
+pub fn whole<'a>(r: &'a [u8]) -> &'a [u8]
+    requires { ⌜ length (now r) ≡ recordLength ⌝ }
+    ensures { λ s. ⌜ now s ≡ now (r .entry) ⌝ }
+{
+    &r[0..RECORD_LENGTH]
+}
+
 // The image goes to its record's place.
 pub fn store(book: &mut [u8], index: RecordIndex, image: [u8; 80])
     requires { ⌜ recordLength * index .0 + recordLength ≤ length (now book) ⌝ }

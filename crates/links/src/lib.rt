@@ -2,7 +2,10 @@
 // are a book here.
 ghost use mathlib.Core.Path.{_≡_};
 ghost use mathlib.Core.Bool.{_&&_};
+ghost use Prim.Native.Nat.{_+_, _*_, _≤_};
 ghost use lib.Dec.{eqb};
+ghost use lib.ListN.{length};
+ghost use Rattle.layout.specs.Fields.{recordLength};
 ghost use Rattle.book.specs.Book.{isUser, numberOf, rangesFit, zeroBytesFit, userNextFits, numberIsNew, firstEntryFits, entryNextFits, ownerFits, pointersTo, inOrder, firstInOrder, nextInOrder, linksFit, goodRecord, goodHead};
 use layout::record;
 use units::RecordIndex;
@@ -27,6 +30,7 @@ use view::rank_of;
 // WHAT DIFFERS BY KIND: ranges and zero bytes
 
 fn own_rules_fit(book: &[u8], index: RecordIndex) -> bool
+    requires { ⌜ recordLength * index .0 + recordLength ≤ length (now book) ⌝ }
     ensures { λ r. ⌜ r ≡ (rangesFit (now (book .entry)) (index .0) && zeroBytesFit (now (book .entry)) (index .0)) ⌝ }
 {
     let bytes = record(book, index);
@@ -144,9 +148,10 @@ pub fn links_fit(book: &[u8], index: RecordIndex) -> bool
     }
 }
 
-// A record is judged with the number of pointers that lead to it.
+// A record that the book has whole is judged with the number of pointers that lead to it.
 pub fn good_record(book: &[u8], index: RecordIndex, pointers: u16) -> bool
     requires { ⌜ pointers ≡ pointersTo (now book) (index .0) ⌝ }
+    requires { ⌜ recordLength * index .0 + recordLength ≤ length (now book) ⌝ }
     ensures { λ r. ⌜ r ≡ goodRecord (now (book .entry)) (index .0) ⌝ }
 {
     (own_rules_fit(book, index) & links_fit(book, index)) & (pointers == 1)

@@ -5,8 +5,10 @@ ghost use Prim.Native.Nat.{_<_, _≤_};
 ghost use lib.ListN.{length};
 ghost use Rattle.numbers.specs.Held.{places, slotOf, Inserted};
 
+// 2,048 slots, and a place above them for each record that a book can have.
 const PLACES: usize = 2848;
 
+// The top 11 bits of a product modulo 2^32 spread numbers that follow one another.
 fn slot_of(number: u32) -> usize
     ensures { λ r. ⌜ r ≡ slotOf number ⌝ }
 {

@@ -8,7 +8,7 @@ use native.Mathlib.Decide.{ℕ-discrete}
 use native.Mathlib.Omega.{arith}
 use borrow.Author.Tests.{ne-eqb, eqb-false, leb-true, not-true}
 use lib.Dec.{eqb, leb}
-use lib.ListN.{length, getD, set, replicate, length-set}
+use lib.ListN.{length, getD, set, replicate}
 use lib.Seq.{getD-set-same, getD-set-other}
 use Rattle.units.proofs.Bools.{and-left, and-right}
 use Rattle.units.proofs.Folds.{below-suc}
@@ -17,7 +17,8 @@ use Rattle.records.specs.Records.{accountIn, advanceIn, closingIn}
 use Rattle.book.specs.Book.{used, usedFits, firstUser, kindAt, isUser, isEntry, isAdvance, isClosing, ownerOf, nextOf, firstEntryOf, openYearOf, activationOf, numberOf, rankOf, accountFits, advanceFits, closingFits, rangesFit, zeroBytesFit, lengthFits, detailsFit, openYearFits, runsFit, advancesFit, creditFits, halvesFit, sound}
 use Rattle.book.proofs.Faultless.{used-within}
 use Rattle.view.proofs.RecordKinds.{has-kind, kind-is, advance-entry, closing-entry}
-use Rattle.descent.specs.Descent.{met, dueUser, dueEntry, dueYear, MetUser, MetEntry, Passed}
+use Rattle.pointers.specs.Pointers.{mostRecords}
+use Rattle.descent.specs.Descent.{met, dueUser, dueEntry, dueYear, MetUser, MetEntry}
 use Rattle.descent.proofs.Steps.{met-at, not-both, user-moves, user-keeps-entry, user-keeps-year, entry-keeps-user, entry-moves, entry-moves-year, entry-keeps-other, entry-keeps-year}
 use Rattle.descent.proofs.Sound.{passed-sound}
 use Rattle.numbers.specs.Held.{Held, Inserted}
@@ -271,7 +272,7 @@ number-some {r} f =
 -- the book has room for each record that it uses, and the states have a place for it
 pub record Roomy (b : List ℕ) (left : ℕ) : Type 0 where
   pub whole : recordLength * left ≤ length b
-  pub counted : left ≤ 800
+  pub counted : left ≤ mostRecords
 
 pub roomy : (b : List ℕ) → lengthFits b ≡ true → usedFits b ≡ true → Roomy b (used b)
 unfolding lengthFits

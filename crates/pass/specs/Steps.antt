@@ -9,13 +9,16 @@ use Rattle.layout.specs.Fields.{get, zeros, kindField, nextField, firstEntryFie
 use Rattle.records.specs.Records.{accountIn, advanceIn, closingIn}
 use Rattle.book.specs.Book.{accountFits, advanceFits, closingFits}
 
--- The state of a user is 0 until an entry of it is met; then it is the next of that entry times 65,536 and its year. With the
--- user's record it tells the entry and the year that are due.
+-- The state of a user is 0 until an entry of it is met; then it is the next of that entry times 65,536, which no year reaches,
+-- and its year. With the user's record it tells the entry and the year that are due.
+abbrev pub years : ℕ
+years = 65536
+
 unfoldable pub entryDue : List ℕ → ℕ → ℕ
-entryDue r state = cond (eqb state 0) (get firstEntryField r) (state / 65536)
+entryDue r state = cond (eqb state 0) (get firstEntryField r) (state / years)
 
 unfoldable pub yearDue : List ℕ → ℕ → ℕ
-yearDue r state = cond (eqb state 0) (get openYearField r) (state % 65536)
+yearDue r state = cond (eqb state 0) (get openYearField r) (state % years)
 
 -- a user at an index: the users' chain leads to it, and its own chain has ended
 pub record UserFits (r : List ℕ) (index expected state : ℕ) : Type 0 where
@@ -45,5 +48,5 @@ pub record EntryFits (r owner : List ℕ) (index state : ℕ) : Type 0 where
 
 -- the state once the entry is met
 pub record StateAfter (r : List ℕ) (state : ℕ) : Type 0 where
-  pub next : state / 65536 ≡ get nextField r
-  pub year : state % 65536 ≡ get yearField r
+  pub next : state / years ≡ get nextField r
+  pub year : state % years ≡ get yearField r

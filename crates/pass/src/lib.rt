@@ -3,14 +3,18 @@
 ghost use mathlib.Core.Path.{_≡_};
 ghost use mathlib.Core.Bool.{true};
 ghost use Prim.Native.Nat.{_<_};
-ghost use Rattle.layout.specs.Fields.{get, nextField};
+ghost use lib.ListN.{length};
+ghost use Rattle.layout.specs.Fields.{recordLength, get, nextField};
 ghost use Rattle.book.specs.Book.{lengthFits, sound};
-ghost use Rattle.pass.specs.Steps.{entryDue, yearDue, UserFits, EntryFits, StateAfter};
+ghost use Rattle.pass.specs.Steps.{years, entryDue, yearDue, UserFits, EntryFits, StateAfter};
 use layout::whole_record;
 use units::RecordIndex;
 use view::ADVANCE;
 use view::CLOSING;
 use view::USER;
+
+// No year reaches this.
+const YEARS: u32 = 65_536;
 
 // The entry and the year that are due of a user, from its state and its record.
 fn entry_due(r: &[u8], state: u32) -> u32
@@ -19,7 +23,7 @@ fn entry_due(r: &[u8], state: u32) -> u32
     if state == 0 {
         layout::first_entry_of(r).0
     } else {
-        state / 65536
+        state / YEARS
     }
 }
 
@@ -29,18 +33,21 @@ fn year_due(r: &[u8], state: u32) -> u16
     if state == 0 {
         layout::open_year_of(r)
     } else {
-        (state % 65536) as u16
+        (state % YEARS) as u16
     }
 }
 
+// The state of an owner once the entry is met.
 fn state_after(r: &[u8]) -> u32
-    requires { ⌜ get nextField (now r) < 65536 ⌝ }
+    requires { ⌜ get nextField (now r) < years ⌝ }
     ensures { λ s. ⌜ StateAfter (now (r .entry)) s ⌝ }
 {
-    layout::next_of(r).0 * 65536 + layout::year_of(r) as u32
+    layout::next_of(r).0 * YEARS + layout::year_of(r) as u32
 }
 
+// A user is met where the users' chain leads, at the end of its own chain.
 fn user_fits(r: &[u8], index: usize, expected: u32, state: u32) -> bool
+    requires { ⌜ length (now r) ≡ recordLength ⌝ }
     ensures { λ s. ⌜ (s ≡ true → UserFits (now (r .entry)) index expected state) ⌝ }
 {
     let opened = year_due(r, state) == layout::activation_year_of(r);
@@ -52,7 +59,9 @@ fn user_fits(r: &[u8], index: usize, expected: u32, state: u32) -> bool
     }
 }
 
+// An entry is met where its owner's chain leads. Its next is a record still to be met, so that the state has room for it.
 fn entry_fits(r: &[u8], owner: &[u8], index: usize, state: u32) -> bool
+    requires { ⌜ length (now r) ≡ recordLength ⌝ }
     ensures { λ s. ⌜ (s ≡ true → EntryFits (now (r .entry)) (now (owner .entry)) index state) ⌝ }
 {
     let year = layout::year_of(r);
@@ -69,6 +78,7 @@ fn entry_fits(r: &[u8], owner: &[u8], index: usize, state: u32) -> bool
     }
 }
 
+// Of each user the pass keeps its state, and of all the numbers that it has seen.
 pub fn accepts(book: &[u8]) -> bool
     requires { ⌜ lengthFits (now book) ≡ true ⌝ }
     ensures { λ r. ⌜ (r ≡ true → sound (now (book .entry)) ≡ true) ⌝ }

@@ -1,5 +1,5 @@
 -- Which records are faulty, case by case, and that a sound book is one without a faulty record.
-use Prim.Native.Nat.{ℕ, _%_, _≤_, _<_}
+use Prim.Native.Nat.{ℕ, _+_, _*_, _%_, _≤_, _<_}
 use mathlib.Core.Path.{_≡_, refl, sym, ap, _∙_}
 use mathlib.Core.Bool.{Bool, true, false, not, _&&_, true≢false}
 use mathlib.Core.List.{List}
@@ -49,6 +49,10 @@ module _ (b : List ℕ) (u : usedFits b ≡ true) where
   pub used-most : used b ≤ capacity b
   unfolding usedFits
   used-most = leb-true (used b) (capacity b) (and-right (leb 1 (used b)) (leb (used b) (capacity b)) u)
+
+  -- the book has a record that is used whole
+  pub used-whole : (i : ℕ) → i < used b → recordLength * i + recordLength ≤ length b
+  used-whole i h = let m = used-most in omega arith
 
   -- the counts of pointers have a place for each record
   pub used-counted : lengthFits b ≡ true → used b ≤ mostRecords

@@ -1,11 +1,11 @@
 -- The rules, test by test, by the years of the owner's record.
 use Prim.Native.Nat.{ℕ}
-use mathlib.Core.Path.{_≡_, sym, ap₂, _∙_}
-use mathlib.Core.Bool.{Bool, _&&_}
+use mathlib.Core.Path.{_≡_, sym, ap₂, _∙_, subst}
+use mathlib.Core.Bool.{Bool, false, _&&_}
 use mathlib.Core.List.{List}
 use denote.Ref.{now}
 use Rattle.accounts.specs.declared.Account.{Account}
-use Rattle.layout.specs.Fields.{get, activationYearField, openYearField}
+use Rattle.layout.specs.Fields.{zeros, get, activationYearField, openYearField}
 use Rattle.records.specs.declared.AdvanceRecord.{AdvanceRecord}
 use Rattle.records.specs.Records.{accountIn, advanceIn}
 use Rattle.book.specs.Book.{advanceFits}
@@ -13,6 +13,12 @@ use Rattle.book.proofs.Guards.{tested, untested}
 use borrow.Author.Needs.{needs}
 use Rattle.book.proofs.advance_record_fits.Statement.{statement}
 use Rattle.book.proofs.advance_record_fits.Tie as tie
+
+abbrev own : List ℕ → List ℕ → Bool
+own o r = advanceFits (accountIn o) (advanceIn r) && (zeros 16 48 r && zeros 68 12 r)
+
+whole-requires : tie.Need-whole-requires
+whole-requires c κs = c .before .before .pre
 
 activation-year-of-requires : tie.Need-activation-year-of-requires
 activation-year-of-requires c κs = search needs
@@ -41,23 +47,28 @@ owned r o f t e fits = let own = fits (accountIn o) (sym f) (sym t) in rw (own, 
 returns : tie.Need-returns
 returns c =
     let s = c .before .before .before in
-    let a = s .before .before .before .before .before .before .args in
+    let a = s .before .before .before .before .before .before .before .args in
+    let w = s .before .before .before .before .whole in
     let gaps = ap₂ _&&_ (s .before .zeros .ensures) (s .zeros2 .ensures) in
-    tested (sym gaps ∙ c .before .before .if1 .taken)
-    (owned (now (a .r)) (now (a .owner)) (s .before .before .before .activation-year-of .ensures) (s .before .before .open-year-of .ensures) (c .before .read-advance .ensures)
-    (c .advance-fits .ensures))
+    subst (λ (r : List ℕ). c .advance-fits .result ≡ own (now (a .owner)) r) (w .ensures)
+    (tested (sym gaps ∙ c .before .before .if1 .taken)
+    (owned (now (w .result)) (now (a .owner)) (s .before .before .before .activation-year-of .ensures) (s .before .before .open-year-of .ensures) (c .before .read-advance .ensures)
+    (c .advance-fits .ensures)))
 
 returns-2 : tie.Need-returns-2
 returns-2 c =
     let s = c .before in
-    let a = s .before .before .before .before .before .before .args in
+    let a = s .before .before .before .before .before .before .before .args in
+    let w = s .before .before .before .before .whole in
     let gaps = ap₂ _&&_ (s .before .zeros .ensures) (s .zeros2 .ensures) in
-    untested (advanceFits (accountIn (now (a .owner))) (advanceIn (now (a .r)))) (sym gaps ∙ c .if1 .left)
+    subst (λ (r : List ℕ). false ≡ own (now (a .owner)) r) (w .ensures)
+    (untested (advanceFits (accountIn (now (a .owner))) (advanceIn (now (w .result)))) (sym gaps ∙ c .if1 .left))
 
 pub advance-record-fits-spec : {M : Type 1} → statement M
 advance-record-fits-spec =
     tie.close
     (tie.spec
+    whole-requires
     activation-year-of-requires
     open-year-of-requires
     zeros-requires

@@ -1,11 +1,11 @@
 -- The rules, test by test, by the years of the owner's record.
 use Prim.Native.Nat.{ℕ}
-use mathlib.Core.Path.{_≡_, sym, _∙_}
-use mathlib.Core.Bool.{Bool}
+use mathlib.Core.Path.{_≡_, sym, _∙_, subst}
+use mathlib.Core.Bool.{Bool, false, _&&_}
 use mathlib.Core.List.{List}
 use denote.Ref.{now}
 use Rattle.accounts.specs.declared.Account.{Account}
-use Rattle.layout.specs.Fields.{get, activationYearField, openYearField}
+use Rattle.layout.specs.Fields.{zeros, get, activationYearField, openYearField}
 use Rattle.records.specs.declared.ClosingRecord.{ClosingRecord}
 use Rattle.records.specs.Records.{accountIn, closingIn}
 use Rattle.book.specs.Book.{closingFits}
@@ -13,6 +13,12 @@ use Rattle.book.proofs.Guards.{tested, untested}
 use borrow.Author.Needs.{needs}
 use Rattle.book.proofs.closing_record_fits.Statement.{statement}
 use Rattle.book.proofs.closing_record_fits.Tie as tie
+
+abbrev own : List ℕ → List ℕ → Bool
+own o r = closingFits (accountIn o) (closingIn r) && zeros 68 12 r
+
+whole-requires : tie.Need-whole-requires
+whole-requires c κs = c .before .before .pre
 
 activation-year-of-requires : tie.Need-activation-year-of-requires
 activation-year-of-requires c κs = search needs
@@ -38,21 +44,26 @@ owned r o f t e fits = let own = fits (accountIn o) (sym f) (sym t) in rw (own, 
 returns : tie.Need-returns
 returns c =
     let s = c .before .before .before in
-    let a = s .before .before .before .before .before .args in
-    tested (sym (s .zeros .ensures) ∙ c .before .before .if1 .taken)
-    (owned (now (a .r)) (now (a .owner)) (s .before .before .activation-year-of .ensures) (s .before .open-year-of .ensures) (c .before .read-closing .ensures)
-    (c .closing-fits .ensures))
+    let a = s .before .before .before .before .before .before .args in
+    let w = s .before .before .before .whole in
+    subst (λ (r : List ℕ). c .closing-fits .result ≡ own (now (a .owner)) r) (w .ensures)
+    (tested (sym (s .zeros .ensures) ∙ c .before .before .if1 .taken)
+    (owned (now (w .result)) (now (a .owner)) (s .before .before .activation-year-of .ensures) (s .before .open-year-of .ensures) (c .before .read-closing .ensures)
+    (c .closing-fits .ensures)))
 
 returns-2 : tie.Need-returns-2
 returns-2 c =
     let s = c .before in
-    let a = s .before .before .before .before .before .args in
-    untested (closingFits (accountIn (now (a .owner))) (closingIn (now (a .r)))) (sym (s .zeros .ensures) ∙ c .if1 .left)
+    let a = s .before .before .before .before .before .before .args in
+    let w = s .before .before .before .whole in
+    subst (λ (r : List ℕ). false ≡ own (now (a .owner)) r) (w .ensures)
+    (untested (closingFits (accountIn (now (a .owner))) (closingIn (now (w .result)))) (sym (s .zeros .ensures) ∙ c .if1 .left))
 
 pub closing-record-fits-spec : {M : Type 1} → statement M
 closing-record-fits-spec =
     tie.close
     (tie.spec
+    whole-requires
     activation-year-of-requires
     open-year-of-requires
     zeros-requires

@@ -16,7 +16,7 @@ unfolding goodRecord pointedOnce
 of-tests b i o l p = rw (o, l, p)
 
 own-rules-fit-requires : tie.Need-own-rules-fit-requires
-own-rules-fit-requires c κs = search needs
+own-rules-fit-requires c κs = c .before .pre .1
 
 links-fit-requires : tie.Need-links-fit-requires
 links-fit-requires c κs = search needs
@@ -24,7 +24,7 @@ links-fit-requires c κs = search needs
 returns : tie.Need-returns
 returns c =
     let s = c .before .before .before in
-    of-tests (now (s .args .book)) (s .args .index .0) (c .before .own-rules-fit .ensures) (c .links-fit .ensures) (s .pre)
+    of-tests (now (s .args .book)) (s .args .index .0) (c .before .own-rules-fit .ensures) (c .links-fit .ensures) (s .pre .0)
 
 pub good-record-spec : {M : Type 1} → statement M
 good-record-spec =

@@ -1,12 +1,14 @@
 -- By the kind; an entry goes by its owner's record.
-use Prim.Native.Nat.{ℕ}
+use Prim.Native.Nat.{ℕ, _+_, _*_, _≤_}
 use mathlib.Core.Path.{_≡_, sym, ap, _∙_}
 use mathlib.Core.Bool.{Bool, false, _&&_}
 use mathlib.Core.List.{List}
 use denote.Ref.{now}
+use lib.ListN.{length}
+use Rattle.layout.proofs.Places.{length-record}
 use Rattle.units.specs.declared.RecordIndex.{RecordIndex}
 use Rattle.units.specs.Units.{recordIndex}
-use Rattle.layout.specs.Fields.{userKind, advanceKind, closingKind, kindField, ownerField, get, recordAt, zeros}
+use Rattle.layout.specs.Fields.{recordLength, userKind, advanceKind, closingKind, kindField, ownerField, get, recordAt, zeros}
 use Rattle.records.specs.Records.{accountIn, advanceIn, closingIn}
 use Rattle.book.specs.Book.{kindAt, ownerOf, accountAt, accountFits, advanceFits, closingFits, rangesFit, zeroBytesFit}
 use Rattle.links.proofs.ByKind.{of-none}
@@ -49,6 +51,9 @@ module _ (b : List ℕ) (i : ℕ) {bytes : List ℕ} (r : bytes ≡ recordAt b i
       in
       sym (ap (λ (t : Bool). t && zeroBytesFit b i) none)
 
+whole : (b : List ℕ) (i : ℕ) → recordLength * i + recordLength ≤ length b → {bytes : List ℕ} → bytes ≡ recordAt b i → length bytes ≡ recordLength
+whole b i h r = ap length r ∙ length-record b i h
+
 record-requires : tie.Need-record-requires
 record-requires c κs = search needs
 
@@ -62,13 +67,22 @@ kind-of-requires : tie.Need-kind-of-requires
 kind-of-requires c κs = search needs
 
 user-record-fits-requires : tie.Need-user-record-fits-requires
-user-record-fits-requires c κs = search needs
+user-record-fits-requires c κs =
+    let s = c .before .before .before .before in
+    let a = s .before .before .args in
+    whole (now (a .book)) (a .index .0) (s .before .before .pre) (s .«record» .ensures)
 
 advance-record-fits-requires : tie.Need-advance-record-fits-requires
-advance-record-fits-requires c κs = search needs
+advance-record-fits-requires c κs =
+    let s = c .before .before .before .before in
+    let a = s .before .before .args in
+    whole (now (a .book)) (a .index .0) (s .before .before .pre) (s .«record» .ensures)
 
 closing-record-fits-requires : tie.Need-closing-record-fits-requires
-closing-record-fits-requires c κs = search needs
+closing-record-fits-requires c κs =
+    let s = c .before .before .before .before in
+    let a = s .before .before .args in
+    whole (now (a .book)) (a .index .0) (s .before .before .pre) (s .«record» .ensures)
 
 returns : tie.Need-returns
 returns c =

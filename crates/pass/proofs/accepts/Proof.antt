@@ -11,9 +11,11 @@ use lib.ListN.{length, replicate, length-set}
 use Rattle.units.specs.declared.RecordIndex.{RecordIndex}
 use Rattle.units.specs.declared.UserNumber.{UserNumber}
 use Rattle.units.proofs.Bools.{and-left, and-right, or-left, or-right}
-use Rattle.layout.specs.Fields.{zeros, recordAt}
+use Rattle.layout.specs.Fields.{recordLength, zeros, recordAt}
+use Rattle.layout.proofs.Places.{length-record}
 use Rattle.book.specs.Book.{usedFits, firstUser}
 use Rattle.book.proofs.Faultless.{used-within}
+use Rattle.pointers.specs.Pointers.{mostRecords}
 use Rattle.numbers.specs.Held.{places}
 use Rattle.pass.proofs.Descended.{Descended, Roomy, roomy, started, number-some, user-met, entry-met, descended}
 use borrow.Author.Needs.{needs}
@@ -27,6 +29,9 @@ head-fits b {head} {within} {rest} h u z t =
     let both = not-false (within && rest) t in
     (sym u ∙ and-left within rest both, ap (zeros 8 72) (sym h) ∙ sym z ∙ and-right within rest both)
 
+whole-size : (b : List ℕ) (left : ℕ) → Roomy b left → 1 < left → {r : List ℕ} → r ≡ recordAt b (left - 1) → length r ≡ recordLength
+whole-size b left room some e = let whole = room .whole in ap length e ∙ length-record b (left - 1) (omega arith)
+
 less-room : (b : List ℕ) (left : ℕ) → Roomy b left → Roomy b (left - 1)
 less-room b left r = let whole = r .whole in let counted = r .counted in record { whole = omega arith; counted = omega arith }
 
@@ -37,7 +42,7 @@ below home index e =
     (omega (arith, some), leb-false index home (or-right (eqb home 0) (leb index home) e))
 
 abbrev Inv-loop : tie.InvT-loop
-Inv-loop book states₀ seen₀ expected₀ left₀ states seen expected left = ((length states ≡ 800) × (length seen ≡ places)) × (Roomy book left × Descended book left expected states seen)
+Inv-loop book states₀ seen₀ expected₀ left₀ states seen expected left = ((length states ≡ mostRecords) × (length seen ≡ places)) × (Roomy book left × Descended book left expected states seen)
 
 abbrev μ-loop : tie.MeasureT-loop
 μ-loop book states₀ seen₀ expected₀ left₀ states seen expected left = left
@@ -69,7 +74,7 @@ loop-holds c =
     let fits : usedFits b ≡ true = head-fits b (c .before .before .before .before .before .«record» .ensures) (c .before .before .before .before .used-fits .ensures) (c .before .before .before .zeros .ensures) (c .before .before .if1 .left) .0 in
     let room : Roomy b (c .used .result) = rw (c .used .ensures) (roomy b (c .before .before .before .before .before .before .before .pre) fits) in
     let first : c .before .first-user .result .0 ≡ firstUser b = ap (λ (i : RecordIndex). i .0) (c .before .first-user .ensures) in
-    ((refl, refl), (room, started b 800 (replicate places 0) (c .used .ensures) (used-within b fits .0) first))
+    ((refl, refl), (room, started b mostRecords (replicate places 0) (c .used .ensures) (used-within b fits .0) first))
 
 sub-index : tie.Need-sub-index Inv-loop μ-loop
 sub-index c = search needs
@@ -87,7 +92,9 @@ array-read-user-fits : tie.Need-array-read-user-fits Inv-loop μ-loop
 array-read-user-fits c = omega arith
 
 user-fits-requires : tie.Need-user-fits-requires Inv-loop μ-loop
-user-fits-requires c κs = search needs
+user-fits-requires c κs =
+    let l = c .before .before .before .before .loop in
+    whole-size (now (c .before .before .before .before .before .before .before .before .before .before .before .before .args .book)) (l .left) (l .inv .1 .0) (omega arith) (c .before .before .whole-record .ensures)
 
 returns-2 : tie.Need-returns-2 Inv-loop μ-loop
 returns-2 c e = absurd (false≢true e)
@@ -126,7 +133,9 @@ array-read-entry-fits : tie.Need-array-read-entry-fits Inv-loop μ-loop
 array-read-entry-fits c = let h = below (c .before .before .before .owner-of .result .0) (c .before .before .before .before .before .before .before .before .loop .left - 1) (c .before .if5 .left) in omega arith
 
 entry-fits-requires : tie.Need-entry-fits-requires Inv-loop μ-loop
-entry-fits-requires c κs = search needs
+entry-fits-requires c κs =
+    let l = c .before .before .before .before .before .before .before .before .loop in
+    whole-size (now (c .before .before .before .before .before .before .before .before .before .before .before .before .before .before .before .before .args .book)) (l .left) (l .inv .1 .0) (omega arith) (c .before .before .before .before .before .before .whole-record .ensures)
 
 returns-5 : tie.Need-returns-5 Inv-loop μ-loop
 returns-5 c e = absurd (false≢true e)

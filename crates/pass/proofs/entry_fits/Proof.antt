@@ -34,7 +34,7 @@ kind-of-requires-2 : tie.Need-kind-of-requires-2
 kind-of-requires-2 c κs = search needs
 
 advance-record-fits-requires : tie.Need-advance-record-fits-requires
-advance-record-fits-requires c κs = search needs
+advance-record-fits-requires c κs = c .before .before .before .before .before .before .before .before .before .before .before .pre
 
 cast-result : tie.Need-cast-result
 cast-result c = search needs
@@ -46,7 +46,7 @@ cast-result-2 : tie.Need-cast-result-2
 cast-result-2 c = search needs
 
 closing-record-fits-requires : tie.Need-closing-record-fits-requires
-closing-record-fits-requires c κs = search needs
+closing-record-fits-requires c κs = c .before .before .before .before .before .before .before .before .before .before .before .pre
 
 returns-2 : tie.Need-returns-2
 returns-2 c =

@@ -16,7 +16,7 @@ entry-due-requires : tie.Need-entry-due-requires
 entry-due-requires c κs = search needs
 
 user-record-fits-requires : tie.Need-user-record-fits-requires
-user-record-fits-requires c κs = search needs
+user-record-fits-requires c κs = c .before .before .before .before .before .pre
 
 returns : tie.Need-returns
 returns c =

@@ -1,5 +1,4 @@
 -- By whether a state is known.
-use mathlib.Core.Path.{ap}
 use borrow.Author.Tests.{eq-eqb, ne-eqb}
 use Rattle.pass.specs.Steps.{yearDue}
 use borrow.Author.Needs.{needs}

@@ -8,7 +8,7 @@ use Rattle.book.specs.Book.{used, goodRecord}
 use native.Mathlib.Omega.{arith}
 use mathlib.Core.Logic.{⊎-elim}
 use borrow.Author.Tests.{not-true, not-false}
-use Rattle.soundness.proofs.Faults.{used-counted}
+use Rattle.soundness.proofs.Faults.{used-counted, used-whole}
 use Rattle.soundness.proofs.Homes.{belongs, Home, home-user, home-other, homes-next, entries-next, Outcome, outcome-none, outcome-some, stray-bad}
 use Rattle.soundness.proofs.judge_records.Statement.{statement}
 use Rattle.soundness.proofs.judge_records.Tie as tie
@@ -56,8 +56,10 @@ good-record-requires : tie.Need-good-record-requires Inv-loop μ-loop Inv-users 
 good-record-requires c κs =
     let a = c .before .before .before in
     let s = a .before .before .before .before in
-    let b = now (s .args .book) in
-    a .before .before .counts .ensures (a .users .i) (a .users .inv .0) (omega (arith, used-counted b (s .pre .1) (s .pre .0)))
+    let b = now (s .args .book) in (
+      a .before .before .counts .ensures (a .users .i) (a .users .inv .0) (omega (arith, used-counted b (s .pre .1) (s .pre .0))),
+      used-whole b (s .pre .1) (a .users .i) (omega (arith, a .before .used .ensures)),
+    )
 
 add-e : tie.Need-add-e Inv-loop μ-loop Inv-users μ-users
 add-e c = search needs
@@ -86,8 +88,10 @@ good-record-requires-2 c κs =
     let l = c .before .before .before in
     let a = l .before .before .before .before .before .before in
     let s = a .before .before .before .before in
-    let b = now (s .args .book) in
-    a .before .before .counts .ensures (l .loop .e) (omega arith) (omega (arith, used-counted b (s .pre .1) (s .pre .0)))
+    let b = now (s .args .book) in (
+      a .before .before .counts .ensures (l .loop .e) (omega arith) (omega (arith, used-counted b (s .pre .1) (s .pre .0))),
+      used-whole b (s .pre .1) (l .loop .e) (omega (arith, a .before .used .ensures)),
+    )
 
 add-e-2 : tie.Need-add-e-2 Inv-loop μ-loop Inv-users μ-users
 add-e-2 c = search needs
