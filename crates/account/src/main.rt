@@ -1,4 +1,4 @@
-// A user's account for the clerk who gets the letters: a book on standard input, a user number as the argument. It prints
+// A user's account for a clerk: a book on standard input, a user number as the argument. It prints
 // the account year by year, oldest first, then the totals of the statement and the conserved sum, in euro.
 use accounts::Balance;
 use book_input::Input;

@@ -6,7 +6,7 @@ ghost use lib.ListN.{length};
 ghost use Rattle.numbers.specs.Held.{places, slotOf, Inserted};
 
 // 2,048 slots, and a place above them for each record that a book can have.
-const PLACES: usize = 2848;
+pub const PLACES: usize = 2848;
 
 // The top 11 bits of a product modulo 2^32 spread numbers that follow one another.
 fn slot_of(number: u32) -> usize
@@ -16,7 +16,7 @@ fn slot_of(number: u32) -> usize
 }
 
 // Adds a number that the table does not hold. The answer is false where it holds it, or where no place is left above its slot.
-pub fn insert(table: &mut [u32; 2848], number: u32) -> bool
+pub fn insert(table: &mut [u32; PLACES], number: u32) -> bool
     requires { ⌜ length (now table) ≡ places ⌝ }
     requires { ⌜ 0 < number ⌝ }
     ensures { λ r. ⌜ length (now (table .exit)) ≡ places ⌝ }

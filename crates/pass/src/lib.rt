@@ -8,6 +8,8 @@ ghost use Rattle.layout.specs.Fields.{recordLength, get, nextField};
 ghost use Rattle.book.specs.Book.{lengthFits, sound};
 ghost use Rattle.pass.specs.Steps.{years, entryDue, yearDue, UserFits, EntryFits, StateAfter};
 use layout::whole_record;
+use numbers::PLACES;
+use pointers::MOST_RECORDS;
 use units::RecordIndex;
 use view::ADVANCE;
 use view::CLOSING;
@@ -87,8 +89,8 @@ pub fn accepts(book: &[u8]) -> bool
     if !(view::used_fits(book) & layout::zeros(head, 8, 72)) {
         return false;
     }
-    let mut states = [0u32; 800];
-    let mut seen = [0u32; 2848];
+    let mut states = [0u32; MOST_RECORDS];
+    let mut seen = [0u32; PLACES];
     let mut expected = view::first_user(book).0;
     let mut left = view::used(book) as usize;
     while 1 < left {
