@@ -11,12 +11,14 @@ ghost use Rattle.records.specs.Records.{accountIn, advanceIn, closingIn};
 use accounts::Account;
 use accounts::Balance;
 use calendar::Halves;
+use calendar::JANUARY;
+use calendar::JUNE;
+use calendar::OCTOBER;
+use layout::RECORD_LENGTH;
 use records::AdvanceRecord;
 use records::ClosingRecord;
 use units::Ticks;
 use values::Details;
-
-const RECORD: usize = 80;
 
 const SHORTEST: usize = 160;
 
@@ -26,9 +28,9 @@ const MAX_POWER: u32 = 200_000;
 
 const FIRST_ACTIVATION: u16 = 2013;
 
-const LAST_ACTIVATION: u16 = 2099;
+pub const LAST_ACTIVATION: u16 = 2099;
 
-const LAST_OPEN_YEAR: u16 = 2100;
+pub const LAST_OPEN_YEAR: u16 = 2100;
 
 // In ticks: C, O, a liquidation, an advance; F; a contribution; the advances of a half.
 const MAX_YEAR: u64 = 360_000_000_000_000;
@@ -41,21 +43,14 @@ const MAX_HALF: u64 = 180_000_000_000_000;
 // The least balance, in two's complement.
 const LEAST_BALANCE: u64 = 18_446_384_073_709_551_616;
 // In kWh.
-const MAX_HALF_KWH: u32 = 360_000_000;
-
-// Run bits.
-const JUNE: u8 = 1;
-
-const OCTOBER: u8 = 2;
-
-const JANUARY: u8 = 4;
+pub const MAX_HALF_KWH: u32 = 360_000_000;
 
 // Refusal 1 looks at this.
 pub fn length_fits(book: &[u8]) -> bool
     ensures { λ r. ⌜ r ≡ lengthFits (now (book .entry)) ⌝ }
 {
     let n = book.len();
-    (SHORTEST <= n) & (n <= LONGEST) & (n % RECORD == 0)
+    (SHORTEST <= n) & (n <= LONGEST) & (n % RECORD_LENGTH == 0)
 }
 
 // Refusal 5 looks at this.
@@ -211,7 +206,7 @@ fn closing_fits(activation: u16, open_year: u16, c: ClosingRecord) -> bool
     (year_fits(activation, open_year, c.year) & (c.option <= 1)) & ((energy & flat) & rest)
 }
 
-// A RECORD'S OWN RULES: its ranges and its zero bytes. Those of an entry go by its owner's record too.
+// A RECORD_LENGTH'S OWN RULES: its ranges and its zero bytes. Those of an entry go by its owner's record too.
 
 pub fn user_record_fits(r: &[u8]) -> bool
     requires { ⌜ length (now r) ≡ recordLength ⌝ }

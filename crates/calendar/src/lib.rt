@@ -57,11 +57,11 @@ pub fn in_window(open_year: u16, year: u32, month: u32, day: u32) -> bool
 }
 
 // Run bits: "1 June, 2 October, 4 January".
-const JUNE: u8 = 1;
+pub const JUNE: u8 = 1;
 
-const OCTOBER: u8 = 2;
+pub const OCTOBER: u8 = 2;
 
-const JANUARY: u8 = 4;
+pub const JANUARY: u8 = 4;
 
 // The halves of a year that a run pays.
 pub struct Halves {

@@ -7,13 +7,13 @@ ghost use lib.ListN.{length};
 ghost use Rattle.layout.specs.Fields.{recordLength, get, nextField};
 ghost use Rattle.book.specs.Book.{lengthFits, sound};
 ghost use Rattle.pass.specs.Steps.{years, entryDue, yearDue, UserFits, EntryFits, StateAfter};
+use layout::kind::ADVANCE;
+use layout::kind::CLOSING;
+use layout::kind::USER;
 use layout::whole_record;
 use numbers::PLACES;
 use pointers::MOST_RECORDS;
 use units::RecordIndex;
-use view::ADVANCE;
-use view::CLOSING;
-use view::USER;
 
 // No year reaches this.
 const YEARS: u32 = 65_536;

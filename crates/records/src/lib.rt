@@ -14,12 +14,6 @@ use units::RecordIndex;
 use units::Ticks;
 use values::Details;
 
-const USER: u8 = 1;
-
-const ADVANCE: u8 = 2;
-
-const CLOSING: u8 = 3;
-
 // A user record: its links and the account.
 pub struct UserRecord {
     pub next: RecordIndex,

@@ -3,6 +3,10 @@ ghost use mathlib.Core.Path.{_≡_};
 ghost use Rattle.calls.specs.Refusals.{refuse, hasRoom, dayAndOption, electionOpen, runOpen, orderFits, yearOpen};
 ghost use Rattle.refusals.specs.Objections.{enrolObjection, electObjection, advanceObjection, closeObjection};
 use accounts::Account;
+use book::LAST_ACTIVATION;
+use book::LAST_OPEN_YEAR;
+use book::MAX_HALF_KWH;
+use units::MAX_PRICE;
 use units::Rate;
 use units::RecordIndex;
 use units::UserNumber;
@@ -10,13 +14,9 @@ use units::WideKwh;
 use values::Details;
 
 // The last year that an election's window, a run or a closing may name.
-const LAST_YEAR: u32 = 2099;
+const LAST_YEAR: u32 = LAST_ACTIVATION as u32;
 
-const LAST_OPEN_YEAR: u16 = 2100;
-
-const MAX_PRICE: u64 = 500_000;
-
-const MAX_ESTIMATE: u64 = 360_000_000;
+const MAX_ESTIMATE: u64 = MAX_HALF_KWH as u64;
 
 fn refuse(fits: bool, number: u32, later: u32) -> u32
     ensures { λ r. ⌜ r ≡ refuse fits number later ⌝ }

@@ -6,16 +6,12 @@ ghost use Rattle.book.specs.Book.{firstUser, usedFits, kindAt, hasKind, isUser,
 ghost use Rattle.book.specs.Book.{used as usedIn};
 use accounts::Account;
 use layout::RECORD_LENGTH;
+use layout::kind::ADVANCE;
+use layout::kind::CLOSING;
+use layout::kind::USER;
 use layout::record;
 use units::RecordIndex;
 use units::UserNumber;
-
-// Kinds of records.
-pub const USER: u8 = 1;
-
-pub const ADVANCE: u8 = 2;
-
-pub const CLOSING: u8 = 3;
 
 // THE HEAD
 
