@@ -66,12 +66,6 @@ pub number-eight : (at : ℕ) (s : List ℕ) → number 8 at s ≡ number 4 at s
 unfolding littleEndian
 number-eight at s = simp (number-bytes, add-assoc) (omega arith)
 
-pub number-eight-bytes : (at : ℕ) (s : List ℕ) → number 8 at s
-    ≡ ((getD s at 0 + getD s (at + 1) 0 * 256) + (getD s (at + 2) 0 + getD s (at + 3) 0 * 256) * 65536)
-    + ((getD s (at + 4) 0 + getD s (at + 5) 0 * 256) + (getD s (at + 6) 0 + getD s (at + 7) 0 * 256) * 65536) * 4294967296
-unfolding littleEndian
-number-eight-bytes at s = rw (number-bytes 8 at s, add-zero at) (omega arith)
-
 pub drop-take : (o at : ℕ) (s : List ℕ) → drop o (take at s) ≡ take (at - o) (drop o s)
 drop-take zero at s = rw sub-zero
 drop-take (suc o) zero s = let none : 0 - suc o ≡ 0 = omega arith in rw none

@@ -32,7 +32,7 @@ fn eight(low: u32, high: u32) -> u64
     (low as u64) + (high as u64) * 4294967296
 }
 
-// Bytes that all stand in the string are read at once; else each by itself.
+// Bytes that all stand in the string are read at once (`load_u32` is for those alone); else each by itself.
 pub fn read_u16(s: &[u8], at: usize) -> u16
     requires { ⌜ at < 2 ^ 40 ⌝ }
     ensures { λ r. ⌜ r ≡ number 2 at (now (s .entry)) ⌝ }
@@ -44,12 +44,19 @@ pub fn read_u16(s: &[u8], at: usize) -> u16
     }
 }
 
+pub fn load_u32(s: &[u8], at: usize) -> u32
+    requires { ⌜ at + 4 ≤ length (now s) ⌝ }
+    ensures { λ r. ⌜ r ≡ number 4 at (now (s .entry)) ⌝ }
+{
+    four(s[at], s[at + 1], s[at + 2], s[at + 3])
+}
+
 pub fn read_u32(s: &[u8], at: usize) -> u32
     requires { ⌜ at < 2 ^ 40 ⌝ }
     ensures { λ r. ⌜ r ≡ number 4 at (now (s .entry)) ⌝ }
 {
     if at + 4 <= s.len() {
-        four(s[at], s[at + 1], s[at + 2], s[at + 3])
+        load_u32(s, at)
     } else {
         four(
             byte_at(s, at),
@@ -65,10 +72,7 @@ pub fn read_u64(s: &[u8], at: usize) -> u64
     ensures { λ r. ⌜ r ≡ number 8 at (now (s .entry)) ⌝ }
 {
     if at + 8 <= s.len() {
-        eight(
-            four(s[at], s[at + 1], s[at + 2], s[at + 3]),
-            four(s[at + 4], s[at + 5], s[at + 6], s[at + 7]),
-        )
+        eight(load_u32(s, at), load_u32(s, at + 4))
     } else {
         eight(read_u32(s, at), read_u32(s, at + 4))
     }
@@ -76,7 +80,7 @@ pub fn read_u64(s: &[u8], at: usize) -> u64
 
 // The image with the lowest `width` bytes of a number from `at` on.
 pub fn write(image: [u8; 80], at: usize, width: usize, n: u64) -> [u8; 80]
-    requires { ⌜ (length image ≡ 80) × (at + width ≤ 80) ⌝ }
+    requires { ⌜ at + width ≤ 80 ⌝ }
     ensures { λ r. ⌜ r ≡ stored at (bytesOf width n) image ⌝ }
 {
     let mut filled = image;

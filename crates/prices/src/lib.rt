@@ -17,18 +17,20 @@ use units::Rate;
 use units::Ticks;
 
 fn energy_row(s: &[u8], place: usize, month: usize) -> [Kwh; 3]
+    requires { ⌜ length (now s) ≡ sheetLength ⌝ }
     requires { ⌜ (place < 22) × (month < 12) ⌝ }
     ensures { λ r. ⌜ r ≡ energyRow (now (s .entry)) place month ⌝ }
 {
     [
-        Kwh(sheet::word_at(s, month, place)),
-        Kwh(sheet::word_at(s, month, place + 1)),
-        Kwh(sheet::word_at(s, month, place + 2)),
+        Kwh(sheet::number_at(s, month, place)),
+        Kwh(sheet::number_at(s, month, place + 1)),
+        Kwh(sheet::number_at(s, month, place + 2)),
     ]
 }
 
 // The energies of the year, by month and band, from a place of the month on.
 pub fn energies(s: &[u8], place: usize) -> [[Kwh; 3]; 12]
+    requires { ⌜ length (now s) ≡ sheetLength ⌝ }
     requires { ⌜ place < 22 ⌝ }
     ensures { λ r. ⌜ EnergyRows (energyRow (now (s .entry)) place) r ⌝ }
 {

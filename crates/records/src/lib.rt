@@ -1,6 +1,8 @@
 // The records of the book by value: read from a record's bytes, and written as a whole image (document 01, "Book").
 ghost use mathlib.Core.Path.{_≡_};
-ghost use Rattle.records.specs.Records.{headImage, userImage, advanceImage, closingImage, accountIn, userIn, advanceIn, closingIn};
+ghost use lib.ListN.{length};
+ghost use Rattle.layout.specs.Fields.{recordLength};
+ghost use Rattle.records.specs.Records.{headImage, userImage, advanceImage, closingImage, accountIn, advanceIn, closingIn};
 use accounts::Account;
 use accounts::Balance;
 use layout::kind;
@@ -58,7 +60,7 @@ fn read_details(r: &[u8]) -> Details
     }
 }
 
-pub fn read_account(r: &[u8]) -> Account
+fn account_of(r: &[u8]) -> Account
     ensures { λ a. ⌜ a ≡ accountIn (now (r .entry)) ⌝ }
 {
     Account {
@@ -74,17 +76,7 @@ pub fn read_account(r: &[u8]) -> Account
     }
 }
 
-pub fn read_user(r: &[u8]) -> UserRecord
-    ensures { λ u. ⌜ u ≡ userIn (now (r .entry)) ⌝ }
-{
-    UserRecord {
-        next: layout::next_of(r),
-        first: layout::first_entry_of(r),
-        account: read_account(r),
-    }
-}
-
-pub fn read_advance(r: &[u8]) -> AdvanceRecord
+fn advance_of(r: &[u8]) -> AdvanceRecord
     ensures { λ a. ⌜ a ≡ advanceIn (now (r .entry)) ⌝ }
 {
     AdvanceRecord {
@@ -96,7 +88,7 @@ pub fn read_advance(r: &[u8]) -> AdvanceRecord
     }
 }
 
-pub fn read_closing(r: &[u8]) -> ClosingRecord
+fn closing_of(r: &[u8]) -> ClosingRecord
     ensures { λ c. ⌜ c ≡ closingIn (now (r .entry)) ⌝ }
 {
     ClosingRecord {
@@ -113,6 +105,31 @@ pub fn read_closing(r: &[u8]) -> ClosingRecord
         owner: layout::owner_of(r),
     }
 }
+
+// WHOLE RECORDS: read from a part of known length, so that no read looks for the record's end.
+
+pub fn read_account(r: &[u8]) -> Account
+    requires { ⌜ length (now r) ≡ recordLength ⌝ }
+    ensures { λ a. ⌜ a ≡ accountIn (now (r .entry)) ⌝ }
+{
+    account_of(layout::whole(r))
+}
+
+pub fn read_advance(r: &[u8]) -> AdvanceRecord
+    requires { ⌜ length (now r) ≡ recordLength ⌝ }
+    ensures { λ a. ⌜ a ≡ advanceIn (now (r .entry)) ⌝ }
+{
+    advance_of(layout::whole(r))
+}
+
+pub fn read_closing(r: &[u8]) -> ClosingRecord
+    requires { ⌜ length (now r) ≡ recordLength ⌝ }
+    ensures { λ c. ⌜ c ≡ closingIn (now (r .entry)) ⌝ }
+{
+    closing_of(layout::whole(r))
+}
+
+// IMAGES
 
 pub fn head_image(used: u32, first: RecordIndex) -> [u8; 80]
     ensures { λ r. ⌜ r ≡ headImage used (first .0) ⌝ }

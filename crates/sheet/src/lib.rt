@@ -2,8 +2,9 @@
 // is an ordinary input.
 ghost use mathlib.Core.Path.{_≡_};
 ghost use Prim.Native.Nat.{_<_};
+ghost use lib.ListN.{length};
 ghost use Rattle.units.specs.Units.{userNumber, wideKwh};
-ghost use Rattle.sheet.specs.YearSheet.{sheetUser, sheetYear, withdrawnReading, injectedReading, word, limitAt, unusedBand, atFault, headerFits, lastWordsFit, refused11, refused13, refused14, monthWithdrawn, FirstFault};
+ghost use Rattle.sheet.specs.YearSheet.{sheetLength, sheetUser, sheetYear, withdrawnReading, injectedReading, word, limitAt, unusedBand, atFault, headerFits, lastWordsFit, refused11, refused13, refused14, monthWithdrawn, FirstFault};
 use tariff::MONTHLY_THRESHOLD;
 use units::MAX_KWH;
 use units::MAX_PRICE;
@@ -48,8 +49,24 @@ pub fn injected_reading(s: &[u8]) -> u8
     codec::byte_at(s, 7)
 }
 
-// The number at a place of a month, both counted from 0.
-pub fn word_at(s: &[u8], month: usize, place: usize) -> u32
+// A sheet of the right length as a part of known length, so that no read of it has to look for its end.
+pub fn whole<'a>(s: &'a [u8]) -> &'a [u8]
+    requires { ⌜ length (now s) ≡ sheetLength ⌝ }
+    ensures { λ r. ⌜ now r ≡ now (s .entry) ⌝ }
+{
+    &s[0..LENGTH]
+}
+
+// The number at a place of a month, both counted from 0: of a sheet of the right length, and of any.
+pub fn number_at(s: &[u8], month: usize, place: usize) -> u32
+    requires { ⌜ length (now s) ≡ sheetLength ⌝ }
+    requires { ⌜ (month < 12) × (place < 24) ⌝ }
+    ensures { λ r. ⌜ r ≡ word (now (s .entry)) month place ⌝ }
+{
+    codec::load_u32(s, HEADER + 96 * month + 4 * place)
+}
+
+fn word_at(s: &[u8], month: usize, place: usize) -> u32
     requires { ⌜ (month < 12) × (place < 24) ⌝ }
     ensures { λ r. ⌜ r ≡ word (now (s .entry)) month place ⌝ }
 {
@@ -80,7 +97,12 @@ fn last_words_fit(s: &[u8]) -> bool
 pub fn header_wrong(s: &[u8]) -> bool
     ensures { λ r. ⌜ r ≡ refused11 (now (s .entry)) ⌝ }
 {
-    !((s.len() == LENGTH) & (header_fits(s) & last_words_fit(s)))
+    if s.len() == LENGTH {
+        let s = whole(s);
+        !(header_fits(s) & last_words_fit(s))
+    } else {
+        true
+    }
 }
 
 fn limit_at(place: usize) -> u64

@@ -115,7 +115,7 @@ fn rate_at(s: &[u8], month: usize, place: usize) -> Rate
     requires { ⌜ (month < 12) × ((6 ≤ place) × (place < 23)) ⌝ }
     ensures { λ r. ⌜ (r ≡ rate (word (now (s .entry)) month place)) × (r .0 ≤ maxPrice) ⌝ }
 {
-    Rate(sheet::word_at(s, month, place) as u64)
+    Rate(sheet::number_at(s, month, place) as u64)
 }
 
 // The tier rates of a month.

@@ -9,29 +9,8 @@ use Rattle.codec.proofs.read_u32.Tie as tie
 add-if1 : tie.Need-add-if1
 add-if1 c = search needs
 
-shared-slice-read-four : tie.Need-shared-slice-read-four
-shared-slice-read-four c = search needs
-
-add-four : tie.Need-add-four
-add-four c = search needs
-
-shared-slice-read-four-2 : tie.Need-shared-slice-read-four-2
-shared-slice-read-four-2 c = search needs
-
-add-four-2 : tie.Need-add-four-2
-add-four-2 c = search needs
-
-shared-slice-read-four-3 : tie.Need-shared-slice-read-four-3
-shared-slice-read-four-3 c = search needs
-
-add-four-3 : tie.Need-add-four-3
-add-four-3 c = search needs
-
-shared-slice-read-four-4 : tie.Need-shared-slice-read-four-4
-shared-slice-read-four-4 c = search needs
-
-four-requires : tie.Need-four-requires
-four-requires c κs = search needs
+load-u32-requires : tie.Need-load-u32-requires
+load-u32-requires c κs = search needs
 
 byte-at-requires : tie.Need-byte-at-requires
 byte-at-requires c κs = search needs
@@ -54,32 +33,23 @@ add-byte-at-3 c = search needs
 byte-at-requires-4 : tie.Need-byte-at-requires-4
 byte-at-requires-4 c κs = search needs
 
-four-requires-2 : tie.Need-four-requires-2
-four-requires-2 c κs = search needs
+four-requires : tie.Need-four-requires
+four-requires c κs = search needs
 
 returns : tie.Need-returns
-returns c =
-    let a = c .before .before .before .before .before .before .before .args in
-    omega (arith, number-four (a .at) (now (a .s)), c .four .ensures)
+returns c = search needs
 
 returns-2 : tie.Need-returns-2
 returns-2 c =
     let a = c .before .before .before .before .before .before .before .args in
-    omega (arith, number-four (a .at) (now (a .s)), c .four2 .ensures, c .before .byte-at4 .ensures, c .before .before .byte-at3 .ensures, c .before .before .before .byte-at2 .ensures, c .before .before .before .before .byte-at .ensures)
+    omega (arith, number-four (a .at) (now (a .s)), c .four .ensures, c .before .byte-at4 .ensures, c .before .before .byte-at3 .ensures, c .before .before .before .byte-at2 .ensures, c .before .before .before .before .byte-at .ensures)
 
 pub read-u32-spec : {M : Type 1} → statement M
 read-u32-spec =
     tie.close
     (tie.spec
     add-if1
-    shared-slice-read-four
-    add-four
-    shared-slice-read-four-2
-    add-four-2
-    shared-slice-read-four-3
-    add-four-3
-    shared-slice-read-four-4
-    four-requires
+    load-u32-requires
     byte-at-requires
     add-byte-at
     byte-at-requires-2
@@ -87,6 +57,6 @@ read-u32-spec =
     byte-at-requires-3
     add-byte-at-3
     byte-at-requires-4
-    four-requires-2
+    four-requires
     returns
     returns-2)

@@ -41,7 +41,7 @@ abbrev μ-loop : tie.MeasureT-loop
 μ-loop at width n filled₀ rest₀ k₀ filled rest k = width - k
 
 loop-holds : tie.Need-loop-holds Inv-loop μ-loop
-loop-holds c = (search needs, (c .pre .0, left-all (c .args .at) (c .args .width) (c .args .n) (c .args .image)))
+loop-holds c = (search needs, (search needs, left-all (c .args .at) (c .args .width) (c .args .n) (c .args .image)))
 
 cast-filled : tie.Need-cast-filled Inv-loop μ-loop
 cast-filled c = search needs

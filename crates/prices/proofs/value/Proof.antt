@@ -19,7 +19,9 @@ injected-reading-requires : tie.Need-injected-reading-requires
 injected-reading-requires c κs = search needs
 
 energies-requires : tie.Need-energies-requires
-energies-requires c κs = search needs
+energies-requires c κs =
+    let a = c .before .before in
+    (passed-length (now (a .args .s)) (a .pre .past11), lit≤ tt)
 
 prices-requires : tie.Need-prices-requires
 prices-requires c κs =
