@@ -22,7 +22,7 @@ use Rattle.soundness.specs.Verdicts.{Accepted}
 use Rattle.calls.specs.Bookings.{findUser, closingEntry, closed, valuesOf}
 use Rattle.calls.specs.Refusals.{refuse, hasRoom, present, yearOpen, closeRefusal}
 use Rattle.calls.specs.Calls.{Call, close, refusalOf, booked}
-use Rattle.refusals.specs.Objections.{closeObjection}
+use Rattle.refusals.specs.Objections.{sheetObjection, closeObjection}
 use Rattle.bookings.proofs.Good.{length-within}
 use Rattle.bookings.proofs.Widths.{account-within}
 use Rattle.bookings.proofs.Accepted.{CloseAccepted, close-accepted}
@@ -71,11 +71,11 @@ module _ (b : List ℕ) (a : Accepted b) (s : List ℕ) (number : UserNumber) (u
   objected = closeObjection s (user .0) account room
 
   sound-refusal : objected ≡ closeRefusal b s
-  unfolding closeRefusal closeObjection present
+  unfolding closeRefusal closeObjection sheetObjection present
   sound-refusal = rw (a .fits, a .isSound, left, account-is, user-is)
 
   not-damaged : objected ≡ 2 → ⊥
-  unfolding closeObjection
+  unfolding closeObjection sheetObjection
   not-damaged =
       refuse-apart (not (refused11 s)) 2 11 _ (omega arith)
       (refuse-apart (not (eqb (user .0) 0)) 2 6 _ (omega arith)

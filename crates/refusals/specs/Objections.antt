@@ -25,8 +25,10 @@ unfoldable pub advanceObjection : ℕ → Account → ℕ → ℕ → ℕ → �
 advanceObjection user a year run rate estimate1 estimate2 room =
     refuse (known user) 6 (refuse (runOpen a year run) 9 (refuse (orderFits rate estimate1 estimate2) 10 (refuse room 3 0)))
 
+unfoldable pub sheetObjection : List ℕ → ℕ → Account → Bool → ℕ
+sheetObjection s user a room =
+    refuse (known user) 6
+    (refuse (yearOpen a (sheetYear s)) 12 (refuse (not (refused13 s)) 13 (refuse (not (refused14 (a .details .class) s)) 14 (refuse room 3 0))))
+
 unfoldable pub closeObjection : List ℕ → ℕ → Account → Bool → ℕ
-closeObjection s user a room =
-    refuse (not (refused11 s)) 11
-    (refuse (known user) 6
-    (refuse (yearOpen a (sheetYear s)) 12 (refuse (not (refused13 s)) 13 (refuse (not (refused14 (a .details .class) s)) 14 (refuse room 3 0)))))
+closeObjection s user a room = refuse (not (refused11 s)) 11 (sheetObjection s user a room)

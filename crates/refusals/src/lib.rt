@@ -1,7 +1,7 @@
 // The refusals of each call once the book is sound (document 01, "Who brings which number").
 ghost use mathlib.Core.Path.{_≡_};
 ghost use Rattle.calls.specs.Refusals.{refuse, hasRoom, dayAndOption, electionOpen, runOpen, orderFits, yearOpen};
-ghost use Rattle.refusals.specs.Objections.{enrolObjection, electObjection, advanceObjection, closeObjection};
+ghost use Rattle.refusals.specs.Objections.{enrolObjection, electObjection, advanceObjection, sheetObjection, closeObjection};
 use accounts::Account;
 use book::LAST_ACTIVATION;
 use book::LAST_OPEN_YEAR;
@@ -122,9 +122,9 @@ pub fn advance_objection(
     refuse(!(user.0 == 0), 6, refuse(run_open(a, year, run), 9, order))
 }
 
-// 11 6 12 13 14 3
-pub fn close_objection(s: &[u8], user: RecordIndex, a: Account, room: bool) -> u32
-    ensures { λ r. ⌜ r ≡ closeObjection (now (s .entry)) (user .0) a room ⌝ }
+// 6 12 13 14 3
+fn sheet_objection(s: &[u8], user: RecordIndex, a: Account, room: bool) -> u32
+    ensures { λ r. ⌜ r ≡ sheetObjection (now (s .entry)) (user .0) a room ⌝ }
 {
     let excess = refuse(
         !sheet::domestic_excess(a.details.class, s),
@@ -133,5 +133,15 @@ pub fn close_objection(s: &[u8], user: RecordIndex, a: Account, room: bool) -> u
     );
     let numbers = refuse(!sheet::number_wrong(s), 13, excess);
     let year = refuse(year_open(a, sheet::year(s)), 12, numbers);
-    refuse(!sheet::header_wrong(s), 11, refuse(!(user.0 == 0), 6, year))
+    refuse(!(user.0 == 0), 6, year)
+}
+
+// 11, then the rest of a sheet that has its length
+pub fn close_objection(s: &[u8], user: RecordIndex, a: Account, room: bool) -> u32
+    ensures { λ r. ⌜ r ≡ closeObjection (now (s .entry)) (user .0) a room ⌝ }
+{
+    if sheet::header_wrong(s) {
+        return 11;
+    }
+    sheet_objection(sheet::whole(s), user, a, room)
 }

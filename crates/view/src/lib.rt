@@ -1,7 +1,10 @@
 // What a book holds, read from its bytes: the head, what each record is, and its fields (document 01, "Book"). Any bytes are a
 // book here: an index may lead anywhere, and a record past the end has zeros in all its fields.
 ghost use mathlib.Core.Path.{_≡_};
+ghost use Prim.Native.Nat.{_+_, _*_, _≤_};
+ghost use lib.ListN.{length};
 ghost use Rattle.units.specs.Units.{userNumber, recordIndex};
+ghost use Rattle.layout.specs.Fields.{recordLength};
 ghost use Rattle.book.specs.Book.{firstUser, usedFits, kindAt, hasKind, isUser, isAdvance, isClosing, isEntry, ownerOf, accountAt, nextOf, firstEntryOf, numberOf, rankOf, activationOf, openYearOf};
 ghost use Rattle.book.specs.Book.{used as usedIn};
 use accounts::Account;
@@ -115,8 +118,10 @@ pub fn open_year_of(book: &[u8], index: RecordIndex) -> u16
     layout::open_year_of(record(book, index))
 }
 
+// Of a record that the book has whole.
 pub fn account_at(book: &[u8], index: RecordIndex) -> Account
+    requires { ⌜ recordLength * index .0 + recordLength ≤ length (now book) ⌝ }
     ensures { λ r. ⌜ r ≡ accountAt (now (book .entry)) (index .0) ⌝ }
 {
-    records::read_account(record(book, index))
+    records::read_account(layout::whole_record(book, index.0 as usize))
 }

@@ -1,9 +1,10 @@
 -- The rules, test by test, by the years of the owner's record.
 use Prim.Native.Nat.{ℕ}
-use mathlib.Core.Path.{_≡_, sym, ap₂, _∙_, subst}
+use mathlib.Core.Path.{_≡_, sym, ap, ap₂, _∙_, subst}
 use mathlib.Core.Bool.{Bool, false, _&&_}
 use mathlib.Core.List.{List}
 use denote.Ref.{now}
+use lib.ListN.{length}
 use Rattle.accounts.specs.declared.Account.{Account}
 use Rattle.layout.specs.Fields.{zeros, get, activationYearField, openYearField}
 use Rattle.records.specs.declared.AdvanceRecord.{AdvanceRecord}
@@ -33,7 +34,7 @@ zeros-requires-2 : tie.Need-zeros-requires-2
 zeros-requires-2 c κs = search needs
 
 read-advance-requires : tie.Need-read-advance-requires
-read-advance-requires c κs = search needs
+read-advance-requires c κs = ap length (c .before .before .before .before .before .whole .ensures) ∙ c .before .before .before .before .before .before .before .before .pre
 
 advance-fits-requires : tie.Need-advance-fits-requires
 advance-fits-requires c κs = search needs

@@ -1,9 +1,10 @@
 -- The rules, test by test, by the years of the owner's record.
 use Prim.Native.Nat.{ℕ}
-use mathlib.Core.Path.{_≡_, sym, _∙_, subst}
+use mathlib.Core.Path.{_≡_, sym, ap, _∙_, subst}
 use mathlib.Core.Bool.{Bool, false, _&&_}
 use mathlib.Core.List.{List}
 use denote.Ref.{now}
+use lib.ListN.{length}
 use Rattle.accounts.specs.declared.Account.{Account}
 use Rattle.layout.specs.Fields.{zeros, get, activationYearField, openYearField}
 use Rattle.records.specs.declared.ClosingRecord.{ClosingRecord}
@@ -30,7 +31,7 @@ zeros-requires : tie.Need-zeros-requires
 zeros-requires c κs = search needs
 
 read-closing-requires : tie.Need-read-closing-requires
-read-closing-requires c κs = search needs
+read-closing-requires c κs = ap length (c .before .before .before .before .whole .ensures) ∙ c .before .before .before .before .before .before .before .pre
 
 closing-fits-requires : tie.Need-closing-fits-requires
 closing-fits-requires c κs = search needs

@@ -4,6 +4,7 @@ use mathlib.Core.Path.{_≡_, sym, ap, ap₂, _∙_, subst}
 use mathlib.Core.Bool.{Bool, false, _&&_}
 use mathlib.Core.List.{List}
 use denote.Ref.{now}
+use lib.ListN.{length}
 use Rattle.layout.specs.Fields.{zeros}
 use Rattle.records.specs.Records.{accountIn}
 use Rattle.book.specs.Book.{accountFits}
@@ -25,7 +26,7 @@ zeros-requires-2 : tie.Need-zeros-requires-2
 zeros-requires-2 c κs = search needs
 
 read-account-requires : tie.Need-read-account-requires
-read-account-requires c κs = search needs
+read-account-requires c κs = ap length (c .before .before .before .whole .ensures) ∙ c .before .before .before .before .before .pre
 
 account-fits-requires : tie.Need-account-fits-requires
 account-fits-requires c κs = search needs
