@@ -1,7 +1,8 @@
 // The chain reader: a struct that holds the book's slice and the current index (document 01, "Book": chains run by a next
 // index, and zero ends the chain). The functions over it are few and thin: the work is done on the plain slice and the index.
 ghost use mathlib.Core.Path.{_≡_};
-ghost use Rattle.chain_reader.specs.Link.{linkAt};
+ghost use Rattle.chain_reader.specs.Link.{linkIn, linkAt};
+use layout::RECORD_LENGTH;
 use units::RecordIndex;
 
 // A place on a chain of a book.
@@ -16,13 +17,24 @@ pub struct Link {
     pub kind: u8,
 }
 
+fn link_in(r: &[u8]) -> Link
+    ensures { λ l. ⌜ l ≡ linkIn (now (r .entry)) ⌝ }
+{
+    let next = layout::next_of(r);
+    let kind = layout::kind_of(r);
+    Link { next, kind }
+}
+
+// A record that the book has whole is read as a part of known length.
 fn link_at(book: &[u8], at: RecordIndex) -> Link
     ensures { λ r. ⌜ r ≡ linkAt (now (book .entry)) (at .0) ⌝ }
 {
     let r = layout::record(book, at);
-    let next = layout::next_of(r);
-    let kind = layout::kind_of(r);
-    Link { next, kind }
+    if r.len() == RECORD_LENGTH {
+        link_in(layout::whole(r))
+    } else {
+        link_in(r)
+    }
 }
 
 pub fn chain_at<'a>(book: &'a [u8], at: RecordIndex) -> Chain<'a>
