@@ -2,14 +2,10 @@
 use Prim.Native.Nat.{ℕ}
 use mathlib.Core.Path.{_≡_, refl, sym, ap, _∙_}
 use mathlib.Core.Bool.{Bool, true, false, _&&_, _||_}
+use mathlib.Core.Logic.{⊎-elim}
 use borrow.Author.Tests.{eqb-true, eq-eqb}
 use lib.Dec.{eqb}
-use Rattle.units.proofs.Bools.{and-left, and-right, and-both}
-
--- a disjunction by its two cases
-pub or-cases : {P : Type 0} (s t : Bool) → (s || t) ≡ true → (s ≡ true → P) → (t ≡ true → P) → P
-or-cases true t h left right = left refl
-or-cases false t h left right = right h
+use Rattle.units.proofs.Bools.{and-left, and-right, and-both, or-cases}
 
 pub or-first : {s : Bool} (t : Bool) → s ≡ true → (s || t) ≡ true
 or-first t h = rw h
@@ -20,7 +16,7 @@ or-second false h = h
 
 -- tests that stay make a disjunction and a conjunction that stay
 pub or-stays : (s t : Bool) {s′ t′ : Bool} → (s ≡ true → s′ ≡ true) → (t ≡ true → t′ ≡ true) → (s || t) ≡ true → (s′ || t′) ≡ true
-or-stays s t {s′} {t′} p q h = or-cases s t h (λ e. or-first t′ (p e)) (λ e. or-second s′ (q e))
+or-stays s t {s′} {t′} p q h = ⊎-elim (λ e. or-first t′ (p e)) (λ e. or-second s′ (q e)) (or-cases s t h)
 
 pub and-stays : (s t : Bool) {s′ t′ : Bool} → (s ≡ true → s′ ≡ true) → (t ≡ true → t′ ≡ true) → (s && t) ≡ true → (s′ && t′) ≡ true
 and-stays s t p q h = and-both (p (and-left s t h)) (q (and-right s t h))

@@ -3,15 +3,15 @@ use Prim.Native.Nat.{ℕ, _+_, _≤_, _<_}
 use mathlib.Core.Path.{_≡_, refl, sym, ap, _∙_}
 use mathlib.Core.Bool.{Bool, true, false, _&&_, _||_}
 use mathlib.Core.List.{List}
+use mathlib.Core.Logic.{⊎-elim}
 use native.Mathlib.Decide.{decLt}
 use native.Mathlib.Omega.{arith}
 use borrow.Author.Tests.{eqb-true, ltb-true}
 use lib.Dec.{eqb, ltb}
 use Rattle.layout.specs.Fields.{recordAt, zeros, userKind, advanceKind, closingKind}
-use Rattle.units.proofs.Bools.{and-left, and-right}
+use Rattle.units.proofs.Bools.{and-left, and-right, or-cases}
 use Rattle.book.specs.Book.{used, firstUser, kindAt, isUser, isAdvance, isClosing, isEntry, nextOf, firstEntryOf, ownerOf, goodHead, userNextFits, firstEntryFits, entryNextFits, pointersFrom, pointersTo}
 use Rattle.book.proofs.Faultless.{Faultless, EntryLinks, kind-index, used-within}
-use Rattle.bookings.proofs.Bools.{or-cases}
 use Rattle.bookings.proofs.Frame.{entry-index}
 use Rattle.bookings.proofs.Sums.{sum-none}
 use Rattle.bookings.proofs.Pointers.{hits-other, from-head, from-user, from-advance, from-closing}
@@ -22,7 +22,7 @@ module _ (b : List ℕ) (g : Faultless b) where
 
   -- a link to 0 or to a record below u
   link-below : (p : ℕ) (t : Bool) → (eqb p 0 || t) ≡ true → (t ≡ true → p < used b) → p < used b
-  link-below p t h below = or-cases (eqb p 0) t h (λ e. omega (arith, eqb-true p 0 e, some-used)) below
+  link-below p t h below = ⊎-elim (λ e. omega (arith, eqb-true p 0 e, some-used)) below (or-cases (eqb p 0) t h)
 
   pub first-user-below : firstUser b < used b
   unfolding goodHead
@@ -55,7 +55,7 @@ module _ (b : List ℕ) (g : Faultless b) where
   pub by-kind : (P : Type 0) (j : ℕ) → 1 ≤ j → j < used b → (isUser b j ≡ true → P) → (isAdvance b j ≡ true → P) → (isClosing b j ≡ true → P) → P
   unfolding isEntry
   by-kind P j lo hi user advance closing =
-      or-cases (isUser b j) (isEntry b j) (g .known j lo hi) user (λ e. or-cases (isAdvance b j) (isClosing b j) e advance closing)
+      ⊎-elim user (λ e. ⊎-elim advance closing (or-cases (isAdvance b j) (isClosing b j) e)) (or-cases (isUser b j) (isEntry b j) (g .known j lo hi))
 
   from-below : (k j : ℕ) → used b ≤ k → 1 ≤ j → j < used b → pointersFrom b k j ≡ 0
   from-below k j above lo hi =

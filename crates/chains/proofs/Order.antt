@@ -7,7 +7,7 @@ use mathlib.Core.List.{List, [], _∷_}
 use native.Mathlib.Omega.{arith}
 use lib.Dec.{eqb}
 use borrow.Author.Tests.{eqb-true, ne-eqb}
-use Rattle.units.proofs.Bools.{and-left, and-right}
+use Rattle.units.proofs.Bools.{and-left, and-right, or-cases}
 use Rattle.layout.specs.Fields.{advanceKind, closingKind}
 use Rattle.book.specs.Book.{isUser, isAdvance, isClosing, nextOf, firstEntryOf, rankOf, inOrder, activationOf, openYearOf, firstInOrder, nextInOrder}
 use Rattle.book.proofs.Faultless.{Faultless}
@@ -15,7 +15,7 @@ use Rattle.chains.specs.Chains.{chainFrom, entriesOf}
 use Rattle.chains.specs.Statements.{sumOver}
 use Rattle.chains.proofs.Lists.{All, all-map}
 use Rattle.chains.proofs.Chain.{chain-induction}
-use Rattle.chains.proofs.Links.{Owned, or-cases, kinds-apart, entry-index, first-entry, entry-links, entries-fall}
+use Rattle.chains.proofs.Links.{Owned, kinds-apart, entry-index, first-entry, entry-links, entries-fall}
 
 -- what may stand where entries of year y follow, with all that stands behind it
 pub data Ordered (b : List ℕ) (activation : ℕ) : ℕ → List ℕ → Type 0 where

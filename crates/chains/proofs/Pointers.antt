@@ -10,10 +10,11 @@ use native.Mathlib.Omega.{arith}
 use lib.Dec.{eqb}
 use borrow.Author.Tests.{eqb-true, eqb-false}
 use Rattle.units.specs.Folds.{sumBelow}
+use Rattle.units.proofs.Bools.{or-cases}
 use Rattle.layout.specs.Fields.{userKind, advanceKind, closingKind}
 use Rattle.book.specs.Book.{used, firstUser, kindAt, isUser, isEntry, ownerOf, nextOf, firstEntryOf, hits, pointersFrom, pointersTo, pointedOnce}
 use Rattle.book.proofs.Faultless.{Faultless, kind-of}
-use Rattle.chains.proofs.Links.{Owned, or-cases, user-index, entry-index, advance-entry, closing-entry, user-no-entry, first-user, user-next, first-entry, entry-links, entry-next}
+use Rattle.chains.proofs.Links.{Owned, user-index, entry-index, advance-entry, closing-entry, user-no-entry, first-user, user-next, first-entry, entry-links, entry-next}
 
 -- a sum that is not zero has a term that is not
 some-term : (n : ℕ) (f : ℕ → ℕ) → 1 ≤ sumBelow n f → (j : ℕ) × ((j < n) × (1 ≤ f j))

@@ -11,14 +11,14 @@ use mir.Syntax.{w64}
 use mir.Val.{toZ}
 use borrow.Author.Tests.{leb-true, lt-ltb, le-ltb}
 use Rattle.units.specs.Limits.{maxYearTicks, maxFlatRate, maxContribution, maxPower, firstActivation, lastActivation, lastOpenYear}
-use Rattle.units.proofs.Bools.{and-left, and-right}
+use Rattle.units.proofs.Bools.{and-left, and-right, or-cases}
 use Rattle.accounts.specs.declared.Account.{Account}
 use Rattle.layout.specs.Fields.{recordAt}
 use Rattle.records.specs.declared.ClosingRecord.{ClosingRecord}
 use Rattle.records.specs.Records.{advanceIn, closingIn}
 use Rattle.book.specs.Book.{within, isUser, isAdvance, isClosing, ownerOf, accountAt, accountFits, detailsFit, openYearFits, runsFit, advancesFit, creditFits, halvesFit, yearFits, isRun, advanceFits, balanceFits, closingFits}
 use Rattle.book.proofs.Faultless.{Faultless}
-use Rattle.chains.proofs.Links.{or-cases, closing-entry, entry-owner}
+use Rattle.chains.proofs.Links.{closing-entry, entry-owner}
 
 -- the years that can be closed
 abbrev pub mostYears : ℕ

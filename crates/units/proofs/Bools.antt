@@ -1,6 +1,7 @@
 -- Laws of tests.
 use mathlib.Core.Path.{_≡_, refl}
 use mathlib.Core.Bool.{Bool, true, false, _&&_, _||_, false≢true, true≢false}
+use mathlib.Core.Logic.{_⊎_, inl, inr}
 
 pub and-left : (a b : Bool) → (a && b) ≡ true → a ≡ true
 and-left true b e = refl
@@ -23,3 +24,7 @@ or-right false b e = e
 
 pub or-neither : {a b : Bool} → a ≡ false → b ≡ false → (a || b) ≡ false
 or-neither p q = rw (p, q)
+
+pub or-cases : (a b : Bool) → (a || b) ≡ true → (a ≡ true) ⊎ (b ≡ true)
+or-cases true b e = inl refl
+or-cases false b e = inr e

@@ -6,7 +6,7 @@ use mathlib.Core.List.{List}
 use mathlib.Core.Logic.{_⊎_, inl, inr}
 use borrow.Author.Tests.{ltb-true, lt-ltb, eq-eqb, eqb-true, eqb-false}
 use lib.Dec.{ltb, eqb}
-use Rattle.units.proofs.Bools.{and-left, and-right, or-left, or-right}
+use Rattle.units.proofs.Bools.{and-left, and-right, or-left, or-right, or-cases}
 use Rattle.layout.specs.Fields.{userKind, advanceKind, closingKind}
 use Rattle.book.specs.Book.{used, kindAt, hasKind, isUser, isAdvance, isClosing, isEntry}
 
@@ -32,10 +32,6 @@ module _ (b : List ℕ) (kind i : ℕ) (k : hasKind b kind i ≡ true) where
   pub kind-is : kindAt b i ≡ kind
   unfolding hasKind
   kind-is = eqb-true (kindAt b i) kind (and-right (ltb 0 i && ltb i (used b)) (eqb (kindAt b i) kind) k)
-
-or-cases : (s t : Bool) → (s || t) ≡ true → (s ≡ true) ⊎ (t ≡ true)
-or-cases true t e = inl refl
-or-cases false t e = inr e
 
 -- an entry is an advance or a closing
 pub entry-cases : (b : List ℕ) (i : ℕ) → isEntry b i ≡ true → (isAdvance b i ≡ true) ⊎ (isClosing b i ≡ true)
