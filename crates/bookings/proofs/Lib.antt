@@ -8,7 +8,6 @@ pub mod Written
 pub mod Frame
 pub mod KindsKept
 pub mod Numbers
-pub mod Sums
 pub mod Pointers
 pub mod Links
 pub mod PointersKept

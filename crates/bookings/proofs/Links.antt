@@ -10,10 +10,10 @@ use borrow.Author.Tests.{eqb-true, ltb-true}
 use lib.Dec.{eqb, ltb}
 use Rattle.layout.specs.Fields.{recordAt, zeros, userKind, advanceKind, closingKind}
 use Rattle.units.proofs.Bools.{and-left, and-right, or-cases}
+use Rattle.units.proofs.Folds.{sum-none}
 use Rattle.book.specs.Book.{used, firstUser, kindAt, isUser, isAdvance, isClosing, isEntry, nextOf, firstEntryOf, ownerOf, goodHead, userNextFits, firstEntryFits, entryNextFits, pointersFrom, pointersTo}
 use Rattle.book.proofs.Faultless.{Faultless, EntryLinks, kind-index, used-within}
 use Rattle.bookings.proofs.Frame.{entry-index}
-use Rattle.bookings.proofs.Sums.{sum-none}
 use Rattle.bookings.proofs.Pointers.{hits-other, from-head, from-user, from-advance, from-closing}
 
 module _ (b : List ℕ) (g : Faultless b) where

@@ -9,11 +9,8 @@ use native.Mathlib.Omega.{arith}
 use borrow.Author.Tests.{eqb-true, eq-eqb, ne-eqb}
 use lib.Dec.{eqb}
 use Rattle.layout.specs.Fields.{recordAt, userKind, advanceKind, closingKind}
-use Rattle.units.specs.Folds.{sumBelow}
-use Rattle.units.proofs.Folds.{sum-cong}
 use Rattle.book.specs.Book.{used, firstUser, kindAt, isUser, isAdvance, isClosing, isEntry, nextOf, firstEntryOf, hits, pointersFrom, pointersTo, pointedOnce}
 use Rattle.book.proofs.Faultless.{Faultless, kind-index}
-use Rattle.bookings.proofs.Sums.{sum-none, sum-changed, sum-moved}
 
 pub hits-self : (k : ℕ) → hits k k ≡ 1
 unfolding hits

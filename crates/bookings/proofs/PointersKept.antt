@@ -10,12 +10,11 @@ use Rattle.accounts.specs.declared.Account.{Account}
 use Rattle.layout.specs.Fields.{get, recordAt, userKind, usedField, firstUserField}
 use Rattle.records.specs.declared.UserRecord.{UserRecord}
 use Rattle.units.specs.Folds.{sumBelow}
-use Rattle.units.proofs.Folds.{sum-cong}
+use Rattle.units.proofs.Folds.{sum-cong, sum-moved}
 use Rattle.book.specs.Book.{used, firstUser, kindAt, isUser, nextOf, firstEntryOf, hits, pointersFrom, pointersTo, pointedOnce}
 use Rattle.book.proofs.Faultless.{Faultless, kind-index, used-within}
 use Rattle.bookings.proofs.Records.{UserAt}
 use Rattle.bookings.proofs.Written.{HeadAt, UserEnrolled, AccountSet, EntryAdded, userWith}
-use Rattle.bookings.proofs.Sums.{sum-moved}
 use Rattle.bookings.proofs.Pointers.{hits-self, hits-other, from-head, from-user, from-same}
 use Rattle.bookings.proofs.Links.{none-points}
 

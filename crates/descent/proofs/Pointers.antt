@@ -10,7 +10,7 @@ use native.Mathlib.Omega.{arith}
 use borrow.Author.Tests.{eq-eqb, ne-eqb, lt-ltb}
 use lib.Dec.{eqb, ltb}
 use Rattle.units.specs.Folds.{sumBelow}
-use Rattle.units.proofs.Folds.{sum-cong, sum-capped, sum-plus}
+use Rattle.units.proofs.Folds.{sum-cong, sum-none, sum-plus, sum-changed}
 use Rattle.layout.specs.Fields.{userKind, advanceKind, closingKind}
 use Rattle.book.specs.Book.{used, firstUser, hasKind, isUser, isAdvance, isClosing, isEntry, ownerOf, nextOf, hits, pointersTo, pointedOnce}
 use Rattle.view.proofs.RecordKinds.{entry-cases, entry-from-one, kind-from-one, kind-below, kind-is}
@@ -20,23 +20,6 @@ use Rattle.pointers.proofs.Tallies.{tally-all}
 use Rattle.descent.specs.Descent.{met, dueUser, dueEntry, MetUser, MetEntry, Passed}
 use Rattle.descent.proofs.Steps.{met-at, user-moves, user-keeps-entry, entry-keeps-user, entry-moves, entry-keeps-other}
 use Rattle.descent.proofs.Entries.{entry-ended}
-
--- SUMS
-sum-none : (n : ℕ) (f : ℕ → ℕ) → ((j : ℕ) → j < n → f j ≡ 0) → sumBelow n f ≡ 0
-sum-none n f h = omega (arith, sum-capped n 0 f (λ j l. omega (arith, h j l)))
-
--- f and g agree everywhere but at p
-sum-changed : (n p : ℕ) (f g : ℕ → ℕ) → p < n → ((j : ℕ) → j < n → (j ≡ p → ⊥) → f j ≡ g j) → sumBelow n f + g p ≡ sumBelow n g + f p
-unfolding sumBelow
-sum-changed zero p f g l h = let z : ⊥ = omega arith in absurd z
-sum-changed (suc n) p f g l h = by-place (decLt p n) (λ lower. sum-changed n p f g lower (λ j m. h j (omega arith)))
-  where
-    by-place : Dec (p < n) → (p < n → sumBelow n f + g p ≡ sumBelow n g + f p) → sumBelow n f + f n + g p ≡ sumBelow n g + g n + f p
-    by-place (yes lower) rest = omega (arith, rest lower, h n (omega arith) (omega arith))
-    by-place (no high) rest =
-        let last : n ≡ p = omega (arith, high) in
-        let below : sumBelow n f ≡ sumBelow n g = sum-cong n f g (λ j m. h j (omega arith) (omega arith)) in
-        rw (sym last) (omega arith)
 
 -- of the numbers below n one is k
 sum-hits : (n k : ℕ) → k < n → sumBelow n (λ j. hits j k) ≡ 1

@@ -40,10 +40,31 @@ sum-mono (suc n) f g h =
     let last : f n ≤ g n = h n (omega arith) in
     omega arith
 
+pub sum-none : (n : ℕ) (f : ℕ → ℕ) → ((j : ℕ) → j < n → f j ≡ 0) → sumBelow n f ≡ 0
+sum-none n f h = omega (arith, sum-capped n 0 f (λ j l. omega (arith, h j l)))
+
 pub sum-plus : (n : ℕ) (f g : ℕ → ℕ) → sumBelow n (λ i. f i + g i) ≡ sumBelow n f + sumBelow n g
 unfolding sumBelow
 sum-plus zero f g = refl
 sum-plus (suc n) f g = let tail = sum-plus n f g in omega arith
+
+-- f and g agree everywhere but at p
+pub sum-changed : (n p : ℕ) (f g : ℕ → ℕ) → p < n → ((j : ℕ) → j < n → (j ≡ p → ⊥) → f j ≡ g j) → sumBelow n f + g p ≡ sumBelow n g + f p
+unfolding sumBelow
+sum-changed zero p f g l h = let z : ⊥ = omega arith in absurd z
+sum-changed (suc n) p f g l h = by-place (decLt p n) (λ lower. sum-changed n p f g lower (λ j m. h j (omega arith)))
+  where
+    by-place : Dec (p < n) → (p < n → sumBelow n f + g p ≡ sumBelow n g + f p) → sumBelow n f + f n + g p ≡ sumBelow n g + g n + f p
+    by-place (yes lower) rest = omega (arith, rest lower, h n (omega arith) (omega arith))
+    by-place (no high) rest =
+        let last : n ≡ p = omega (arith, high) in
+        let below : sumBelow n f ≡ sumBelow n g = sum-cong n f g (λ j m. h j (omega arith) (omega arith)) in
+        rw (sym last) (omega arith)
+
+-- g has x for y at p, and y at its end
+pub sum-moved : (n p : ℕ) (f g : ℕ → ℕ) (x y : ℕ) → p < n → ((j : ℕ) → j < n → (j ≡ p → ⊥) → g j ≡ f j) → g p + y ≡ f p + x → g n ≡ y
+    → sumBelow (n + 1) g ≡ sumBelow n f + x
+sum-moved n p f g x y l h here end = omega (arith, sum-step n g, sum-changed n p g f l h)
 
 pub all-zero : (p : ℕ → Bool) → allBelow 0 p ≡ true
 unfolding allBelow
