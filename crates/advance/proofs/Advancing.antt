@@ -27,7 +27,7 @@ use Rattle.bookings.proofs.Accounts.{advanced-fits}
 use Rattle.bookings.proofs.Advance.{RunDue, run-due, run-at-most}
 use Rattle.answers.specs.Answers.{Answered}
 use Rattle.answers.proofs.Answers.{refused, accepted}
-use Rattle.answers.proofs.Rooms.{user-stands, room-stands, used-small, refuse-apart}
+use Rattle.answers.proofs.Rooms.{entry-fits, refuse-apart}
 use Rattle.advance.specs.Advances.{RunFits, ticksAnswered}
 
 -- beside a refusal there are no ticks
@@ -109,12 +109,9 @@ module _ (b : List ℕ) (a : Accepted b) (n y r p e₁ e₂ : ℕ) (user : Recor
         run-fits =
             let w = sums-within account y r p e₁ e₂ account-fits is-open (met .order) in
             record {
-              account-is = read;
+              entry = entry-fits b a (user .0) account read (rw there is-user) (met .room);
               runs = w .0;
               advances = rw amount (w .1);
-              user = rw there (user-stands b a (findUser b n) is-user);
-              room = room-stands b a (met .room);
-              index = used-small b a;
             }
 
         pub advance-booked : (after : List ℕ) → after ≡ advanced (user .0) (account .«open_year») r (paid .0) b → Answered b call 0 0 0 after

@@ -8,11 +8,13 @@ use borrow.Author.Tests.{eqb-false, not-true}
 use lib.Dec.{eqb}
 use lib.ListN.{length}
 use Rattle.layout.specs.Fields.{recordLength, userKind, capacity}
-use Rattle.book.specs.Book.{used, isUser}
+use Rattle.accounts.specs.declared.Account.{Account}
+use Rattle.book.specs.Book.{used, isUser, accountAt}
 use Rattle.book.proofs.Faultless.{kind-index, used-within, sound-faultless}
 use Rattle.soundness.specs.Verdicts.{Accepted}
 use Rattle.bookings.proofs.Good.{length-within}
 use Rattle.calls.specs.Refusals.{refuse, hasRoom}
+use Rattle.answers.specs.Rooms.{EntryFits}
 
 module _ (b : List ℕ) (a : Accepted b) where
   used-most : used b ≤ capacity b
@@ -32,6 +34,9 @@ module _ (b : List ℕ) (a : Accepted b) where
 
   pub used-small : used b + 1 < 2 ^ 32
   used-small = omega (arith, used-most, length-within b (a .fits) .1)
+
+  pub entry-fits : (i : ℕ) (account : Account) → account ≡ accountAt b i → isUser b i ≡ true → hasRoom b ≡ true → EntryFits b i account
+  entry-fits i account e u h = record { account-is = e; user = user-stands i u; room = room-stands h; index = used-small }
 
 -- a refusal of another number
 pub refuse-apart : (fits : Bool) (k n later : ℕ) → (n ≡ k → ⊥) → (later ≡ k → ⊥) → refuse fits n later ≡ k → ⊥

@@ -29,7 +29,7 @@ use Rattle.bookings.proofs.Accepted.{CloseAccepted, close-accepted}
 use Rattle.bookings.proofs.EnrolElect.{named-user}
 use Rattle.answers.specs.Answers.{Answered}
 use Rattle.answers.proofs.Answers.{refused, accepted}
-use Rattle.answers.proofs.Rooms.{user-stands, room-stands, used-small, refuse-apart}
+use Rattle.answers.proofs.Rooms.{entry-fits, refuse-apart}
 use Rattle.close.specs.declared.ClosingSums.{ClosingSums}
 use Rattle.close.specs.Closings.{YearFits, entrySums, noSums, sumsAnswered}
 
@@ -114,11 +114,8 @@ module _ (b : List ℕ) (a : Accepted b) (s : List ℕ) (number : UserNumber) (u
         pub year-fits : YearFits b (user .0) account v
         year-fits =
             record {
-              account-is = read;
+              entry = entry-fits b a (user .0) account read (rw user-is is-user) (met .room);
               in-range = in-range account v (sheetYear s) account-fits (worked .1) (rw account-is (met .year));
-              user = rw user-is (user-stands b a (findUser b n) is-user);
-              room = room-stands b a (met .room);
-              index = used-small b a;
             }
 
         pub close-booked : (after : List ℕ) → after ≡ closed (user .0) v b → Answered b (close s) 0 0 0 after

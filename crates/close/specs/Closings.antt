@@ -1,20 +1,17 @@
 -- What a closing answers: "close the entry's sums", and zeros beside a refusal. And what must hold where a year is booked.
-use Prim.Native.Nat.{ℕ, _+_, _*_, _^_, _≤_, _<_}
-use mathlib.Core.Path.{_≡_}
+use Prim.Native.Nat.{ℕ}
 use mathlib.Core.Bool.{cond}
 use mathlib.Core.List.{List}
 use lib.Dec.{eqb}
 use lib.IntN.{pos}
-use lib.ListN.{length}
 use Rattle.units.specs.Units.{ticks}
 use Rattle.sheet.specs.YearSheet.{sheetUser}
 use Rattle.values.specs.declared.YearValues.{YearValues}
 use Rattle.accounts.specs.declared.Account.{Account}
 use Rattle.accounts.specs.Account.{balanceBits, InRange}
-use Rattle.layout.specs.Fields.{recordLength}
 use Rattle.records.specs.declared.ClosingRecord.{ClosingRecord}
-use Rattle.book.specs.Book.{used, accountAt}
 use Rattle.calls.specs.Bookings.{findUser, closingEntry, valuesOf}
+use Rattle.answers.specs.Rooms.{EntryFits}
 use Rattle.close.specs.declared.ClosingSums.{ClosingSums}
 
 unfoldable pub entrySums : ClosingRecord → ClosingSums
@@ -46,8 +43,5 @@ sumsAnswered b s refusal = cond (eqb refusal 0) (entrySums (closingEntry b (find
 
 -- the year of the user i, whose account is a, can be closed with these values, and its entry fits into the book
 pub record YearFits (b : List ℕ) (i : ℕ) (a : Account) (v : YearValues) : Type 0 where
-  pub account-is : a ≡ accountAt b i
+  pub entry : EntryFits b i a
   pub in-range : InRange v a
-  pub user : recordLength * i + recordLength ≤ length b
-  pub room : recordLength * used b + recordLength ≤ length b
-  pub index : used b + 1 < 2 ^ 32

@@ -22,7 +22,7 @@ advanced-requires c κs =
 
 write-entry-requires : tie.Need-write-entry-requires
 write-entry-requires c κs =
-    let fits = c .before .before .before .before .before .before .pre in
+    let fits = c .before .before .before .before .before .before .pre .entry in
     (fits .user, (fits .room, (ap length (c .before .before .advance-image .ensures) ∙ length-advance-image _, fits .index)))
 
 same-length : tie.Need-same-length
@@ -32,7 +32,7 @@ returns : tie.Need-returns
 returns c =
     let s = c .before .before .before .before .before .before .before .before .before in
     let a = s .args in
-    run-booked (now (a .book)) (a .user) (a .account) (a .run) (a .paid) (s .pre .account-is) (c .before .before .before .before .before .before .first-entry-of .result) (c .before .before .before .before .before .before .first-entry-of .ensures) (c .before .before .before .before .before .advance-image .result) (c .before .before .before .before .before .advance-image .ensures) (c .before .before .before .advanced .result) (c .before .before .before .advanced .ensures) _ (c .before .before .write-entry .ensures)
+    run-booked (now (a .book)) (a .user) (a .account) (a .run) (a .paid) (s .pre .entry .account-is) (c .before .before .before .before .before .before .first-entry-of .result) (c .before .before .before .before .before .before .first-entry-of .ensures) (c .before .before .before .before .before .advance-image .result) (c .before .before .before .before .before .advance-image .ensures) (c .before .before .before .advanced .result) (c .before .before .before .advanced .ensures) _ (c .before .before .write-entry .ensures)
 
 pub book-run-spec : {M : Type 1} → statement M
 book-run-spec =

@@ -23,7 +23,7 @@ closing-image-requires c κs = search needs
 
 write-entry-requires : tie.Need-write-entry-requires
 write-entry-requires c κs =
-    let fits = c .before .before .before .before .before .before .before .pre in
+    let fits = c .before .before .before .before .before .before .before .pre .entry in
     (fits .user, (fits .room, (ap length (c .before .closing-image .ensures) ∙ length-closing-image _, fits .index)))
 
 entry-sums-requires : tie.Need-entry-sums-requires
@@ -41,8 +41,8 @@ returns c =
     let after = c .before .before .before .before .before .before .before .closed in
     let entry = c .before .before .before .before .before .before .closing-entry in
     let image = c .before .before .before .before .before .closing-image in
-    let is = entry .ensures b (s .pre .account-is) (first .ensures) (ap (λ x. x .settlement) (after .ensures)) in (
-      year-booked b (a .user) (a .account) (a .values) (s .pre .account-is) (after .result) (after .ensures) (entry .result) is (image .result) (image .ensures) _ (c .before .before .before .write-entry .ensures),
+    let is = entry .ensures b (s .pre .entry .account-is) (first .ensures) (ap (λ x. x .settlement) (after .ensures)) in (
+      year-booked b (a .user) (a .account) (a .values) (s .pre .entry .account-is) (after .result) (after .ensures) (entry .result) is (image .result) (image .ensures) _ (c .before .before .before .write-entry .ensures),
       c .entry-sums .ensures ∙ ap entrySums is,
     )
 
