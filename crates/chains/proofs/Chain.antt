@@ -59,7 +59,7 @@ module _ (next : ℕ → ℕ) where
   chain-from-length i = chain-length i i
 
 -- an index that is no end and is on the set is in it
-inside : (P : ℕ → Type 0) (i : ℕ) → 1 ≤ i → On P i → P i
+pub inside : (P : ℕ → Type 0) (i : ℕ) → 1 ≤ i → On P i → P i
 inside P i h (inl e) = let z : ⊥ = omega arith in absurd z
 inside P i h (inr p) = p
 
@@ -98,10 +98,10 @@ module _ (P : ℕ → Type 0) (next : ℕ → ℕ) (closed : Closed P next) wher
 
 -- A SET IN WHICH NEXT FALLS
 module _ (P : ℕ → Type 0) (next : ℕ → ℕ) (falls : Falls P next) where
-  on-next : (i : ℕ) → 1 ≤ i → On P i → On P (next i)
+  pub on-next : (i : ℕ) → 1 ≤ i → On P i → On P (next i)
   on-next i h p = falls-closed P next falls i (inside P i h p)
 
-  less : (i : ℕ) → 1 ≤ i → On P i → next i < i
+  pub less : (i : ℕ) → 1 ≤ i → On P i → next i < i
   less i h p = by-next (falls i (inside P i h p))
     where
       by-next : (next i ≡ 0) ⊎ (P (next i) × (next i < i)) → next i < i

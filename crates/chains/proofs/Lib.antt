@@ -8,3 +8,4 @@ pub mod Order
 pub mod Sums
 pub mod Ranges
 pub mod Fit
+pub mod Walks

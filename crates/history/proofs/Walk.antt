@@ -2,7 +2,6 @@
 use Prim.Native.Nat.{ℕ, _+_, _*_, _^_, _≤_, _<_}
 use mathlib.Core.Path.{_≡_, refl, sym, ap, subst, _∙_}
 use mathlib.Core.Bool.{Bool, true, false, _&&_}
-use mathlib.Core.Logic.{⊎-elim, ⊎-map}
 use mathlib.Core.List.{List, [], _∷_}
 use native.Mathlib.Omega.{arith}
 use lib.Dec.{eqb}
@@ -12,58 +11,28 @@ use Rattle.units.specs.Units.{recordIndex, ticks}
 use Rattle.layout.specs.Fields.{recordAt}
 use Rattle.records.specs.declared.AdvanceRecord.{AdvanceRecord}
 use Rattle.records.specs.Records.{advanceIn}
-use Rattle.book.specs.Book.{lengthFits, sound, isUser, isAdvance, isEntry, nextOf, firstEntryOf}
-use Rattle.book.proofs.Faultless.{Faultless, sound-faultless}
+use Rattle.book.specs.Book.{lengthFits, sound, isUser, isAdvance, nextOf, firstEntryOf}
+use Rattle.book.proofs.Faultless.{sound-faultless}
 use Rattle.chains.specs.Chains.{chainFrom, entriesOf}
 use Rattle.chains.specs.Statements.{sumOver, advancePart}
-use Rattle.chains.proofs.Chain.{On, Falls, chain-none, chain-cons, falls-closed}
-use Rattle.chains.proofs.Links.{entry-index, entry-next, first-entry}
+use Rattle.chains.proofs.Chain.{chain-none}
 use Rattle.chains.proofs.Fit.{records-within, advance-sum}
+use Rattle.chains.proofs.Walks.{Ahead, begins, ahead-next, chain-here}
 use Rattle.history.specs.History.{isClosingOf, closingAmong, closingOf, advancesOf}
 
-abbrev Entry : List ℕ → ℕ → Type 0
-Entry b e = isEntry b e ≡ true
-
-fall : (b : List ℕ) → Faultless b → Falls (Entry b) (nextOf b)
-fall b f e h = ⊎-map (λ z. z) (λ p. (p .0 .entry, p .1)) (entry-next b f e h)
-
--- a chain of entries begins at an index
-pub record Ahead (b : List ℕ) (at : ℕ) : Type 0 where
-  pub faultless : Faultless b
-  pub on : On (λ e. isEntry b e ≡ true) at
-
-pub begins : (b : List ℕ) (i : ℕ) → lengthFits b ≡ true → sound b ≡ true → isUser b i ≡ true → Ahead b (firstEntryOf b i)
-begins b i long good user =
-    let f = sound-faultless b (omega (arith, records-within b long)) good in
-    record { faultless = f; on = ⊎-map (λ z. z) (λ o. o .entry) (first-entry b f i user) }
-
 module _ (b : List ℕ) (at : ℕ) (w : Ahead b at) (more : at ≡ 0 → ⊥) where
-  entry-here : isEntry b at ≡ true
-  entry-here = ⊎-elim (λ (e : at ≡ 0). absurd (more e)) (λ (h : isEntry b at ≡ true). h) (w .on)
-
-  pub ahead-next : Ahead b (nextOf b at)
-  ahead-next = record { faultless = w .faultless; on = falls-closed (Entry b) (nextOf b) (fall b (w .faultless)) at entry-here }
-
-  pub next-falls : nextOf b at < at
-  next-falls =
-      let i = entry-index b at entry-here in
-      ⊎-elim (λ (e : nextOf b at ≡ 0). omega arith) (λ (p : Entry b (nextOf b at) × (nextOf b at < at)). p .1) (fall b (w .faultless) at entry-here)
-
-  chain-here : chainFrom (nextOf b) at ≡ at ∷ chainFrom (nextOf b) (nextOf b at)
-  chain-here = chain-cons (Entry b) (nextOf b) (fall b (w .faultless)) at (entry-index b at entry-here .0) entry-here
-
   pub sum-here : (f : ℕ → ℕ) → sumOver f (chainFrom (nextOf b) at) ≡ f at + sumOver f (chainFrom (nextOf b) (nextOf b at))
   unfolding sumOver
-  sum-here f = ap (sumOver f) chain-here
+  sum-here f = ap (sumOver f) (chain-here b at w more)
 
   pub closing-here : (year : ℕ) → isClosingOf b year at ≡ true → closingAmong b year (chainFrom (nextOf b) at) ≡ at
   unfolding closingAmong
-  closing-here year h = ap (closingAmong b year) chain-here ∙ rw h
+  closing-here year h = ap (closingAmong b year) (chain-here b at w more) ∙ rw h
 
   pub closing-later : (year : ℕ) → isClosingOf b year at ≡ false
       → closingAmong b year (chainFrom (nextOf b) at) ≡ closingAmong b year (chainFrom (nextOf b) (nextOf b at))
   unfolding closingAmong
-  closing-later year h = ap (closingAmong b year) chain-here ∙ rw h
+  closing-later year h = ap (closingAmong b year) (chain-here b at w more) ∙ rw h
 
 pub no-sum : (b : List ℕ) (f : ℕ → ℕ) → sumOver f (chainFrom (nextOf b) 0) ≡ 0
 unfolding sumOver

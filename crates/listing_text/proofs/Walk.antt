@@ -13,9 +13,10 @@ use Rattle.codec.proofs.Stores.{length-stored}
 use Rattle.book.specs.Book.{used, firstUser, lengthFits, sound, isUser, nextOf, accountAt}
 use Rattle.book.proofs.Faultless.{Faultless, sound-faultless, used-within}
 use Rattle.chains.specs.Chains.{chainFrom, usersOf}
-use Rattle.chains.proofs.Chain.{On, chain-none, chain-cons, chain-from-length, falls-closed}
+use Rattle.chains.proofs.Chain.{On, chain-none, chain-from-length}
 use Rattle.chains.proofs.Links.{user-index, first-user, users-fall}
 use Rattle.chains.proofs.Fit.{records-within}
+use Rattle.chains.proofs.Walks.{walk-here, walk-on, walk-falls, walk-chain}
 use Rattle.listing_text.specs.Listing.{line, lines}
 use Rattle.listing_text.specs.Written.{longestLine, mostUsers, longestText, accountLine}
 use Rattle.listing_text.proofs.Pieces.{stored-then, stored-none}
@@ -35,6 +36,9 @@ linesFrom b user = lines b (chainFrom (nextOf b) user)
 
 abbrev pub text : List ℕ → List ℕ
 text b = lines b (usersOf b)
+
+abbrev User : List ℕ → ℕ → Type 0
+User b i = isUser b i ≡ true
 
 -- between two turns: `before` is the text that came, `out` as it stands, written up to `end`
 pub record Walking (b before out : List ℕ) (end user : ℕ) : Type 0 where
@@ -80,16 +84,13 @@ module _ (b : List ℕ) (long : lengthFits b ≡ true) (good : sound b ≡ true)
 -- A TURN
 module _ (b before out : List ℕ) (end user : ℕ) (w : Walking b before out end user) (more : user ≡ 0 → ⊥) where
   user-here : isUser b user ≡ true
-  user-here = ⊎-elim (λ (e : user ≡ 0). absurd (more e)) (λ (h : isUser b user ≡ true). h) (w .on)
+  user-here = walk-here (User b) (nextOf b) (users-fall b (w .faultless)) user (w .on) more
 
   pub room-here : end + longestLine ≤ length out
   room-here = omega (arith, user-index b user user-here, w .room, w .wide, w .same)
 
   pub next-falls : nextOf b user < user
-  next-falls =
-      let i = user-index b user user-here in
-      ⊎-elim (λ (e : nextOf b user ≡ 0). omega arith)
-      (λ (p : (isUser b (nextOf b user) ≡ true) × (nextOf b user < user)). p .1) (users-fall b (w .faultless) user user-here)
+  next-falls = walk-falls (User b) (nextOf b) (users-fall b (w .faultless)) user (w .on) more
 
   abbrev here : List ℕ
   here = accountLine (accountAt b user)
@@ -97,7 +98,7 @@ module _ (b before out : List ℕ) (end user : ℕ) (w : Walking b before out en
   ahead : linesFrom b user ≡ here ++ linesFrom b (nextOf b user)
   unfolding lines
   ahead =
-      ap (lines b) (chain-cons (λ i. isUser b i ≡ true) (nextOf b) (users-fall b (w .faultless)) user (user-index b user user-here .0) user-here)
+      ap (lines b) (walk-chain (User b) (nextOf b) (users-fall b (w .faultless)) user (w .on) more)
       ∙ ap (λ (l : List ℕ). l ++ linesFrom b (nextOf b user)) (user-line b user)
 
   length-ahead : length (linesFrom b user) ≡ length here + length (linesFrom b (nextOf b user))
@@ -110,7 +111,7 @@ module _ (b before out : List ℕ) (end user : ℕ) (w : Walking b before out en
       omega (arith, w .count, w .fits, w .wide, w .same, length-ahead) in
       record {
         faultless = w .faultless;
-        on = falls-closed (λ i. isUser b i ≡ true) (nextOf b) (users-fall b (w .faultless)) user user-here;
+        on = walk-on (User b) (nextOf b) (users-fall b (w .faultless)) user (w .on) more;
         same = length-stored end here out (omega arith) ∙ w .same;
         wide = w .wide;
         room = omega (arith, w .room, next-falls);

@@ -2,19 +2,20 @@
 use Prim.Native.Nat.{ℕ, _<_}
 use mathlib.Core.Path.{_≡_, refl, sym, ap, _∙_, subst}
 use mathlib.Core.Bool.{true}
-use mathlib.Core.Logic.{⊎-elim, ⊎-map}
+use mathlib.Core.Logic.{⊎-elim}
 use mathlib.Core.List.{List, _∷_}
 use native.Mathlib.Omega.{arith}
 use lib.Dec.{ltb}
 use lib.IntN.{+ℤ-idl}
-use Rattle.book.specs.Book.{lengthFits, sound, isUser, isAdvance, isClosing, isEntry, accountAt, nextOf, firstEntryOf}
-use Rattle.book.proofs.Faultless.{Faultless, sound-faultless}
+use Rattle.book.specs.Book.{lengthFits, sound, isUser, isAdvance, isClosing, accountAt, nextOf, firstEntryOf}
+use Rattle.book.proofs.Faultless.{Faultless}
 use Rattle.ledger.specs.Ledger.{Statement}
 use Rattle.chains.specs.Chains.{chainFrom, entriesOf}
 use Rattle.chains.specs.Statements.{closingPart, advancePart, balancePart, sumOver, sumOverℤ, statementAt}
-use Rattle.chains.proofs.Chain.{On, Falls, chain-none, chain-cons, falls-closed}
-use Rattle.chains.proofs.Links.{entry-kind, entry-index, entry-next, first-entry}
-use Rattle.chains.proofs.Fit.{SumsFit, records-within, sums-fit, balance-sizes}
+use Rattle.chains.proofs.Chain.{chain-none}
+use Rattle.chains.proofs.Links.{entry-kind}
+use Rattle.chains.proofs.Fit.{SumsFit, sums-fit, balance-sizes}
+use Rattle.chains.proofs.Walks.{Ahead, begins, entry-here, ahead-next, chain-here}
 use Rattle.statements.specs.declared.Sums.{Sums}
 use Rattle.statements.specs.Walk.{sumsOf, sumsBefore, entryAdded, EntryRoom}
 use Rattle.statements.proofs.Steps.{closing-entry-added, advance-entry-added}
@@ -42,17 +43,10 @@ user-statement : (b : List ℕ) (i : ℕ) → statementFrom b (sumsBefore (accou
 unfolding statementFrom sumsBefore statementAt entriesOf
 user-statement b i = refl
 
-abbrev Entry : List ℕ → ℕ → Type 0
-Entry b e = isEntry b e ≡ true
-
-fall : (b : List ℕ) → Faultless b → Falls (Entry b) (nextOf b)
-fall b f e h = ⊎-map (λ z. z) (λ p. (p .0 .entry, p .1)) (entry-next b f e h)
-
 -- between two turns: s₀ and `first` are what the walk began with, s and `at` where it stands
 pub record Walking (b : List ℕ) (s₀ : Sums) (first : ℕ) (s : Sums) (at : ℕ) : Type 0 where
-  pub faultless : Faultless b
+  pub ahead : Ahead b at
   pub fit : SumsFit (statementFrom b s₀ first)
-  pub on : On (λ e. isEntry b e ≡ true) at
   pub toward : Toward b (statementFrom b s₀ first) (chainFrom (nextOf b) at) s
 
 -- THE BEGINNING
@@ -79,21 +73,17 @@ module _ (b : List ℕ) (i : ℕ) (long : lengthFits b ≡ true) (good : sound b
         closedAdvances = omega arith;
       }
 
-  pub begins : Walking b start (firstEntryOf b i) start (firstEntryOf b i)
-  begins =
-      let f = sound-faultless b (omega (arith, records-within b long)) good in
+  pub starts : Walking b start (firstEntryOf b i) start (firstEntryOf b i)
+  starts =
+      let ahead = begins b i long good user in
       record {
-        faultless = f;
-        fit = subst SumsFit (sym (user-statement b i)) (sums-fit b f long i user);
-        on = ⊎-map (λ z. z) (λ o. o .entry) (first-entry b f i user);
-        toward = all-left f;
+        ahead = ahead;
+        fit = subst SumsFit (sym (user-statement b i)) (sums-fit b (ahead .faultless) long i user);
+        toward = all-left (ahead .faultless);
       }
 
 -- A TURN
 module _ (b : List ℕ) (s₀ : Sums) (first : ℕ) (s : Sums) (at : ℕ) (w : Walking b s₀ first s at) (more : at ≡ 0 → ⊥) where
-  pub entry-here : isEntry b at ≡ true
-  entry-here = ⊎-elim (λ (e : at ≡ 0). absurd (more e)) (λ (h : isEntry b at ≡ true). h) (w .on)
-
   abbrev whole : Statement
   whole = statementFrom b s₀ first
 
@@ -101,9 +91,7 @@ module _ (b : List ℕ) (s₀ : Sums) (first : ℕ) (s : Sums) (at : ℕ) (w : W
   rest = chainFrom (nextOf b) (nextOf b at)
 
   here : Toward b whole (at ∷ rest) s
-  here =
-      subst (λ es. Toward b whole es s)
-      (chain-cons (Entry b) (nextOf b) (fall b (w .faultless)) at (entry-index b at entry-here .0) entry-here) (w .toward)
+  here = subst (λ es. Toward b whole es s) (chain-here b at (w .ahead) more) (w .toward)
 
   pub entry-room : EntryRoom b at s
   entry-room = record { closing = closing-room b whole at rest s (w .fit) here; advance = advance-room b whole at rest s (w .fit) here }
@@ -112,21 +100,10 @@ module _ (b : List ℕ) (s₀ : Sums) (first : ℕ) (s : Sums) (at : ℕ) (w : W
   after =
       ⊎-elim (λ (a : isAdvance b at ≡ true). subst (Toward b whole rest) (sym (advance-entry-added b at s a)) (after-advance b whole at rest s (w .fit) here a))
       (λ (c : isClosing b at ≡ true). subst (Toward b whole rest) (sym (closing-entry-added b at s c)) (after-closing b whole at rest s (w .fit) here c))
-      (entry-kind b at entry-here)
+      (entry-kind b at (entry-here b at (w .ahead) more))
 
   pub turned : Walking b s₀ first (entryAdded b at s) (nextOf b at)
-  turned =
-      record {
-        faultless = w .faultless;
-        fit = w .fit;
-        on = falls-closed (Entry b) (nextOf b) (fall b (w .faultless)) at entry-here;
-        toward = after;
-      }
-
-  pub next-falls : nextOf b at < at
-  next-falls =
-      let i = entry-index b at entry-here in
-      ⊎-elim (λ (e : nextOf b at ≡ 0). omega arith) (λ (p : Entry b (nextOf b at) × (nextOf b at < at)). p .1) (fall b (w .faultless) at entry-here)
+  turned = record { ahead = ahead-next b at (w .ahead) more; fit = w .fit; toward = after }
 
 -- THE END
 pub ends : (b : List ℕ) (i : ℕ) (s : Sums) → Walking b (sumsBefore (accountAt b i)) (firstEntryOf b i) s 0 → s ≡ sumsOf (statementAt b i)

@@ -2,7 +2,8 @@
 use Prim.Native.Nat.{_+_, _<_}
 use mathlib.Core.Path.{sym, subst}
 use denote.Ref.{now}
-use Rattle.history.proofs.Walk.{Adding, add-begins, add-room, add-on, added, next-falls}
+use Rattle.chains.proofs.Walks.{next-falls}
+use Rattle.history.proofs.Walk.{Adding, add-begins, add-room, add-on, added}
 use borrow.Author.Needs.{needs}
 use Rattle.history.proofs.advances_of.Statement.{statement}
 use Rattle.history.proofs.advances_of.Tie as tie

@@ -2,7 +2,8 @@
 use Prim.Native.Nat.{_<_}
 use mathlib.Core.Path.{sym, subst, _∙_}
 use denote.Ref.{now}
-use Rattle.history.proofs.Walk.{Seeking, seek, seek-on, sought, nowhere, next-falls}
+use Rattle.chains.proofs.Walks.{next-falls}
+use Rattle.history.proofs.Walk.{Seeking, seek, seek-on, sought, nowhere}
 use borrow.Author.Needs.{needs}
 use Rattle.history.proofs.closing_of.Statement.{statement}
 use Rattle.history.proofs.closing_of.Tie as tie

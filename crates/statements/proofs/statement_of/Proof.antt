@@ -8,7 +8,8 @@ use Rattle.records.specs.Records.{accountIn}
 use Rattle.book.specs.Book.{accountAt, firstEntryOf}
 use Rattle.chain_reader.specs.Link.{linkAt}
 use Rattle.statements.specs.Walk.{sumsBefore}
-use Rattle.statements.proofs.Walk.{Walking, begins, entry-here, entry-room, turned, next-falls, ends}
+use Rattle.chains.proofs.Walks.{entry-here, next-falls}
+use Rattle.statements.proofs.Walk.{Walking, starts, entry-room, turned, ends}
 use borrow.Author.Needs.{needs}
 use Rattle.statements.proofs.statement_of.Statement.{statement}
 use Rattle.statements.proofs.statement_of.Tie as tie
@@ -55,7 +56,7 @@ loop-holds : tie.Need-loop-holds Inv-loop μ-loop
 loop-holds c =
     let given = c .before .before .before .before .before .pre in
     subst₂ (λ s k. Walking (book-of c) s k s k) (sym (sums-begin c)) (sym (index-begins c))
-    (begins (book-of c) (user-of c) (given .0) (given .1 .0) (given .1 .1))
+    (starts (book-of c) (user-of c) (given .0) (given .1 .0) (given .1 .1))
 
 follow-requires : tie.Need-follow-requires Inv-loop μ-loop
 follow-requires c κs = search needs
@@ -68,7 +69,7 @@ with-entry-requires c κs =
     let b = book-of first in
     let s = first .before .sums-before .result in
     let f = first .first-entry-of .result .0 in (
-      entry-here b s f (l .sums) (l .at .0) (l .inv) (c .before .if1 .taken),
+      entry-here b (l .at .0) (l .inv .ahead) (c .before .if1 .taken),
       (
         ap (λ k. k .kind) (c .follow .ensures),
         entry-room b s f (l .sums) (l .at .0) (l .inv) (c .before .if1 .taken),
@@ -84,7 +85,7 @@ loop-less c =
     let s = first .before .sums-before .result in
     let f = first .first-entry-of .result .0 in
     subst (λ k. k < l .at .0) (sym (ap (λ k. k .next .0) (c .before .before .follow .ensures)))
-    (next-falls b s f (l .sums) (l .at .0) (l .inv) (c .before .before .before .if1 .taken))
+    (next-falls b (l .at .0) (l .inv .ahead) (c .before .before .before .if1 .taken))
 
 loop-again : tie.Need-loop-again Inv-loop μ-loop
 unfolding linkAt
