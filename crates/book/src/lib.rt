@@ -24,6 +24,9 @@ const SHORTEST: usize = 160;
 
 const LONGEST: usize = 64_000;
 
+// "Records of 80 bytes, 2 to 800 of them"
+pub const MOST_RECORDS: usize = 800;
+
 const MAX_POWER: u32 = 200_000;
 
 const FIRST_ACTIVATION: u16 = 2013;

@@ -10,7 +10,7 @@ use lib.Dec.{leb, eqb, ltb}
 use lib.IntN.{natAbs}
 use lib.ListN.{length}
 use borrow.Author.Tests.{leb-true}
-use Rattle.units.specs.Limits.{maxYearTicks, maxFlatRate, maxContribution}
+use Rattle.units.specs.Limits.{maxYearTicks, maxFlatRate, maxContribution, mostRecords}
 use Rattle.units.proofs.Bools.{and-left, and-right}
 use Rattle.layout.specs.Fields.{recordAt, recordLength, capacity, advanceKind, closingKind}
 use Rattle.records.specs.declared.ClosingRecord.{ClosingRecord}
@@ -26,10 +26,6 @@ use Rattle.chains.proofs.Entries.{entries-only}
 use Rattle.chains.proofs.Order.{chain-ordered}
 use Rattle.chains.proofs.Sums.{sum-at-most, closings-at-most, size-of-sum}
 use Rattle.chains.proofs.Ranges.{mostYears, ClosingRanges, user-years, credit-range, closing-ranges, advance-range}
-
--- the records of a book of the greatest length
-abbrev pub mostRecords : ℕ
-mostRecords = 800
 
 -- "length not 160 to 64,000", in records
 pub records-within : (b : List ℕ) → lengthFits b ≡ true → (2 ≤ capacity b) × (capacity b ≤ mostRecords)

@@ -1,8 +1,9 @@
 -- The pieces of a line: a number with the byte after it, and the line of an account. What is answered of a listing.
-use Prim.Native.Nat.{ℕ, _+_, _*_, _≤_, _<_}
+use Prim.Native.Nat.{ℕ, _+_, _-_, _*_, _≤_, _<_}
 use mathlib.Core.Path.{_≡_}
 use mathlib.Core.List.{List, [], _∷_, _++_}
 use lib.ListN.{length}
+use Rattle.units.specs.Limits.{mostRecords}
 use Rattle.accounts.specs.declared.Account.{Account}
 use Rattle.codec.specs.Bytes.{stored}
 use Rattle.listing_text.specs.declared.Listed.{Listed}
@@ -19,9 +20,9 @@ longestRefusal = 8 + longestField
 abbrev pub longestLine : ℕ
 longestLine = 3 * longestField
 
--- the head is the first of 800 records
+-- all records but the head
 abbrev pub mostUsers : ℕ
-mostUsers = 799
+mostUsers = mostRecords - 1
 
 abbrev pub longestText : ℕ
 longestText = mostUsers * longestLine

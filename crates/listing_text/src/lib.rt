@@ -9,10 +9,11 @@ ghost use Rattle.chains.specs.Chains.{usersOf};
 ghost use Rattle.listing_text.specs.Listing.{mostDigits, decimal, lines, refused, listing};
 ghost use Rattle.listing_text.specs.Written.{longestField, longestLine, longestRefusal, longestText, field, accountLine, ListingAnswered};
 use accounts::Account;
+use book::MOST_RECORDS;
 use soundness::Checked;
 
 // The longest listing: of each user three numbers of at most twenty digits, each with a byte after it.
-const MOST_USERS: usize = 799;
+const MOST_USERS: usize = MOST_RECORDS - 1;
 
 const LONGEST_LINE: usize = 63;
 

@@ -4,12 +4,9 @@ use Prim.Native.Nat.{ℕ}
 use mathlib.Core.Bool.{cond, _&&_, _||_}
 use mathlib.Core.List.{List}
 use lib.Dec.{eqb, ltb}
+pub use Rattle.units.specs.Limits.{mostRecords}
 use Rattle.layout.specs.Fields.{userKind, advanceKind, closingKind}
 use Rattle.book.specs.Book.{firstUser, kindAt, nextOf, firstEntryOf}
-
--- "Records of 80 bytes, 2 to 800 of them"
-abbrev pub mostRecords : ℕ
-mostRecords = 800
 
 unfoldable pub nextPointer : List ℕ → ℕ → ℕ
 nextPointer b j =

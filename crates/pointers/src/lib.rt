@@ -16,8 +16,7 @@ use view::first_user;
 use view::kind_at;
 use view::next_of;
 
-// "2 to 800 of them"
-pub const MOST_RECORDS: usize = 800;
+pub const MOST_RECORDS: usize = book::MOST_RECORDS;
 
 fn next_pointer(book: &[u8], index: RecordIndex) -> RecordIndex
     ensures { λ r. ⌜ r ≡ recordIndex (nextPointer (now (book .entry)) (index .0)) ⌝ }
@@ -47,7 +46,7 @@ fn first_pointer(book: &[u8], index: RecordIndex) -> RecordIndex
 }
 
 // Counts a pointer at the record that it leads to. One that leads past the records of any book is not counted.
-fn count(counts: &mut [u16; 800], pointer: RecordIndex)
+fn count(counts: &mut [u16; MOST_RECORDS], pointer: RecordIndex)
     requires { ⌜ length (now counts) ≡ mostRecords ⌝ }
     requires { ⌜ ((m : ℕ) → m < mostRecords → getD (now counts) m 0 < 65535) ⌝ }
     ensures { λ _. ⌜ length (now (counts .exit)) ≡ mostRecords ⌝ }
@@ -60,11 +59,11 @@ fn count(counts: &mut [u16; 800], pointer: RecordIndex)
 }
 
 // A null pointer counts for the head, which nothing looks at.
-pub fn counts(book: &[u8]) -> [u16; 800]
+pub fn counts(book: &[u8]) -> [u16; MOST_RECORDS]
     requires { ⌜ used (now book) ≤ mostRecords ⌝ }
     ensures { λ r. ⌜ ((m : ℕ) → 1 ≤ m → m < mostRecords → getD r m 0 ≡ pointersTo (now (book .entry)) m) ⌝ }
 {
-    let mut counts = [0; 800];
+    let mut counts = [0; MOST_RECORDS];
     let records = view::used(book);
     for j in 0..records {
         count(&mut counts, next_pointer(book, RecordIndex(j)));

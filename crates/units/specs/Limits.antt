@@ -44,3 +44,7 @@ lastActivation = 2099
 
 abbrev pub lastOpenYear : ℕ
 lastOpenYear = 2100
+
+-- "Book": "Records of 80 bytes, 2 to 800 of them"
+abbrev pub mostRecords : ℕ
+mostRecords = 800
