@@ -12,7 +12,7 @@ use Rattle.book.proofs.Faultless.{Faultless, sound-faultless}
 use Rattle.soundness.specs.Verdicts.{Accepted}
 use Rattle.chains.specs.Statements.{statementAt}
 use Rattle.chains.proofs.Ranges.{user-years}
-use Rattle.chains.proofs.Fit.{records-within, sums-small}
+use Rattle.chains.proofs.Fit.{sums-small}
 use Rattle.calls.specs.Bookings.{findUser}
 use Rattle.bookings.proofs.Numbers.{found}
 use Rattle.statements.specs.declared.Sums.{Sums}
@@ -23,7 +23,7 @@ use Rattle.conservation.proofs.Sizes.{small-sums}
 
 module _ (b : List ℕ) (a : Accepted b) (i : ℕ) (user : isUser b i ≡ true) where
   faultless : Faultless b
-  faultless = sound-faultless b (omega (arith, records-within b (a .fits))) (a .isSound)
+  faultless = sound-faultless b (a .fits) (a .isSound)
 
   pub years-closed : (activation open-year : ℕ) → activation ≡ activationOf b i → open-year ≡ openYearOf b i → (activation ≤ open-year) × (open-year - activation ≤ mostYears)
   unfolding activationOf openYearOf accountIn

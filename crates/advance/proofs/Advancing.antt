@@ -18,7 +18,6 @@ use Rattle.calls.specs.Bookings.{findUser, runAmount, advanced}
 use Rattle.calls.specs.Refusals.{refuse, hasRoom, present, runOpen, orderFits, advanceRefusal}
 use Rattle.calls.specs.Calls.{Call, advance, refusalOf, booked, paidBy}
 use Rattle.refusals.specs.Objections.{advanceObjection}
-use Rattle.bookings.proofs.Good.{length-within}
 use Rattle.bookings.proofs.Ranges.{account-good}
 use Rattle.bookings.proofs.Widths.{account-within}
 use Rattle.bookings.proofs.Accepted.{AdvanceAccepted, advance-accepted}
@@ -84,9 +83,7 @@ module _ (b : List ℕ) (a : Accepted b) (n y r p e₁ e₂ : ℕ) (user : Recor
       is-user = named-user b n (met .found) .user
 
       account-fits : accountFits account ≡ true
-      account-fits =
-          let from = length-within b (a .fits) .0 in
-          rw account-is (sound-faultless b (omega arith) (a .isSound) .user (findUser b n) is-user .fits)
+      account-fits = rw account-is (sound-faultless b (a .fits) (a .isSound) .user (findUser b n) is-user .fits)
 
       is-open : runOpen account y r ≡ true
       is-open = rw account-is (met .run-open)

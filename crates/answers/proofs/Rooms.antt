@@ -1,7 +1,7 @@
 -- In a sound book a user's record stands whole, and so does the next record where there is room.
 use Prim.Native.Nat.{ℕ, _+_, _*_, _^_, _≤_, _<_}
 use mathlib.Core.Path.{_≡_}
-use mathlib.Core.Bool.{Bool, true, false, not}
+use mathlib.Core.Bool.{Bool, true, false}
 use mathlib.Core.List.{List}
 use native.Mathlib.Omega.{arith}
 use borrow.Author.Tests.{eqb-false, not-true}
@@ -10,17 +10,15 @@ use lib.ListN.{length}
 use Rattle.layout.specs.Fields.{recordLength, userKind, capacity}
 use Rattle.accounts.specs.declared.Account.{Account}
 use Rattle.book.specs.Book.{used, isUser, accountAt}
+use Rattle.book.proofs.Lengths.{capacity-most}
 use Rattle.book.proofs.Faultless.{kind-index, used-within, sound-faultless}
 use Rattle.soundness.specs.Verdicts.{Accepted}
-use Rattle.bookings.proofs.Good.{length-within}
 use Rattle.calls.specs.Refusals.{refuse, hasRoom}
 use Rattle.answers.specs.Rooms.{EntryFits}
 
 module _ (b : List ℕ) (a : Accepted b) where
   used-most : used b ≤ capacity b
-  used-most =
-      let from = length-within b (a .fits) .0 in
-      used-within b (sound-faultless b (omega arith) (a .isSound) .used-fits) .1
+  used-most = used-within b (sound-faultless b (a .fits) (a .isSound) .used-fits) .1
 
   pub user-stands : (i : ℕ) → isUser b i ≡ true → recordLength * i + recordLength ≤ length b
   user-stands i u = omega (arith, kind-index b userKind i u .1 .0, used-most)
@@ -33,7 +31,7 @@ module _ (b : List ℕ) (a : Accepted b) where
       omega (arith, least)
 
   pub used-small : used b + 1 < 2 ^ 32
-  used-small = omega (arith, used-most, length-within b (a .fits) .1)
+  used-small = omega (arith, used-most, capacity-most b (a .fits))
 
   pub entry-fits : (i : ℕ) (account : Account) → account ≡ accountAt b i → isUser b i ≡ true → hasRoom b ≡ true → EntryFits b i account
   entry-fits i account e u h = record { account-is = e; user = user-stands i u; room = room-stands h; index = used-small }

@@ -12,7 +12,8 @@ use Rattle.units.proofs.Bools.{and-left, and-right, and-both, or-left, or-right
 use Rattle.units.proofs.Folds.{none-at, none-of, any-of}
 use Rattle.layout.specs.Fields.{zeros, recordAt, capacity, userKind, advanceKind, closingKind}
 use Rattle.records.specs.Records.{advanceIn, closingIn}
-use Rattle.book.specs.Book.{used, usedFits, kindAt, hasKind, isUser, isAdvance, isClosing, isEntry, accountAt, ownerOf, accountFits, advanceFits, closingFits, rangesFit, zeroBytesFit, userNextFits, numberIsNew, firstEntryFits, firstInOrder, ownerFits, entryNextFits, nextInOrder, pointedOnce, linksFit, goodRecord, goodHead, faulty, sound}
+use Rattle.book.specs.Book.{lengthFits, used, usedFits, kindAt, hasKind, isUser, isAdvance, isClosing, isEntry, accountAt, ownerOf, accountFits, advanceFits, closingFits, rangesFit, zeroBytesFit, userNextFits, numberIsNew, firstEntryFits, firstInOrder, ownerFits, entryNextFits, nextInOrder, pointedOnce, linksFit, goodRecord, goodHead, faulty, sound}
+use Rattle.book.proofs.Lengths.{capacity-least}
 
 -- what a good user meets
 pub record UserGood (b : List ℕ) (i : ℕ) : Type 0 where
@@ -176,8 +177,9 @@ module _ (b : List ℕ) (i : ℕ) (g : goodRecord b i ≡ true) where
       by-user false e = by-advance (eqb (kindAt b i) advanceKind) refl e
 
 -- a sound book is without a fault
-pub sound-faultless : (b : List ℕ) → 0 < capacity b → sound b ≡ true → Faultless b
-sound-faultless b c h =
+pub sound-faultless : (b : List ℕ) → lengthFits b ≡ true → sound b ≡ true → Faultless b
+sound-faultless b fits h =
+    let c : 0 < capacity b = omega (arith, capacity-least b fits) in
     let u = sound-used b c h in
     let within = used-within b u in
     let good : (i : ℕ) → 1 ≤ i → i < used b → goodRecord b i ≡ true = λ i lo hi.

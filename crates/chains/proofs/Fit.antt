@@ -1,21 +1,21 @@
 -- "the sums of a sound book's statement fit 64 bits" (document 01, "Book")
-use Prim.Native.Nat.{ℕ, _+_, _*_, _%_, _^_, _≤_, _<_}
+use Prim.Native.Nat.{ℕ, _+_, _*_, _^_, _≤_, _<_}
 use mathlib.Core.Path.{_≡_, refl}
 use mathlib.Core.Bool.{Bool, true, false, _&&_}
 use mathlib.Core.Logic.{⊎-elim}
 use mathlib.Core.List.{List}
 use native.Mathlib.Nat.{mul-add, mul-le-mul-left}
 use native.Mathlib.Omega.{arith}
-use lib.Dec.{leb, eqb, ltb}
+use lib.Dec.{ltb}
 use lib.IntN.{natAbs}
 use lib.ListN.{length}
-use borrow.Author.Tests.{leb-true}
 use Rattle.units.specs.Limits.{maxYearTicks, maxFlatRate, maxContribution, mostRecords}
-use Rattle.units.proofs.Bools.{and-left, and-right}
-use Rattle.layout.specs.Fields.{recordAt, recordLength, capacity, advanceKind, closingKind}
+use Rattle.units.proofs.Bools.{and-left}
+use Rattle.layout.specs.Fields.{recordAt, advanceKind, closingKind}
 use Rattle.records.specs.declared.ClosingRecord.{ClosingRecord}
 use Rattle.records.specs.Records.{accountIn, advanceIn, closingIn}
 use Rattle.book.specs.Book.{lengthFits, used, isUser, isAdvance, isClosing, nextOf, firstEntryOf, activationOf, openYearOf, accountAt}
+use Rattle.book.proofs.Lengths.{capacity-most}
 use Rattle.book.proofs.Faultless.{Faultless, used-within}
 use Rattle.ledger.specs.Ledger.{Statement}
 use Rattle.chains.specs.Chains.{entriesOf}
@@ -26,17 +26,6 @@ use Rattle.chains.proofs.Entries.{entries-only}
 use Rattle.chains.proofs.Order.{chain-ordered}
 use Rattle.chains.proofs.Sums.{sum-at-most, closings-at-most, size-of-sum}
 use Rattle.chains.proofs.Ranges.{mostYears, ClosingRanges, user-years, credit-range, closing-ranges, advance-range}
-
--- "length not 160 to 64,000", in records
-pub records-within : (b : List ℕ) → lengthFits b ≡ true → (2 ≤ capacity b) × (capacity b ≤ mostRecords)
-unfolding lengthFits
-records-within b h =
-    let low = leb 160 (length b) in
-    let high = leb (length b) 64000 in
-    let range = and-left (low && high) (eqb (length b % recordLength) 0) h in
-    let l = leb-true 160 (length b) (and-left low high range) in
-    let m = leb-true (length b) 64000 (and-right low high range) in
-    (omega arith, omega arith)
 
 module _ (b : List ℕ) (f : Faultless b) (i : ℕ) (u : isUser b i ≡ true) where
   -- A sum over the closings has at most one term for each closed year.
@@ -84,7 +73,7 @@ module _ (b : List ℕ) (f : Faultless b) (i : ℕ) (u : isUser b i ≡ true) wh
   pub advance-sum : lengthFits b ≡ true → (p : ℕ → Bool) → sumOver (advancePart p b) (entriesOf b i) ≤ maxYearTicks * mostRecords
   advance-sum l p =
       let sum = sum-at-most (Owned b i) (advancePart p b) maxYearTicks (λ e o. advance-term p e) (entriesOf b i) (entries-only b f i u) in
-      omega (arith, sum, entries-few, used-within b (f .used-fits), records-within b l)
+      omega (arith, sum, entries-few, used-within b (f .used-fits), capacity-most b l)
 
 -- each sum but the balance's is below 2^63, and that lies from −2^62 to 2^62
 pub record SumsFit (s : Statement) : Type 0 where

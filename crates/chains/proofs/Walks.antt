@@ -10,7 +10,6 @@ use Rattle.book.proofs.Faultless.{Faultless, sound-faultless}
 use Rattle.chains.specs.Chains.{chainFrom}
 use Rattle.chains.proofs.Chain.{On, Falls, inside, on-next, less, chain-cons}
 use Rattle.chains.proofs.Links.{entry-next, first-entry}
-use Rattle.chains.proofs.Fit.{records-within}
 
 -- A TURN: the walk stands at an index of the set and not at the end
 module _ (P : ℕ → Type 0) (next : ℕ → ℕ) (falls : Falls P next) (at : ℕ) (on : On P at) (more : at ≡ 0 → ⊥) where
@@ -43,7 +42,7 @@ pub record Ahead (b : List ℕ) (at : ℕ) : Type 0 where
 
 pub begins : (b : List ℕ) (i : ℕ) → lengthFits b ≡ true → sound b ≡ true → isUser b i ≡ true → Ahead b (firstEntryOf b i)
 begins b i long good user =
-    let f = sound-faultless b (omega (arith, records-within b long)) good in
+    let f = sound-faultless b long good in
     record { faultless = f; on = ⊎-map (λ z. z) (λ o. o .entry) (first-entry b f i user) }
 
 module _ (b : List ℕ) (at : ℕ) (w : Ahead b at) (more : at ≡ 0 → ⊥) where

@@ -26,7 +26,6 @@ use Rattle.chains.proofs.Fit.{sums-fit}
 use Rattle.calls.specs.Bookings.{findUser}
 use Rattle.calls.specs.Refusals.{statementRefusal}
 use Rattle.calls.specs.Calls.{Call, enrol, elect, advance, close, statement, refusalOf}
-use Rattle.bookings.proofs.Good.{length-within}
 use Rattle.bookings.proofs.Accepted.{statement-accepted}
 use Rattle.bookings.proofs.EnrolElect.{named-user}
 use Rattle.statements.specs.declared.Sums.{Sums}
@@ -73,9 +72,8 @@ module _ (b : List ℕ) (number : ℕ) (l : Ledger) (known : statementRefusal b 
   balance-small : natAbs (statementOf l .balance) ≤ 2 ^ 62
   balance-small =
       let met = statement-accepted b number known in
-      let from = length-within b (met .length) .0 in
       let user = named-user b number (met .found) .user in
-      subst (λ x. natAbs (x .balance) ≤ 2 ^ 62) right (sums-fit b (sound-faultless b (omega arith) (met .is-sound)) (met .length) (findUser b number) user .balance)
+      subst (λ x. natAbs (x .balance) ≤ 2 ^ 62) right (sums-fit b (sound-faultless b (met .length) (met .is-sound)) (met .length) (findUser b number) user .balance)
 
   sums-right : (refusal : ℕ) → refusal ≡ 0 → sumsStated b number refusal ≡ sumsOf (statementOf l)
   unfolding sumsStated

@@ -23,7 +23,6 @@ use Rattle.calls.specs.Bookings.{findUser, closingEntry, closed, valuesOf}
 use Rattle.calls.specs.Refusals.{refuse, hasRoom, present, yearOpen, closeRefusal}
 use Rattle.calls.specs.Calls.{Call, close, refusalOf, booked}
 use Rattle.refusals.specs.Objections.{sheetObjection, closeObjection}
-use Rattle.bookings.proofs.Good.{length-within}
 use Rattle.bookings.proofs.Widths.{account-within}
 use Rattle.bookings.proofs.Accepted.{CloseAccepted, close-accepted}
 use Rattle.bookings.proofs.EnrolElect.{named-user}
@@ -99,9 +98,7 @@ module _ (b : List ℕ) (a : Accepted b) (s : List ℕ) (number : UserNumber) (u
       is-user = named-user b n (met .found) .user
 
       account-fits : accountFits account ≡ true
-      account-fits =
-          let from = length-within b (a .fits) .0 in
-          rw account-is (sound-faultless b (omega arith) (a .isSound) .user (findUser b n) is-user .fits)
+      account-fits = rw account-is (sound-faultless b (a .fits) (a .isSound) .user (findUser b n) is-user .fits)
 
       pub passed : Passed s
       passed = record { past11 = not-true (refused11 s) (met .header); past13 = not-true (refused13 s) (met .numbers) }

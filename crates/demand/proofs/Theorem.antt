@@ -9,12 +9,13 @@ use lib.ListN.{length, getD, replicate}
 use Rattle.layout.specs.Fields.{userKind}
 use Rattle.layout.proofs.ByteRanges.{Bytes}
 use Rattle.book.specs.Book.{lengthFits, freshBook, isUser}
+use Rattle.book.proofs.Lengths.{length-least}
 use Rattle.book.proofs.Faultless.{kind-index}
 use Rattle.soundness.specs.Verdicts.{Accepted, freshAfter}
 use Rattle.soundness.proofs.FreshBooks.{fresh-accepted, used-fresh}
 use Rattle.ledger.specs.Ledger.{Ledger}
 use Rattle.calls.specs.Calls.{Call}
-use Rattle.bookings.proofs.Good.{Good, sound-good, length-within}
+use Rattle.bookings.proofs.Good.{Good, sound-good}
 use Rattle.demand.specs.Demand.{ledgerAfter, AllTyped, Demand, NeverDamaged}
 use Rattle.demand.proofs.CallEffects.{enrols, elects, advances, closes}
 use Rattle.demand.proofs.OneCall.{Effects}
@@ -47,7 +48,7 @@ module _ (b : List ℕ) (fits : lengthFits b ≡ true) where
   fresh-empty : (i : ℕ) → isUser (freshBook (length b)) i ≡ true → ⊥
   fresh-empty i u =
       let place = kind-index (freshBook (length b)) userKind i u in
-      let one = used-fresh (length b) (omega (arith, length-within b fits .0)) in
+      let one = used-fresh (length b) (omega (arith, length-least b fits)) in
       omega (arith, place .0, place .1 .0, one)
 
   -- whatever is called, each user's statement is the ledger's, and the ledger's sums are right

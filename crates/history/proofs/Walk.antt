@@ -1,8 +1,8 @@
 -- Walks over the chain of a user of a sound book: where they begin, and what a turn keeps.
-use Prim.Native.Nat.{ℕ, _+_, _*_, _^_, _≤_, _<_}
+use Prim.Native.Nat.{ℕ, _+_, _^_, _<_}
 use mathlib.Core.Path.{_≡_, refl, sym, ap, subst, _∙_}
 use mathlib.Core.Bool.{Bool, true, false, _&&_}
-use mathlib.Core.List.{List, [], _∷_}
+use mathlib.Core.List.{List}
 use native.Mathlib.Omega.{arith}
 use lib.Dec.{eqb}
 use Rattle.units.specs.declared.RecordIndex.{RecordIndex}
@@ -16,7 +16,7 @@ use Rattle.book.proofs.Faultless.{sound-faultless}
 use Rattle.chains.specs.Chains.{chainFrom, entriesOf}
 use Rattle.chains.specs.Statements.{sumOver, advancePart}
 use Rattle.chains.proofs.Chain.{chain-none}
-use Rattle.chains.proofs.Fit.{records-within, advance-sum}
+use Rattle.chains.proofs.Fit.{advance-sum}
 use Rattle.chains.proofs.Walks.{Ahead, begins, ahead-next, chain-here}
 use Rattle.history.specs.History.{isClosingOf, closingAmong, closingOf, advancesOf}
 
@@ -46,7 +46,7 @@ no-closing b year = ap (closingAmong b year) (chain-none (nextOf b))
 pub advances-small : (b : List ℕ) (i year : ℕ) → lengthFits b ≡ true → sound b ≡ true → isUser b i ≡ true → advancesOf b i year < 2 ^ 64
 unfolding advancesOf
 advances-small b i year long good user =
-    let f = sound-faultless b (omega (arith, records-within b long)) good in
+    let f = sound-faultless b long good in
     omega (arith, advance-sum b f i user long (λ y. eqb y year))
 
 -- THE CLOSING OF A YEAR: it is not before `at`

@@ -20,20 +20,16 @@ use Rattle.layout.specs.Fields.{recordAt}
 use Rattle.records.specs.declared.ClosingRecord.{ClosingRecord}
 use Rattle.records.specs.Records.{accountIn, closingIn}
 use Rattle.book.specs.Book.{lengthFits, sound, isUser, isClosing, rankOf, activationOf}
-use Rattle.book.proofs.Faultless.{Faultless, sound-faultless}
+use Rattle.book.proofs.Faultless.{sound-faultless}
 use Rattle.chains.specs.Chains.{entriesOf}
 use Rattle.chains.proofs.Ranges.{closing-ranges, user-years}
-use Rattle.chains.proofs.Fit.{records-within}
 use Rattle.history.specs.History.{isClosingOf, closingAmong, closingOf, closingAfter, advancesOf, creditOver, creditAfterYears, yearOf, mostYears}
-
-faultless : (b : List ℕ) → lengthFits b ≡ true → sound b ≡ true → Faultless b
-faultless b long good = sound-faultless b (omega (arith, records-within b long)) good
 
 -- an activation year leaves room for every year after it
 pub year-room : (b : List ℕ) (i n : ℕ) → lengthFits b ≡ true → sound b ≡ true → isUser b i ≡ true → n ≤ mostYears → activationOf b i + n < 2 ^ 16
 unfolding activationOf accountIn
 year-room b i n long good user most =
-    let y = user-years b (faultless b long good) i user in
+    let y = user-years b (sound-faultless b long good) i user in
     omega (arith, y .ordered, y .latest)
 
 -- what is found is a closing
@@ -64,7 +60,7 @@ over-most c k l = by-option (eqb (c .option) 1)
 
 module _ (b : List ℕ) (long : lengthFits b ≡ true) (good : sound b ≡ true) (e k : ℕ) (is : isClosing b e ≡ true) where
   value-most : closingIn (recordAt b e) .value .0 ≤ maxYearTicks
-  value-most = closing-ranges b (faultless b long good) e is .value
+  value-most = closing-ranges b (sound-faultless b long good) e is .value
 
   pub credit-room : (c : ClosingRecord) (r : List ℕ) → r ≡ recordAt b e → c ≡ closingIn r → k ≤ maxYearTicks * mostYears → k + c .value .0 < 2 ^ 64
   credit-room c r there read most =

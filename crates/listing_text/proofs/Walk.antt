@@ -11,11 +11,11 @@ use Rattle.accounts.specs.declared.Account.{Account}
 use Rattle.codec.specs.Bytes.{stored}
 use Rattle.codec.proofs.Stores.{length-stored}
 use Rattle.book.specs.Book.{used, firstUser, lengthFits, sound, isUser, nextOf, accountAt}
+use Rattle.book.proofs.Lengths.{capacity-most}
 use Rattle.book.proofs.Faultless.{Faultless, sound-faultless, used-within}
 use Rattle.chains.specs.Chains.{chainFrom, usersOf}
 use Rattle.chains.proofs.Chain.{On, chain-none, chain-from-length}
 use Rattle.chains.proofs.Links.{user-index, first-user, users-fall}
-use Rattle.chains.proofs.Fit.{records-within}
 use Rattle.chains.proofs.Walks.{walk-here, walk-on, walk-falls, walk-chain}
 use Rattle.listing_text.specs.Listing.{line, lines}
 use Rattle.listing_text.specs.Written.{longestLine, mostUsers, longestText, accountLine}
@@ -54,13 +54,13 @@ pub record Walking (b before out : List ℕ) (end user : ℕ) : Type 0 where
 -- THE BEGINNING
 module _ (b : List ℕ) (long : lengthFits b ≡ true) (good : sound b ≡ true) where
   faultless-here : Faultless b
-  faultless-here = sound-faultless b (omega (arith, records-within b long)) good
+  faultless-here = sound-faultless b long good
 
   few-users : firstUser b ≤ mostUsers
   few-users =
       let f = faultless-here in
       ⊎-elim (λ (e : firstUser b ≡ 0). omega arith)
-      (λ (u : isUser b (firstUser b) ≡ true). omega (arith, user-index b (firstUser b) u, used-within b (f .used-fits), records-within b long))
+      (λ (u : isUser b (firstUser b) ≡ true). omega (arith, user-index b (firstUser b) u, used-within b (f .used-fits), capacity-most b long))
       (first-user b f)
 
   pub text-short : length (text b) ≤ longestText

@@ -1,40 +1,19 @@
 -- Which records are faulty, case by case, and that a sound book is one without a faulty record.
-use Prim.Native.Nat.{ℕ, _+_, _*_, _%_, _≤_, _<_}
+use Prim.Native.Nat.{ℕ, _+_, _*_, _≤_, _<_}
 use mathlib.Core.Path.{_≡_, refl, sym, ap, _∙_}
-use mathlib.Core.Bool.{Bool, true, false, not, _&&_, true≢false}
+use mathlib.Core.Bool.{Bool, true, false, not, true≢false}
 use mathlib.Core.List.{List}
 use native.Mathlib.Decide.{decLt}
 use native.Mathlib.Omega.{arith}
 use borrow.Author.Tests.{leb-true, lt-ltb, le-ltb, ne-eqb, eqb-true, not-true}
 use lib.Dec.{leb, eqb}
 use lib.ListN.{length}
+use Rattle.units.specs.Limits.{mostRecords}
 use Rattle.units.proofs.Bools.{and-left, and-right}
 use Rattle.units.proofs.Folds.{none-at, none-of, any-of}
 use Rattle.layout.specs.Fields.{recordLength, capacity}
-use Rattle.pointers.specs.Pointers.{mostRecords}
 use Rattle.book.specs.Book.{lengthFits, used, usedFits, goodRecord, goodHead, faulty, sound}
-
--- what a length that fits says
-module _ (b : List ℕ) (fits : lengthFits b ≡ true) where
-  within-length : (leb 160 (length b) && leb (length b) 64000) ≡ true
-  unfolding lengthFits
-  within-length = and-left (leb 160 (length b) && leb (length b) 64000) (eqb (length b % recordLength) 0) fits
-
-  pub length-least : 160 ≤ length b
-  length-least = leb-true 160 (length b) (and-left (leb 160 (length b)) (leb (length b) 64000) within-length)
-
-  pub length-most : length b ≤ 64000
-  length-most = leb-true (length b) 64000 (and-right (leb 160 (length b)) (leb (length b) 64000) within-length)
-
-  pub length-whole : length b % recordLength ≡ 0
-  unfolding lengthFits
-  length-whole = eqb-true (length b % recordLength) 0 (and-right (leb 160 (length b) && leb (length b) 64000) (eqb (length b % recordLength) 0) fits)
-
-  pub capacity-least : 2 ≤ capacity b
-  capacity-least = let l = length-least in omega arith
-
-  pub capacity-most : capacity b ≤ mostRecords
-  capacity-most = let l = length-most in omega arith
+use Rattle.book.proofs.Lengths.{capacity-least, capacity-most}
 
 -- where u is outside 1 to capacity the head alone is faulty
 pub faulty-unfit : (b : List ℕ) (i : ℕ) → usedFits b ≡ false → faulty b i ≡ eqb i 0

@@ -13,7 +13,8 @@ use Rattle.layout.specs.Fields.{recordLength, recordAt, usedField, firstUserFie
 use Rattle.layout.proofs.Places.{get-record, byte-record}
 use Rattle.book.specs.Book.{lengthFits, freshBook, used, usedFits, firstUser, goodHead, sound}
 use Rattle.soundness.specs.Verdicts.{Accepted, freshAfter}
-use Rattle.soundness.proofs.Faults.{length-least, good-sound}
+use Rattle.book.proofs.Lengths.{length-least}
+use Rattle.soundness.proofs.Faults.{good-sound}
 
 module _ (n : ℕ) (least : recordLength ≤ n) where
   pub length-fresh : length (freshBook n) ≡ n

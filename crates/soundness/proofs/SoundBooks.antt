@@ -9,7 +9,8 @@ use borrow.Author.Tests.{not-false, eqb-true}
 use Rattle.layout.specs.Fields.{userKind, advanceKind, closingKind}
 use Rattle.book.specs.Book.{lengthFits, used, usedFits, isUser, isAdvance, isClosing, isEntry, pointersTo, pointedOnce, goodRecord, goodHead, sound}
 use Rattle.view.proofs.RecordKinds.{kind-from-one, kind-below, kind-is, entry-cases, no-user, no-advance, no-closing}
-use Rattle.soundness.proofs.Faults.{capacity-least, used-most, faulty-unfit, faulty-head, faulty-record, sound-faultless}
+use Rattle.book.proofs.Lengths.{capacity-least}
+use Rattle.soundness.proofs.Faults.{used-most, faulty-unfit, faulty-head, faulty-record, sound-faultless}
 use Rattle.soundness.proofs.GoodRecords.{good-parts, unknown-bad, GoodUser, GoodLinks, GoodAdvance, GoodClosing, user-good, advance-good, closing-good}
 
 module _ (b : List ℕ) (fits : lengthFits b ≡ true) (whole : sound b ≡ true) where

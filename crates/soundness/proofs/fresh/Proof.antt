@@ -10,7 +10,7 @@ use borrow.Author.Tests.{not-true, not-false}
 use borrow.Author.Fill.{fill-none, fill-more}
 use lib.ListN.{length, set, drop, replicate, length-set, drop-of-length-le}
 use Rattle.soundness.specs.Verdicts.{freshAnswer, freshAfter}
-use Rattle.soundness.proofs.Faults.{length-least}
+use Rattle.book.proofs.Lengths.{length-least}
 use borrow.Author.Needs.{needs}
 use Rattle.soundness.proofs.fresh.Statement.{statement}
 use Rattle.soundness.proofs.fresh.Tie as tie
