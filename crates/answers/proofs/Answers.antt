@@ -8,7 +8,7 @@ use borrow.Author.Tests.{eq-eqb, ne-eqb}
 use lib.Dec.{eqb}
 use Rattle.book.specs.Book.{lengthFits, sound, faulty}
 use Rattle.soundness.specs.Verdicts.{Objected}
-use Rattle.soundness.proofs.Faults.{faulty-not-sound}
+use Rattle.book.proofs.Faults.{faulty-not-sound}
 use Rattle.calls.specs.Refusals.{enrolRefusal, electRefusal, advanceRefusal, closeRefusal, statementRefusal}
 use Rattle.calls.specs.Calls.{Call, enrol, elect, advance, close, statement, refusalOf, booked, bookAfter, Names}
 use Rattle.answers.specs.Answers.{Answered}

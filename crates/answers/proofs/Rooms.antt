@@ -9,29 +9,29 @@ use lib.Dec.{eqb}
 use lib.ListN.{length}
 use Rattle.layout.specs.Fields.{recordLength, userKind, capacity}
 use Rattle.accounts.specs.declared.Account.{Account}
-use Rattle.book.specs.Book.{used, isUser, accountAt}
-use Rattle.book.proofs.Lengths.{capacity-most}
-use Rattle.book.proofs.Faultless.{kind-index, used-within, sound-faultless}
+use Rattle.book.specs.Book.{used, usedFits, isUser, accountAt}
+use Rattle.book.proofs.Faults.{used-within, used-whole, used-counted}
+use Rattle.book.proofs.Faultless.{kind-index, sound-faultless}
 use Rattle.soundness.specs.Verdicts.{Accepted}
 use Rattle.calls.specs.Refusals.{refuse, hasRoom}
 use Rattle.answers.specs.Rooms.{EntryFits}
 
 module _ (b : List ℕ) (a : Accepted b) where
-  used-most : used b ≤ capacity b
-  used-most = used-within b (sound-faultless b (a .fits) (a .isSound) .used-fits) .1
+  used-fits : usedFits b ≡ true
+  used-fits = sound-faultless b (a .fits) (a .isSound) .used-fits
 
   pub user-stands : (i : ℕ) → isUser b i ≡ true → recordLength * i + recordLength ≤ length b
-  user-stands i u = omega (arith, kind-index b userKind i u .1 .0, used-most)
+  user-stands i u = used-whole b used-fits i (kind-index b userKind i u .1 .0)
 
   pub room-stands : hasRoom b ≡ true → recordLength * used b + recordLength ≤ length b
   unfolding hasRoom
   room-stands h =
       let other = eqb-false (used b) (capacity b) (not-true (eqb (used b) (capacity b)) h) in
-      let least : used b < capacity b = omega (arith, other, used-most) in
+      let least : used b < capacity b = omega (arith, other, used-within b used-fits .1) in
       omega (arith, least)
 
   pub used-small : used b + 1 < 2 ^ 32
-  used-small = omega (arith, used-most, capacity-most b (a .fits))
+  used-small = omega (arith, used-counted b used-fits (a .fits))
 
   pub entry-fits : (i : ℕ) (account : Account) → account ≡ accountAt b i → isUser b i ≡ true → hasRoom b ≡ true → EntryFits b i account
   entry-fits i account e u h = record { account-is = e; user = user-stands i u; room = room-stands h; index = used-small }

@@ -1,19 +1,18 @@
 -- A sound book, rule by rule: what each of its records is known to meet, and that this is all that soundness asks.
-use Prim.Native.Nat.{ℕ, suc, _+_, _≤_, _<_}
-use mathlib.Core.Path.{_≡_, refl, sym, ap, _∙_, subst}
-use mathlib.Core.Bool.{Bool, true, false, cond, not, _&&_, _||_, true≢false, false≢true}
+use Prim.Native.Nat.{ℕ, _≤_, _<_}
+use mathlib.Core.Path.{_≡_, refl, sym, _∙_}
+use mathlib.Core.Bool.{Bool, true, false, _&&_, _||_, true≢false, false≢true}
 use mathlib.Core.List.{List}
 use native.Mathlib.Omega.{arith}
-use native.Mathlib.Decide.{decLt}
-use borrow.Author.Tests.{eq-eqb, ne-eqb, eqb-true, eqb-false, lt-ltb, le-ltb, ltb-true, leb-true, not-true, not-false}
-use lib.Dec.{eqb, ltb, leb}
-use Rattle.units.specs.Folds.{anyBelow}
-use Rattle.units.proofs.Bools.{and-left, and-right, and-both, or-left, or-right, or-neither}
-use Rattle.units.proofs.Folds.{none-at, none-of, any-of}
+use borrow.Author.Tests.{eq-eqb, eqb-true, lt-ltb, ltb-true, not-false}
+use lib.Dec.{eqb, ltb}
+use Rattle.units.proofs.Bools.{and-left, and-right}
 use Rattle.layout.specs.Fields.{zeros, recordAt, capacity, userKind, advanceKind, closingKind}
 use Rattle.records.specs.Records.{advanceIn, closingIn}
-use Rattle.book.specs.Book.{lengthFits, used, usedFits, kindAt, hasKind, isUser, isAdvance, isClosing, isEntry, accountAt, ownerOf, accountFits, advanceFits, closingFits, rangesFit, zeroBytesFit, userNextFits, numberIsNew, firstEntryFits, firstInOrder, ownerFits, entryNextFits, nextInOrder, pointedOnce, linksFit, goodRecord, goodHead, faulty, sound}
+use Rattle.book.specs.Book.{lengthFits, used, usedFits, kindAt, hasKind, isUser, isAdvance, isClosing, isEntry, accountAt, ownerOf, accountFits, advanceFits, closingFits, rangesFit, zeroBytesFit, userNextFits, numberIsNew, firstEntryFits, firstInOrder, ownerFits, entryNextFits, nextInOrder, pointedOnce, linksFit, goodRecord, goodHead, sound}
 use Rattle.book.proofs.Lengths.{capacity-least}
+pub use Rattle.book.proofs.Faults.{used-within}
+use Rattle.book.proofs.Faults.{faulty-unfit, faulty-head, faulty-record, none-faulty, good-sound}
 
 -- what a good user meets
 pub record UserGood (b : List ℕ) (i : ℕ) : Type 0 where
@@ -32,6 +31,12 @@ pub record EntryLinks (b : List ℕ) (i : ℕ) : Type 0 where
   pub next : entryNextFits b i ≡ true
   pub order : nextInOrder b i ≡ true
   pub pointed : pointedOnce b i ≡ true
+
+-- the owner that fits is a user with a smaller index
+pub owner-before : (b : List ℕ) (i : ℕ) → ownerFits b i ≡ true → (isUser b (ownerOf b i) ≡ true) × (ownerOf b i < i)
+unfolding ownerFits
+owner-before b i f =
+    (and-left (isUser b (ownerOf b i)) (ltb (ownerOf b i) i) f, ltb-true (ownerOf b i) i (and-right (isUser b (ownerOf b i)) (ltb (ownerOf b i) i) f))
 
 pub record AdvanceGood (b : List ℕ) (i : ℕ) : Type 0 where
   pub fits : advanceFits (accountAt b (ownerOf b i)) (advanceIn (recordAt b i)) ≡ true
@@ -64,32 +69,13 @@ pub kind-of : (b : List ℕ) (k i : ℕ) → 1 ≤ i → i < used b → kindAt b
 unfolding hasKind
 kind-of b k i lo hi e = rw (lt-ltb 0 i lo, lt-ltb i (used b) hi, eq-eqb (kindAt b i) k e)
 
--- no record of a sound book is faulty
-pub faultless-at : (b : List ℕ) → sound b ≡ true → (i : ℕ) → i < capacity b → faulty b i ≡ false
-unfolding sound
-faultless-at b h i l = none-at (capacity b) (faulty b) (not-true (anyBelow (capacity b) (faulty b)) h) i l
-
+-- a sound book has a good u
 sound-used : (b : List ℕ) → 0 < capacity b → sound b ≡ true → usedFits b ≡ true
-unfolding faulty
 sound-used b c h = by-value (usedFits b) refl
   where
     by-value : (t : Bool) → usedFits b ≡ t → usedFits b ≡ true
     by-value true e = e
-    by-value false e =
-        let first : faulty b 0 ≡ true = rw e in
-        absurd (true≢false (sym first ∙ faultless-at b h 0 c))
-
--- within u the judgement of a record is the opposite of its fault
-judged : (b : List ℕ) (i : ℕ) → usedFits b ≡ true → i < used b → faulty b i ≡ false → cond (eqb i 0) (goodHead b) (goodRecord b i) ≡ true
-unfolding faulty
-judged b i u l h =
-    let plain : not (cond (eqb i 0) (goodHead b) (goodRecord b i)) ≡ false = rw (u, lt-ltb i (used b) l) at h in
-    not-false (cond (eqb i 0) (goodHead b) (goodRecord b i)) plain
-
-pub used-within : (b : List ℕ) → usedFits b ≡ true → (1 ≤ used b) × (used b ≤ capacity b)
-unfolding usedFits
-used-within b u =
-    (leb-true 1 (used b) (and-left (leb 1 (used b)) (leb (used b) (capacity b)) u), leb-true (used b) (capacity b) (and-right (leb 1 (used b)) (leb (used b) (capacity b)) u))
+    by-value false e = absurd (true≢false (sym (faulty-unfit b 0 e) ∙ none-faulty b h 0 c))
 
 -- a good record, rule by rule
 module _ (b : List ℕ) (i : ℕ) (g : goodRecord b i ≡ true) where
@@ -183,11 +169,10 @@ sound-faultless b fits h =
     let u = sound-used b c h in
     let within = used-within b u in
     let good : (i : ℕ) → 1 ≤ i → i < used b → goodRecord b i ≡ true = λ i lo hi.
-    let apart : eqb i 0 ≡ false = ne-eqb i 0 (omega arith) in
-    rw apart at (judged b i u hi (faultless-at b h i (omega arith))) in
+    not-false (goodRecord b i) (sym (faulty-record b u i lo hi) ∙ none-faulty b h i (omega arith)) in
     record {
       used-fits = u;
-      head = judged b 0 u (omega arith) (faultless-at b h 0 c);
+      head = not-false (goodHead b) (sym (faulty-head b u) ∙ none-faulty b h 0 c);
       known = λ i lo hi. good-known b i (good i lo hi) lo hi;
       user = λ i k. let p = kind-index b userKind i k in good-user b i (good i (p .0) (p .1 .0)) (p .1 .1);
       advance = λ i k. let p = kind-index b advanceKind i k in good-advance b i (good i (p .0) (p .1 .0)) (p .1 .1);
@@ -222,10 +207,4 @@ faultless-good b f i lo hi = by-user (isUser b i) refl
     by-user false e = by-advance (isAdvance b i) refl e
 
 pub faultless-sound : (b : List ℕ) → Faultless b → sound b ≡ true
-unfolding sound faulty
-faultless-sound b f = ap not (none-of (capacity b) (faulty b) (λ i l. clean i (decLt i (used b)) (decLt 0 i)))
-  where
-    clean : (i : ℕ) → Dec (i < used b) → Dec (0 < i) → faulty b i ≡ false
-    clean i (no out) d = rw (f .used-fits, le-ltb i (used b) (omega (arith, out)))
-    clean i (yes inside) (yes lo) = rw (f .used-fits, lt-ltb i (used b) inside, ne-eqb i 0 (omega arith), faultless-good b f i lo inside)
-    clean i (yes inside) (no first) = let head : i ≡ 0 = omega (arith, first) in rw (f .used-fits, lt-ltb i (used b) inside, eq-eqb i 0 head, f .head)
+faultless-sound b f = good-sound b (f .used-fits) (f .head) (faultless-good b f)

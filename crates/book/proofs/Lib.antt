@@ -1,3 +1,4 @@
 pub mod Guards
 pub mod Lengths
+pub mod Faults
 pub mod Faultless

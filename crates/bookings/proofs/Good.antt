@@ -11,7 +11,8 @@ use Rattle.layout.specs.Fields.{recordLength, capacity}
 use Rattle.layout.proofs.ByteRanges.{Bytes}
 use Rattle.book.specs.Book.{lengthFits, used, sound}
 use Rattle.book.proofs.Lengths.{length-least, length-most, length-whole}
-use Rattle.book.proofs.Faultless.{Faultless, sound-faultless, faultless-sound, used-within}
+use Rattle.book.proofs.Faults.{used-within}
+use Rattle.book.proofs.Faultless.{Faultless, sound-faultless, faultless-sound}
 use Rattle.calls.specs.Refusals.{hasRoom}
 
 pub record Good (b : List ℕ) : Type 0 where

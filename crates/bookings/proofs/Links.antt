@@ -12,7 +12,8 @@ use Rattle.layout.specs.Fields.{recordAt, zeros, userKind, advanceKind, closing
 use Rattle.units.proofs.Bools.{and-left, and-right, or-cases}
 use Rattle.units.proofs.Folds.{sum-none}
 use Rattle.book.specs.Book.{used, firstUser, kindAt, isUser, isAdvance, isClosing, isEntry, nextOf, firstEntryOf, ownerOf, goodHead, userNextFits, firstEntryFits, entryNextFits, pointersFrom, pointersTo}
-use Rattle.book.proofs.Faultless.{Faultless, EntryLinks, kind-index, used-within}
+use Rattle.book.proofs.Faults.{used-within}
+use Rattle.book.proofs.Faultless.{Faultless, EntryLinks, kind-index}
 use Rattle.bookings.proofs.Frame.{entry-index}
 use Rattle.bookings.proofs.Pointers.{hits-other, from-head, from-user, from-advance, from-closing}
 

@@ -16,7 +16,8 @@ use Rattle.records.specs.declared.ClosingRecord.{ClosingRecord}
 use Rattle.records.specs.Records.{accountIn, advanceIn, closingIn}
 use Rattle.book.specs.Book.{lengthFits, used, isUser, isAdvance, isClosing, nextOf, firstEntryOf, activationOf, openYearOf, accountAt}
 use Rattle.book.proofs.Lengths.{capacity-most}
-use Rattle.book.proofs.Faultless.{Faultless, used-within}
+use Rattle.book.proofs.Faults.{used-within}
+use Rattle.book.proofs.Faultless.{Faultless}
 use Rattle.ledger.specs.Ledger.{Statement}
 use Rattle.chains.specs.Chains.{entriesOf}
 use Rattle.chains.specs.Statements.{closingPart, advancePart, balancePart, sumOver, sumOverℤ, statementAt}

@@ -9,8 +9,8 @@ use lib.Dec.{eqb, ltb}
 use borrow.Author.Tests.{eqb-true, ltb-true}
 use Rattle.units.proofs.Bools.{and-left, and-right, or-cases}
 use Rattle.layout.specs.Fields.{zeros, recordAt, userKind, advanceKind, closingKind}
-use Rattle.book.specs.Book.{used, firstUser, hasKind, isUser, isAdvance, isClosing, isEntry, ownerOf, nextOf, firstEntryOf, userNextFits, firstEntryFits, entryNextFits, ownerFits, goodHead}
-use Rattle.book.proofs.Faultless.{Faultless, EntryLinks, kind-index}
+use Rattle.book.specs.Book.{used, firstUser, hasKind, isUser, isAdvance, isClosing, isEntry, ownerOf, nextOf, firstEntryOf, userNextFits, firstEntryFits, entryNextFits, goodHead}
+use Rattle.book.proofs.Faultless.{Faultless, EntryLinks, kind-index, owner-before}
 use Rattle.chains.proofs.Chain.{Falls}
 
 -- an entry of the user at index i
@@ -94,10 +94,7 @@ module _ (b : List ℕ) (f : Faultless b) where
 
   -- "its owner is a user with a smaller index"
   pub entry-owner : (e : ℕ) → isEntry b e ≡ true → (isUser b (ownerOf b e) ≡ true) × (ownerOf b e < e)
-  unfolding ownerFits
-  entry-owner e h =
-      let t = entry-links e h .owner in
-      (and-left (isUser b (ownerOf b e)) (ltb (ownerOf b e) e) t, ltb-true (ownerOf b e) e (and-right (isUser b (ownerOf b e)) (ltb (ownerOf b e) e) t))
+  entry-owner e h = owner-before b e (entry-links e h .owner)
 
   -- the same as steps of a chain
   pub users-fall : Falls (λ i. isUser b i ≡ true) (nextOf b)

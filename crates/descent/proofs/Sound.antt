@@ -1,17 +1,15 @@
 -- A book that one pass from its last record down to its first has passed is sound.
 use Prim.Native.Nat.{ℕ, suc, _+_, _-_, _≤_, _<_}
-use mathlib.Core.Path.{_≡_, ap}
-use mathlib.Core.Bool.{true, false, not}
+use mathlib.Core.Path.{_≡_}
+use mathlib.Core.Bool.{true}
 use mathlib.Core.Logic.{_⊎_, inl, inr}
 use mathlib.Core.List.{List}
-use native.Mathlib.Decide.{decLt}
 use native.Mathlib.Omega.{arith}
-use borrow.Author.Tests.{eq-eqb, ne-eqb, lt-ltb, le-ltb}
+use borrow.Author.Tests.{ne-eqb}
 use Rattle.units.proofs.Bools.{and-both}
-use Rattle.units.proofs.Folds.{none-of}
-use Rattle.layout.specs.Fields.{capacity, userKind}
-use Rattle.book.specs.Book.{used, kindAt, isUser, isEntry, rangesFit, zeroBytesFit, linksFit, goodRecord, goodHead, faulty, sound}
-use Rattle.book.proofs.Faultless.{used-within}
+use Rattle.layout.specs.Fields.{userKind}
+use Rattle.book.specs.Book.{used, kindAt, isUser, isEntry, rangesFit, zeroBytesFit, linksFit, goodRecord, goodHead, sound}
+use Rattle.book.proofs.Faults.{used-within, good-sound}
 use Rattle.view.proofs.RecordKinds.{kind-is}
 use Rattle.descent.specs.Descent.{met, MetUser, MetEntry, Passed}
 use Rattle.descent.proofs.Steps.{met-at, entry-no-user}
@@ -56,16 +54,5 @@ module _ (b : List ℕ) (p : Passed b) where
         by-record (inl m) = good (m .ranges) (m .zero-bytes) (user-links d place m (rw here at (m .user)))
         by-record (inr m) = good (m .ranges) (m .zero-bytes) (entry-links d place m (rw here at (m .entry)))
 
-  no-fault : (i : ℕ) → faulty b i ≡ false
-  unfolding faulty
-  no-fault i = by-place (decLt i (used b)) (decLt 0 i)
-    where
-      by-place : Dec (i < used b) → Dec (0 < i) → faulty b i ≡ false
-      by-place (no out) first = rw (p .used-fits, le-ltb i (used b) (omega (arith, out)))
-      by-place (yes hi) (yes lo) = rw (p .used-fits, lt-ltb i (used b) hi, ne-eqb i 0 (omega arith), record-good i lo hi)
-      by-place (yes hi) (no first) = let head : i ≡ 0 = omega (arith, first) in rw (p .used-fits, lt-ltb i (used b) hi, eq-eqb i 0 head, head-good)
-
--- "A book is sound if no record is faulty."
 pub passed-sound : (b : List ℕ) → Passed b → sound b ≡ true
-unfolding sound
-passed-sound b p = ap not (none-of (capacity b) (faulty b) (λ i l. no-fault b p i))
+passed-sound b p = good-sound b (p .used-fits) (head-good b p) (record-good b p)

@@ -14,7 +14,7 @@ use Rattle.units.specs.declared.RecordIndex.{RecordIndex}
 use Rattle.soundness.specs.declared.Checked.{Checked}
 use Rattle.soundness.specs.declared.Checked.the-variants.{Length, Sound, Faulty}
 use Rattle.soundness.specs.Verdicts.{BookChecked, Accepted, Objected}
-use Rattle.soundness.proofs.Faults.{faulty-not-sound}
+use Rattle.book.proofs.Faults.{faulty-not-sound}
 use Rattle.listing_text.specs.Listing.{blank, lineFeed, lines, refused, listing}
 use Rattle.listing_text.specs.Written.{longestRefusal, longestText, field, AllWritten}
 use Rattle.listing_text.proofs.Pieces.{stored-then}

@@ -12,7 +12,8 @@ use Rattle.codec.specs.Bytes.{stored}
 use Rattle.codec.proofs.Stores.{length-stored}
 use Rattle.book.specs.Book.{used, firstUser, lengthFits, sound, isUser, nextOf, accountAt}
 use Rattle.book.proofs.Lengths.{capacity-most}
-use Rattle.book.proofs.Faultless.{Faultless, sound-faultless, used-within}
+use Rattle.book.proofs.Faults.{used-within}
+use Rattle.book.proofs.Faultless.{Faultless, sound-faultless}
 use Rattle.chains.specs.Chains.{chainFrom, usersOf}
 use Rattle.chains.proofs.Chain.{On, chain-none, chain-from-length}
 use Rattle.chains.proofs.Links.{user-index, first-user, users-fall}

@@ -2,18 +2,18 @@
 -- smaller index. A record that has neither is faulty by itself.
 use Prim.Native.Nat.{ℕ, _+_, _≤_, _<_}
 use mathlib.Core.Path.{_≡_, refl, sym, ap, _∙_}
-use mathlib.Core.Bool.{Bool, true, false, not, _&&_, true≢false}
+use mathlib.Core.Bool.{Bool, true, false, not, _&&_, and-false, true≢false}
 use mathlib.Core.List.{List}
 use native.Mathlib.Omega.{arith}
 use borrow.Author.Count.{below-more}
-use borrow.Author.Tests.{eq-eqb}
+use borrow.Author.Tests.{eq-eqb, ne-eqb}
 use lib.Dec.{eqb}
 use Rattle.units.proofs.Bools.{and-left, and-right, and-both}
-use Rattle.layout.specs.Fields.{userKind}
-use Rattle.book.specs.Book.{used, usedFits, isUser, isEntry, ownerOf, ownerFits, goodRecord, faulty}
+use Rattle.layout.specs.Fields.{userKind, advanceKind, closingKind}
+use Rattle.book.specs.Book.{used, usedFits, kindAt, isUser, isEntry, ownerOf, ownerFits, rangesFit, zeroBytesFit, linksFit, goodRecord, faulty}
+use Rattle.book.proofs.Faults.{faulty-record}
+use Rattle.book.proofs.Faultless.{owner-before}
 use Rattle.view.proofs.RecordKinds.{kind-from-one, kind-below, no-user, no-advance, no-closing}
-use Rattle.soundness.proofs.Faults.{faulty-record}
-use Rattle.soundness.proofs.GoodRecords.{owner-user, owner-before, ownerless-bad, unknown-bad}
 
 -- an entry of a user
 abbrev pub belongs : List ℕ → ℕ → ℕ → Bool
@@ -46,8 +46,26 @@ homes-good b homes i p h = by-user (isUser b i) refl
     by-user true u = homes i p h .user u
     by-user false n =
         let o = homes i p h .owned n in
-        let f = and-right (isEntry b i) (ownerFits b i) o in
-        at-owner (and-left (isEntry b i) (ownerFits b i) o) (owner-user b i f) (owner-before b i f)
+        let f = owner-before b i (and-right (isEntry b i) (ownerFits b i) o) in
+        at-owner (and-left (isEntry b i) (ownerFits b i) o) (f .0) (f .1)
+
+-- a record of no known kind, and an entry whose owner does not fit, are not good
+module _ (b : List ℕ) (i : ℕ) where
+  no-ranges : (kindAt b i ≡ userKind → ⊥) → (kindAt b i ≡ advanceKind → ⊥) → (kindAt b i ≡ closingKind → ⊥) → rangesFit b i ≡ false
+  unfolding rangesFit
+  no-ranges u a c = rw (ne-eqb (kindAt b i) userKind u, ne-eqb (kindAt b i) advanceKind a, ne-eqb (kindAt b i) closingKind c)
+
+  unknown-bad : (kindAt b i ≡ userKind → ⊥) → (kindAt b i ≡ advanceKind → ⊥) → (kindAt b i ≡ closingKind → ⊥) → goodRecord b i ≡ false
+  unfolding goodRecord
+  unknown-bad u a c = rw (no-ranges u a c)
+
+  no-links : (kindAt b i ≡ userKind → ⊥) → ownerFits b i ≡ false → linksFit b i ≡ false
+  unfolding linksFit
+  no-links u f = rw (ne-eqb (kindAt b i) userKind u, f)
+
+  ownerless-bad : (kindAt b i ≡ userKind → ⊥) → ownerFits b i ≡ false → goodRecord b i ≡ false
+  unfolding goodRecord
+  ownerless-bad u f = rw (no-links u f, and-false (rangesFit b i && zeroBytesFit b i))
 
 -- a record that is neither a user nor an entry of a user before it is not good
 pub stray-bad : (b : List ℕ) (i : ℕ) → 1 ≤ i → i < used b → isUser b i ≡ false → (isEntry b i && ownerFits b i) ≡ false

@@ -9,7 +9,7 @@ use borrow.Author.Tests.{not-true, not-false}
 use Rattle.soundness.specs.declared.Verdict.{Verdict}
 use Rattle.soundness.specs.declared.Verdict.the-variants.{Sound, Faulty}
 use Rattle.soundness.specs.Verdicts.{RecordsJudged, Judged}
-use Rattle.soundness.proofs.Faults.{faulty-unfit, faulty-head, good-sound}
+use Rattle.book.proofs.Faults.{faulty-unfit, faulty-head, good-sound}
 use borrow.Author.Needs.{needs}
 use Rattle.soundness.proofs.judge.Statement.{statement}
 use Rattle.soundness.proofs.judge.Tie as tie

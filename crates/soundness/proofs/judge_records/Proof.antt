@@ -8,7 +8,7 @@ use Rattle.book.specs.Book.{used, goodRecord}
 use native.Mathlib.Omega.{arith}
 use mathlib.Core.Logic.{⊎-elim}
 use borrow.Author.Tests.{not-true, not-false}
-use Rattle.soundness.proofs.Faults.{used-counted, used-whole}
+use Rattle.book.proofs.Faults.{used-counted, used-whole}
 use Rattle.soundness.proofs.Homes.{belongs, Home, home-user, home-other, homes-next, entries-next, Outcome, outcome-none, outcome-some, stray-bad}
 use Rattle.soundness.proofs.judge_records.Statement.{statement}
 use Rattle.soundness.proofs.judge_records.Tie as tie

@@ -12,8 +12,13 @@ use Rattle.units.specs.Limits.{mostRecords}
 use Rattle.units.proofs.Bools.{and-left, and-right}
 use Rattle.units.proofs.Folds.{none-at, none-of, any-of}
 use Rattle.layout.specs.Fields.{recordLength, capacity}
 use Rattle.book.specs.Book.{lengthFits, used, usedFits, goodRecord, goodHead, faulty, sound}
 use Rattle.book.proofs.Lengths.{capacity-least, capacity-most}
+
+pub used-within : (b : List ℕ) → usedFits b ≡ true → (1 ≤ used b) × (used b ≤ capacity b)
+unfolding usedFits
+used-within b u =
+    (leb-true 1 (used b) (and-left (leb 1 (used b)) (leb (used b) (capacity b)) u), leb-true (used b) (capacity b) (and-right (leb 1 (used b)) (leb (used b) (capacity b)) u))
 
 -- where u is outside 1 to capacity the head alone is faulty
 pub faulty-unfit : (b : List ℕ) (i : ℕ) → usedFits b ≡ false → faulty b i ≡ eqb i 0
@@ -21,25 +26,16 @@ unfolding faulty
 faulty-unfit b i u = rw u
 
 module _ (b : List ℕ) (u : usedFits b ≡ true) where
-  pub used-least : 1 ≤ used b
-  unfolding usedFits
-  used-least = leb-true 1 (used b) (and-left (leb 1 (used b)) (leb (used b) (capacity b)) u)
-
-  pub used-most : used b ≤ capacity b
-  unfolding usedFits
-  used-most = leb-true (used b) (capacity b) (and-right (leb 1 (used b)) (leb (used b) (capacity b)) u)
-
   -- the book has a record that is used whole
   pub used-whole : (i : ℕ) → i < used b → recordLength * i + recordLength ≤ length b
-  used-whole i h = let m = used-most in omega arith
+  used-whole i h = let m = used-within b u .1 in omega arith
 
-  -- the counts of pointers have a place for each record
   pub used-counted : lengthFits b ≡ true → used b ≤ mostRecords
-  used-counted fits = let c = capacity-most b fits in let m = used-most in omega arith
+  used-counted fits = let c = capacity-most b fits in let m = used-within b u .1 in omega arith
 
   pub faulty-head : faulty b 0 ≡ not (goodHead b)
   unfolding faulty
-  faulty-head = rw (u, lt-ltb 0 (used b) used-least)
+  faulty-head = rw (u, lt-ltb 0 (used b) (used-within b u .0))
 
   pub faulty-record : (i : ℕ) → 1 ≤ i → i < used b → faulty b i ≡ not (goodRecord b i)
   unfolding faulty
@@ -50,18 +46,15 @@ module _ (b : List ℕ) (u : usedFits b ≡ true) where
   faulty-past i h = rw (u, le-ltb i (used b) h)
 
 -- "A book is sound if no record is faulty."
-pub sound-faultless : (b : List ℕ) → sound b ≡ true → (i : ℕ) → i < capacity b → faulty b i ≡ false
+pub none-faulty : (b : List ℕ) → sound b ≡ true → (i : ℕ) → i < capacity b → faulty b i ≡ false
 unfolding sound
-sound-faultless b s = none-at (capacity b) (faulty b) (not-true _ s)
-
-pub faultless-sound : (b : List ℕ) → ((i : ℕ) → i < capacity b → faulty b i ≡ false) → sound b ≡ true
-unfolding sound
-faultless-sound b h = rw (none-of (capacity b) (faulty b) h)
+none-faulty b s = none-at (capacity b) (faulty b) (not-true _ s)
 
 -- a book is sound if u, the head and every other record are good
 pub good-sound : (b : List ℕ) → usedFits b ≡ true → goodHead b ≡ true → ((i : ℕ) → 1 ≤ i → i < used b → goodRecord b i ≡ true)
     → sound b ≡ true
-good-sound b u head records = faultless-sound b (λ i _. by-index i (decLt i (used b)) (decLt 0 i))
+unfolding sound
+good-sound b u head records = ap not (none-of (capacity b) (faulty b) (λ i _. by-index i (decLt i (used b)) (decLt 0 i)))
   where
     by-index : (i : ℕ) → Dec (i < used b) → Dec (0 < i) → faulty b i ≡ false
     by-index i (no past) d = faulty-past b u i (omega (arith, past))
@@ -69,11 +62,11 @@ good-sound b u head records = faultless-sound b (λ i _. by-index i (decLt i (us
     by-index i (yes h) (no z) = let e : i ≡ 0 = omega (arith, z) in rw e (faulty-head b u ∙ ap not head)
 
 -- a faulty record lies in the book, so that a book with one is not sound
-pub faulty-below : (b : List ℕ) → lengthFits b ≡ true → (i : ℕ) → faulty b i ≡ true → i < capacity b
+faulty-below : (b : List ℕ) → lengthFits b ≡ true → (i : ℕ) → faulty b i ≡ true → i < capacity b
 faulty-below b fits i f = by-used (usedFits b) refl
   where
     by-order : usedFits b ≡ true → Dec (i < used b) → i < capacity b
-    by-order u (yes h) = omega (arith, used-most b u)
+    by-order u (yes h) = omega (arith, used-within b u .1)
     by-order u (no past) = absurd (true≢false (sym f ∙ faulty-past b u i (omega (arith, past))))
 
     by-used : (t : Bool) → usedFits b ≡ t → i < capacity b
