@@ -11,7 +11,8 @@ use Rattle.layout.specs.Fields.{recordLength, userKind, capacity}
 use Rattle.accounts.specs.declared.Account.{Account}
 use Rattle.book.specs.Book.{used, usedFits, isUser, accountAt}
 use Rattle.book.proofs.Faults.{used-within, used-whole, used-counted}
-use Rattle.book.proofs.Faultless.{kind-index, sound-faultless}
+use Rattle.book.proofs.RecordKinds.{kind-index}
+use Rattle.book.proofs.Faultless.{sound-faultless}
 use Rattle.soundness.specs.Verdicts.{Accepted}
 use Rattle.calls.specs.Refusals.{refuse, hasRoom}
 use Rattle.answers.specs.Rooms.{EntryFits}

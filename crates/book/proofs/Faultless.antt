@@ -4,12 +4,13 @@ use mathlib.Core.Path.{_≡_, refl, sym, _∙_}
 use mathlib.Core.Bool.{Bool, true, false, _&&_, _||_, true≢false, false≢true}
 use mathlib.Core.List.{List}
 use native.Mathlib.Omega.{arith}
-use borrow.Author.Tests.{eq-eqb, eqb-true, lt-ltb, ltb-true, not-false}
+use borrow.Author.Tests.{lt-ltb, ltb-true, not-false}
 use lib.Dec.{eqb, ltb}
 use Rattle.units.proofs.Bools.{and-left, and-right}
 use Rattle.layout.specs.Fields.{zeros, recordAt, capacity, userKind, advanceKind, closingKind}
 use Rattle.records.specs.Records.{advanceIn, closingIn}
 use Rattle.book.specs.Book.{lengthFits, used, usedFits, kindAt, hasKind, isUser, isAdvance, isClosing, isEntry, accountAt, ownerOf, accountFits, advanceFits, closingFits, rangesFit, zeroBytesFit, userNextFits, numberIsNew, firstEntryFits, firstInOrder, ownerFits, entryNextFits, nextInOrder, pointedOnce, linksFit, goodRecord, goodHead, sound}
+use Rattle.book.proofs.RecordKinds.{kind-index, kind-is}
 use Rattle.book.proofs.Lengths.{capacity-least}
 pub use Rattle.book.proofs.Faults.{used-within}
 use Rattle.book.proofs.Faults.{faulty-unfit, faulty-head, faulty-record, none-faulty, good-sound}
@@ -57,17 +58,6 @@ pub record Faultless (b : List ℕ) : Type 0 where
   pub user : (i : ℕ) → isUser b i ≡ true → UserGood b i
   pub advance : (i : ℕ) → isAdvance b i ≡ true → AdvanceGood b i
   pub closing : (i : ℕ) → isClosing b i ≡ true → ClosingGood b i
-
--- a kind is told by index and kind byte
-pub kind-index : (b : List ℕ) (k i : ℕ) → hasKind b k i ≡ true → (1 ≤ i) × ((i < used b) × (kindAt b i ≡ k))
-unfolding hasKind
-kind-index b k i h =
-    let place = and-left (ltb 0 i && ltb i (used b)) (eqb (kindAt b i) k) h in
-    (ltb-true 0 i (and-left (ltb 0 i) (ltb i (used b)) place), (ltb-true i (used b) (and-right (ltb 0 i) (ltb i (used b)) place), eqb-true (kindAt b i) k (and-right (ltb 0 i && ltb i (used b)) (eqb (kindAt b i) k) h)))
-
-pub kind-of : (b : List ℕ) (k i : ℕ) → 1 ≤ i → i < used b → kindAt b i ≡ k → hasKind b k i ≡ true
-unfolding hasKind
-kind-of b k i lo hi e = rw (lt-ltb 0 i lo, lt-ltb i (used b) hi, eq-eqb (kindAt b i) k e)
 
 -- a sound book has a good u
 sound-used : (b : List ℕ) → 0 < capacity b → sound b ≡ true → usedFits b ≡ true
@@ -197,13 +187,13 @@ unfolding isEntry
 faultless-good b f i lo hi = by-user (isUser b i) refl
   where
     by-advance : (t : Bool) → isAdvance b i ≡ t → isUser b i ≡ false → goodRecord b i ≡ true
-    by-advance true e u = advance-good b i (kind-index b advanceKind i e .1 .1) (f .advance i e)
+    by-advance true e u = advance-good b i (kind-is b advanceKind i e) (f .advance i e)
     by-advance false e u =
         let closing : isClosing b i ≡ true = rw (u, e) at (f .known i lo hi) in
-        closing-good b i (kind-index b closingKind i closing .1 .1) (f .closing i closing)
+        closing-good b i (kind-is b closingKind i closing) (f .closing i closing)
 
     by-user : (t : Bool) → isUser b i ≡ t → goodRecord b i ≡ true
-    by-user true e = user-good b i (kind-index b userKind i e .1 .1) (f .user i e)
+    by-user true e = user-good b i (kind-is b userKind i e) (f .user i e)
     by-user false e = by-advance (isAdvance b i) refl e
 
 pub faultless-sound : (b : List ℕ) → Faultless b → sound b ≡ true

@@ -10,7 +10,8 @@ use Rattle.units.proofs.Bools.{and-both}
 use Rattle.accounts.specs.declared.Account.{Account}
 use Rattle.layout.specs.Fields.{recordAt, capacity, userKind}
 use Rattle.book.specs.Book.{used, firstUser, accountFits, accountAt, isUser, nextOf, firstEntryOf, numberOf, userNextFits, numberIsNew, firstEntryFits, firstInOrder, inOrder}
-use Rattle.book.proofs.Faultless.{Faultless, UserGood, kind-index}
+use Rattle.book.proofs.RecordKinds.{kind-index}
+use Rattle.book.proofs.Faultless.{Faultless, UserGood}
 use Rattle.bookings.proofs.Bools.{or-stays, or-second}
 use Rattle.bookings.proofs.Widths.{user-fits}
 use Rattle.bookings.proofs.Records.{UserAt, user-at}

@@ -11,12 +11,13 @@ use Rattle.units.proofs.Bools.{and-left, and-right, and-both}
 use Rattle.accounts.specs.declared.Account.{Account}
 use Rattle.layout.specs.Fields.{recordAt, capacity, userKind, advanceKind, closingKind}
 use Rattle.book.specs.Book.{used, firstUser, accountFits, accountAt, isUser, isAdvance, isClosing, isEntry, nextOf, firstEntryOf, ownerOf, rankOf, activationOf, openYearOf, firstEntryFits, firstInOrder, inOrder, nextInOrder, ownerFits, entryNextFits, hits, pointersFrom}
-use Rattle.book.proofs.Faultless.{Faultless, UserGood, EntryLinks, kind-index}
+use Rattle.book.proofs.RecordKinds.{kind-index, entry-index}
+use Rattle.book.proofs.Faultless.{Faultless, UserGood, EntryLinks}
 use Rattle.bookings.proofs.Bools.{or-stays, or-first, or-second}
 use Rattle.bookings.proofs.Records.{UserAt, user-at, EntryAt}
 use Rattle.bookings.proofs.Good.{Good, Sizes, sizes}
 use Rattle.bookings.proofs.Written.{HeadAt, userWith, EntryAdded}
-use Rattle.bookings.proofs.Frame.{Frame, SameUser, frame-of-user, entry-index}
+use Rattle.bookings.proofs.Frame.{Frame, SameUser, frame-of-user}
 use Rattle.bookings.proofs.KindsKept.{kind-stays, entry-stays, owner-same, activation-same}
 use Rattle.bookings.proofs.RulesKept.{user-next-kept, number-kept, order-kept}
 use Rattle.bookings.proofs.PointersKept.{OneMore, old-pointers, new-pointed, pointed-kept, added-pointers}
@@ -73,7 +74,7 @@ module _ (b b′ : List ℕ) (i : ℕ) (a : Account) (entry : List ℕ) (g : Goo
             and-both
             (and-both (entry-stays b b′ i entered-frame (firstEntryOf b i) first)
             (ap (λ (k : ℕ). eqb k i) (owner-same b b′ i entered-frame (firstEntryOf b i) first) ∙ and-right (isEntry b (firstEntryOf b i)) (eqb (ownerOf b (firstEntryOf b i)) i) t))
-            (lt-ltb (firstEntryOf b i) (used b) (entry-index b (firstEntryOf b i) first .1 .0))
+            (lt-ltb (firstEntryOf b i) (used b) (entry-index b (firstEntryOf b i) first .1))
 
     next-in-order : nextInOrder b′ (used b) ≡ true
     unfolding nextInOrder firstInOrder

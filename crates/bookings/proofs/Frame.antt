@@ -1,19 +1,18 @@
 -- What every booking leaves of the records that stood in the book: one frame for the three ways of writing.
-use Prim.Native.Nat.{ℕ, _+_, _≤_, _<_}
-use mathlib.Core.Path.{_≡_, refl, sym, ap, subst, _∙_}
-use mathlib.Core.Bool.{Bool, true, false, true≢false, _||_}
+use Prim.Native.Nat.{ℕ, _≤_, _<_}
+use mathlib.Core.Path.{_≡_, sym, ap, subst, _∙_}
+use mathlib.Core.Bool.{true}
 use mathlib.Core.List.{List}
-use native.Mathlib.Nat.{le-refl, le-of-eq}
+use native.Mathlib.Nat.{le-of-eq}
 use native.Mathlib.Decide.{ℕ-discrete}
 use native.Mathlib.Omega.{arith}
 use lib.ListN.{length}
-use Rattle.values.specs.declared.Details.{Details}
 use Rattle.accounts.specs.declared.Account.{Account}
-use Rattle.layout.specs.Fields.{get, recordAt, userKind, advanceKind, closingKind, kindField, nextField, numberField, ownerField, openYearField, usedField}
+use Rattle.layout.specs.Fields.{get, recordAt, userKind, kindField, nextField, numberField, openYearField}
 use Rattle.records.specs.declared.UserRecord.{UserRecord}
 use Rattle.records.specs.Records.{accountIn}
-use Rattle.book.specs.Book.{used, kindAt, isUser, isAdvance, isClosing, isEntry, nextOf, numberOf, ownerOf, accountAt, activationOf, openYearOf}
-use Rattle.book.proofs.Faultless.{kind-index}
+use Rattle.book.specs.Book.{used, kindAt, isUser, isEntry, nextOf, numberOf, accountAt, openYearOf}
+use Rattle.book.proofs.RecordKinds.{kind-is, kind-index, entry-index, entry-no-user}
 use Rattle.bookings.proofs.Records.{UserAt}
 
 -- The book b′ after a booking for the user i; of an enrolment i is the new index. No record goes, kinds and nexts stay,
@@ -28,15 +27,6 @@ pub record Frame (b b′ : List ℕ) (i : ℕ) : Type 0 where
   pub openYear : (j : ℕ) → isUser b j ≡ true → openYearOf b j ≤ openYearOf b′ j
   pub entry : (j : ℕ) → isEntry b j ≡ true → recordAt b′ j ≡ recordAt b j
   pub others : (j : ℕ) → 1 ≤ j → j < used b → (j ≡ i → ⊥) → recordAt b′ j ≡ recordAt b j
-
--- an entry is an advance or a closing
-pub entry-index : (b : List ℕ) (j : ℕ) → isEntry b j ≡ true → (1 ≤ j) × ((j < used b) × (kindAt b j ≡ userKind → ⊥))
-unfolding isEntry
-entry-index b j h = by-value (isAdvance b j) refl
-  where
-    by-value : (t : Bool) → isAdvance b j ≡ t → (1 ≤ j) × ((j < used b) × (kindAt b j ≡ userKind → ⊥))
-    by-value true e = let p = kind-index b advanceKind j e in (p .0, (p .1 .0, λ k. omega (arith, p .1 .1)))
-    by-value false e = let p = kind-index b closingKind j (rw e at h) in (p .0, (p .1 .0, λ k. omega (arith, p .1 .1)))
 
 -- the same user later: number and details stay, the open year does not fall
 pub record SameUser (before after : Account) : Type 0 where
@@ -59,7 +49,7 @@ frame-of-old b b′ i l u same =
       number = λ j h. ap (get numberField) (user j h);
       details = λ j h. ap (λ (r : List ℕ). accountIn r .details) (user j h);
       openYear = λ j h. le-of-eq (sym (ap (get openYearField) (user j h)));
-      entry = λ j h. let p = entry-index b j h in same j (p .0) (p .1 .0);
+      entry = λ j h. let p = entry-index b j h in same j (p .0) (p .1);
       others = λ j lo hi n. same j lo hi;
     }
 
@@ -89,6 +79,6 @@ module _ (b b′ : List ℕ) (i : ℕ) (u : UserRecord) (h : isUser b i ≡ true
         details = at-user (λ j. accountAt b′ j .details ≡ accountAt b j .details) (ap (λ (a : Account). a .details) (at .account) ∙ same .details)
             (λ j e. ap (λ (r : List ℕ). accountIn r .details) e);
         openYear = at-user (λ j. openYearOf b j ≤ openYearOf b′ j) (omega (arith, at .openYear, same .openYear)) (λ j e. le-of-eq (sym (ap (get openYearField) e)));
-        entry = λ j k. let p = entry-index b j k in others j (p .0) (p .1 .0) (λ e. p .1 .1 (subst (λ m. kindAt b m ≡ userKind) (sym e) (kind-index b userKind i h .1 .1)));
+        entry = λ j k. let p = entry-index b j k in others j (p .0) (p .1) (λ e. entry-no-user b j k (subst (λ m. kindAt b m ≡ userKind) (sym e) (kind-is b userKind i h)));
         others = others;
       }

@@ -12,7 +12,8 @@ use Rattle.units.proofs.Bools.{and-left, and-right, and-both}
 use Rattle.layout.specs.Fields.{recordAt, zeros, capacity, userKind}
 use Rattle.layout.proofs.ByteRanges.{Bytes}
 use Rattle.book.specs.Book.{lengthFits, used, usedFits, firstUser, goodHead, isUser, hasKind, kindAt}
-use Rattle.book.proofs.Faultless.{Faultless, kind-of}
+use Rattle.book.proofs.RecordKinds.{has-kind}
+use Rattle.book.proofs.Faultless.{Faultless}
 use Rattle.bookings.proofs.Bools.{or-stays}
 use Rattle.bookings.proofs.Good.{Good, Sizes, sizes}
 use Rattle.bookings.proofs.Written.{HeadAt}
@@ -51,7 +52,7 @@ module _ (b b′ : List ℕ) (g : Good b) (room : used b < capacity b) (l : leng
 
   -- the new record has the kind that it holds
   pub new-kind : (k : ℕ) → kindAt b′ (used b) ≡ k → hasKind b′ k (used b) ≡ true
-  new-kind k e = let s = sizes b g in kind-of b′ k (used b) (s .some) grown e
+  new-kind k e = let s = sizes b g in has-kind b′ k (used b) (s .some) grown e
 
   pub grown-good : Bytes b′ → (eqb first 0 || isUser b′ first) ≡ true → ((j : ℕ) → 1 ≤ j → j < used b → GoodAt b′ j) → GoodAt b′ (used b) → Good b′
   grown-good bytes linked old new =

@@ -1,31 +1,18 @@
 -- Kinds under a frame: at an old index every kind stays, and none is lost.
-use Prim.Native.Nat.{ℕ, _+_, _≤_, _<_}
-use mathlib.Core.Path.{_≡_, refl, sym, ap, ap₂, subst, _∙_}
-use mathlib.Core.Bool.{Bool, true, false, _&&_, _||_}
+use Prim.Native.Nat.{ℕ, _<_}
+use mathlib.Core.Path.{_≡_, ap, ap₂, _∙_}
+use mathlib.Core.Bool.{true, _&&_}
 use mathlib.Core.List.{List}
 use native.Mathlib.Decide.{decLt}
 use native.Mathlib.Omega.{arith}
 use borrow.Author.Tests.{lt-ltb, le-ltb}
 use lib.Dec.{ltb, eqb}
-use Rattle.layout.specs.Fields.{get, recordAt, ownerField, yearField, activationYearField, userKind, advanceKind, closingKind}
+use Rattle.layout.specs.Fields.{get, ownerField, yearField, advanceKind, closingKind}
 use Rattle.records.specs.Records.{accountIn}
 use Rattle.values.specs.declared.Details.{Details}
-use Rattle.book.specs.Book.{used, kindAt, hasKind, isUser, isAdvance, isClosing, isEntry, ownerOf, rankOf, activationOf}
-use Rattle.book.proofs.Faultless.{kind-index, kind-of}
-use Rattle.bookings.proofs.Frame.{Frame, entry-index}
-
--- an advance and a closing are entries
-pub advance-entry : (b : List ℕ) (j : ℕ) → isAdvance b j ≡ true → isEntry b j ≡ true
-unfolding isEntry
-advance-entry b j h = rw h
-
-pub closing-entry : (b : List ℕ) (j : ℕ) → isClosing b j ≡ true → isEntry b j ≡ true
-unfolding isEntry
-closing-entry b j h = by-value (isAdvance b j)
-  where
-    by-value : (t : Bool) → (t || isClosing b j) ≡ true
-    by-value true = refl
-    by-value false = h
+use Rattle.book.specs.Book.{used, kindAt, hasKind, isUser, isEntry, ownerOf, rankOf, activationOf}
+use Rattle.book.proofs.RecordKinds.{kind-index, entry-index}
+use Rattle.bookings.proofs.Frame.{Frame}
 
 module _ (b b′ : List ℕ) (i : ℕ) (f : Frame b b′ i) where
   pub kind-same : (k j : ℕ) → j < used b → hasKind b′ k j ≡ hasKind b k j
@@ -46,7 +33,7 @@ module _ (b b′ : List ℕ) (i : ℕ) (f : Frame b b′ i) where
   kind-stays k j h = kind-same k j (kind-index b k j h .1 .0) ∙ h
 
   pub entry-stays : (j : ℕ) → isEntry b j ≡ true → isEntry b′ j ≡ true
-  entry-stays j h = entry-same j (entry-index b j h .1 .0) ∙ h
+  entry-stays j h = entry-same j (entry-index b j h .1) ∙ h
 
   -- an entry keeps its owner and its year, a user its activation
   pub owner-same : (j : ℕ) → isEntry b j ≡ true → ownerOf b′ j ≡ ownerOf b j

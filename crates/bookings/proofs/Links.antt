@@ -13,8 +13,8 @@ use Rattle.units.proofs.Bools.{and-left, and-right, or-cases}
 use Rattle.units.proofs.Folds.{sum-none}
 use Rattle.book.specs.Book.{used, firstUser, kindAt, isUser, isAdvance, isClosing, isEntry, nextOf, firstEntryOf, ownerOf, goodHead, userNextFits, firstEntryFits, entryNextFits, pointersFrom, pointersTo}
 use Rattle.book.proofs.Faults.{used-within}
-use Rattle.book.proofs.Faultless.{Faultless, EntryLinks, kind-index}
-use Rattle.bookings.proofs.Frame.{entry-index}
+use Rattle.book.proofs.RecordKinds.{kind-index, entry-index}
+use Rattle.book.proofs.Faultless.{Faultless, EntryLinks}
 use Rattle.bookings.proofs.Pointers.{hits-other, from-head, from-user, from-advance, from-closing}
 
 module _ (b : List ℕ) (g : Faultless b) where
@@ -41,7 +41,7 @@ module _ (b : List ℕ) (g : Faultless b) where
   unfolding firstEntryFits
   first-entry-below j h =
       link-below (firstEntryOf b j) (isEntry b (firstEntryOf b j) && eqb (ownerOf b (firstEntryOf b j)) j) (g .user j h .first)
-      (λ e. entry-index b (firstEntryOf b j) (and-left (isEntry b (firstEntryOf b j)) (eqb (ownerOf b (firstEntryOf b j)) j) e) .1 .0)
+      (λ e. entry-index b (firstEntryOf b j) (and-left (isEntry b (firstEntryOf b j)) (eqb (ownerOf b (firstEntryOf b j)) j) e) .1)
 
   entry-next-below : (j : ℕ) → EntryLinks b j → nextOf b j < used b
   unfolding entryNextFits
@@ -50,7 +50,7 @@ module _ (b : List ℕ) (g : Faultless b) where
       (λ t.
       entry-index b (nextOf b j)
       (and-left (isEntry b (nextOf b j)) (eqb (ownerOf b (nextOf b j)) (ownerOf b j))
-      (and-left (isEntry b (nextOf b j) && eqb (ownerOf b (nextOf b j)) (ownerOf b j)) (ltb (nextOf b j) j) t)) .1 .0)
+      (and-left (isEntry b (nextOf b j) && eqb (ownerOf b (nextOf b j)) (ownerOf b j)) (ltb (nextOf b j) j) t)) .1)
 
   -- a record of one of the three kinds
   pub by-kind : (P : Type 0) (j : ℕ) → 1 ≤ j → j < used b → (isUser b j ≡ true → P) → (isAdvance b j ≡ true → P) → (isClosing b j ≡ true → P) → P

@@ -15,14 +15,14 @@ use Rattle.records.specs.declared.AdvanceRecord.{AdvanceRecord}
 use Rattle.records.specs.declared.ClosingRecord.{ClosingRecord}
 use Rattle.records.specs.Records.{advanceImage, closingImage, advanceIn, closingIn}
 use Rattle.book.specs.Book.{used, firstUser, accountFits, advanceFits, closingFits, accountAt, isUser, isAdvance, isClosing, firstEntryOf, ownerOf, rankOf, openYearOf, activationOf, inOrder, kindAt}
-use Rattle.book.proofs.Faultless.{Faultless, AdvanceGood, ClosingGood, kind-index}
+use Rattle.book.proofs.RecordKinds.{kind-index, advance-entry, closing-entry}
+use Rattle.book.proofs.Faultless.{Faultless, AdvanceGood, ClosingGood}
 use Rattle.bookings.proofs.Bools.{or-first, or-second}
 use Rattle.bookings.proofs.Widths.{advance-widths, closing-widths}
 use Rattle.bookings.proofs.Records.{UserAt, EntryAt, AdvanceAt, advance-at, ClosingAt, closing-at}
 use Rattle.bookings.proofs.Good.{Good, Sizes, sizes}
 use Rattle.bookings.proofs.Written.{HeadAt, EntryAdded}
 use Rattle.bookings.proofs.Frame.{SameUser}
-use Rattle.bookings.proofs.KindsKept.{advance-entry, closing-entry}
 use Rattle.bookings.proofs.Pointers.{from-advance, from-closing}
 use Rattle.bookings.proofs.RecordsKept.{GoodAt, an-advance, a-closing}
 use Rattle.bookings.proofs.Entries.{NewEntry, Entered, entered-user, entry-links, entered}

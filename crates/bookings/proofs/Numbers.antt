@@ -11,7 +11,7 @@ use Rattle.units.specs.Folds.{anyBelow}
 use Rattle.units.proofs.Bools.{and-left, and-right}
 use Rattle.units.proofs.Folds.{none-at, none-of, below-suc}
 use Rattle.book.specs.Book.{used, isUser, numberOf, numberIsNew}
-use Rattle.book.proofs.Faultless.{kind-index}
+use Rattle.book.proofs.RecordKinds.{kind-index}
 use Rattle.calls.specs.Bookings.{findBelow, findUser}
 
 -- the record j is the user with this number

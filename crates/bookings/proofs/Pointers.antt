@@ -1,16 +1,12 @@
 -- What points to a record before and after a booking: a new record is pointed to once, by what pointed to the front of its
 -- chain, and it points on to that; every other record is pointed to as before.
-use Prim.Native.Nat.{ℕ, _+_, _≤_, _<_}
-use mathlib.Core.Path.{_≡_, refl, sym, ap, subst, _∙_}
-use mathlib.Core.Bool.{Bool, true, false, cond, _&&_, _||_}
+use Prim.Native.Nat.{ℕ, _+_, _≤_}
+use mathlib.Core.Path.{_≡_, refl}
 use mathlib.Core.List.{List}
-use native.Mathlib.Decide.{decLt}
 use native.Mathlib.Omega.{arith}
-use borrow.Author.Tests.{eqb-true, eq-eqb, ne-eqb}
-use lib.Dec.{eqb}
+use borrow.Author.Tests.{eq-eqb, ne-eqb}
 use Rattle.layout.specs.Fields.{recordAt, userKind, advanceKind, closingKind}
-use Rattle.book.specs.Book.{used, firstUser, kindAt, isUser, isAdvance, isClosing, isEntry, nextOf, firstEntryOf, hits, pointersFrom, pointersTo, pointedOnce}
-use Rattle.book.proofs.Faultless.{Faultless, kind-index}
+use Rattle.book.specs.Book.{firstUser, kindAt, nextOf, firstEntryOf, hits, pointersFrom}
 
 pub hits-self : (k : ℕ) → hits k k ≡ 1
 unfolding hits

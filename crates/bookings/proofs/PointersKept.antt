@@ -13,7 +13,8 @@ use Rattle.units.specs.Folds.{sumBelow}
 use Rattle.units.proofs.Folds.{sum-cong, sum-moved}
 use Rattle.book.specs.Book.{used, firstUser, kindAt, isUser, nextOf, firstEntryOf, hits, pointersFrom, pointersTo, pointedOnce}
 use Rattle.book.proofs.Faults.{used-within}
-use Rattle.book.proofs.Faultless.{Faultless, kind-index}
+use Rattle.book.proofs.RecordKinds.{kind-index}
+use Rattle.book.proofs.Faultless.{Faultless}
 use Rattle.bookings.proofs.Records.{UserAt}
 use Rattle.bookings.proofs.Written.{HeadAt, UserEnrolled, AccountSet, EntryAdded, userWith}
 use Rattle.bookings.proofs.Pointers.{hits-self, hits-other, from-head, from-user, from-same}

@@ -1,18 +1,18 @@
 -- A record that stood in the book stays good, and the good records of the book after it make it faultless.
-use Prim.Native.Nat.{ℕ, _+_, _≤_, _<_}
+use Prim.Native.Nat.{ℕ, _≤_, _<_}
 use mathlib.Core.Path.{_≡_, refl, sym, ap, subst, _∙_}
-use mathlib.Core.Bool.{Bool, true, false, _||_}
+use mathlib.Core.Bool.{true, false, _||_}
 use mathlib.Core.List.{List}
 use native.Mathlib.Decide.{ℕ-discrete}
 use borrow.Author.Tests.{eqb-false}
 use lib.Dec.{eqb}
 use Rattle.layout.specs.Fields.{get, zeros, recordAt, userKind, advanceKind, closingKind, firstEntryField, openYearField}
-use Rattle.records.specs.Records.{accountIn}
-use Rattle.book.specs.Book.{used, usedFits, goodHead, kindAt, hasKind, isUser, isAdvance, isClosing, isEntry, accountAt, accountFits, firstEntryOf, openYearOf}
-use Rattle.book.proofs.Faultless.{Faultless, UserGood, EntryLinks, AdvanceGood, ClosingGood, kind-index, kind-of}
+use Rattle.book.specs.Book.{used, usedFits, goodHead, hasKind, isUser, isAdvance, isClosing, isEntry, accountAt, accountFits, firstEntryOf, openYearOf}
+use Rattle.book.proofs.RecordKinds.{kind-index, advance-entry, closing-entry}
+use Rattle.book.proofs.Faultless.{Faultless, UserGood, EntryLinks, AdvanceGood, ClosingGood}
 use Rattle.bookings.proofs.Bools.{or-first, or-second}
 use Rattle.bookings.proofs.Frame.{Frame}
-use Rattle.bookings.proofs.KindsKept.{kind-stays, advance-entry, closing-entry}
+use Rattle.bookings.proofs.KindsKept.{kind-stays}
 use Rattle.bookings.proofs.Links.{by-kind}
 use Rattle.bookings.proofs.PointersKept.{OldPointers, pointed-kept}
 use Rattle.bookings.proofs.RulesKept.{user-next-kept, number-kept, first-entry-kept, first-order-kept, owner-kept, entry-next-kept, next-order-kept, advance-fits-kept, closing-fits-kept}

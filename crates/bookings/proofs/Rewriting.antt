@@ -1,19 +1,18 @@
 -- A user written anew with another account and its links kept: the record is a good user, and the book stays good.
-use Prim.Native.Nat.{ℕ, _+_, _/_, _^_, _≤_, _<_}
-use mathlib.Core.Path.{_≡_, refl, sym, ap, subst, _∙_}
-use mathlib.Core.Bool.{Bool, true, false, _&&_, _||_}
+use Prim.Native.Nat.{ℕ, _^_, _<_}
+use mathlib.Core.Path.{_≡_, refl, sym, _∙_}
+use mathlib.Core.Bool.{true}
 use mathlib.Core.List.{List}
 use native.Mathlib.Nat.{le-of-eq}
 use native.Mathlib.Omega.{arith}
-use lib.Dec.{eqb, leb}
 use lib.ListN.{length}
 use Rattle.accounts.specs.declared.Account.{Account}
-use Rattle.layout.specs.Fields.{recordAt, zeros, capacity, userKind, nextField, numberField, firstEntryField}
+use Rattle.layout.specs.Fields.{recordAt, zeros, nextField, numberField, firstEntryField}
 use Rattle.layout.proofs.ByteRanges.{field-below}
 use Rattle.records.specs.Records.{accountIn}
 use Rattle.records.proofs.Users.{UserFits}
 use Rattle.book.specs.Book.{used, usedFits, firstUser, accountFits, accountAt, isUser, nextOf, firstEntryOf, openYearOf}
-use Rattle.book.proofs.Faultless.{Faultless, UserGood, kind-index}
+use Rattle.book.proofs.Faultless.{UserGood}
 use Rattle.bookings.proofs.Widths.{user-fits}
 use Rattle.bookings.proofs.Records.{UserAt, user-at}
 use Rattle.bookings.proofs.Good.{Good}

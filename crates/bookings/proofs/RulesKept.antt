@@ -1,25 +1,26 @@
 -- The rules of a record that stood in the book hold after a booking, by the frame alone: links, order, and the ranges of an
 -- entry against its owner, whose activation stays and whose open year does not fall.
-use Prim.Native.Nat.{ℕ, _+_, _-_, _*_, _≤_, _<_}
-use mathlib.Core.Path.{_≡_, refl, sym, ap, subst, _∙_}
+use Prim.Native.Nat.{ℕ, _+_, _-_, _*_, _≤_}
+use mathlib.Core.Path.{_≡_, sym, ap, subst, _∙_}
 use mathlib.Core.Bool.{Bool, true, false, cond, _&&_, _||_}
 use mathlib.Core.List.{List}
 use native.Mathlib.Omega.{arith}
-use borrow.Author.Tests.{eqb-true, eq-eqb, leb-true, le-leb, ltb-true}
+use borrow.Author.Tests.{leb-true, le-leb}
 use lib.Dec.{eqb, ltb, leb}
 use Rattle.units.specs.Limits.{maxYearTicks, maxFlatRate, maxContribution}
 use Rattle.units.proofs.Bools.{and-left, and-right, and-both}
 use Rattle.accounts.specs.declared.Account.{Account}
-use Rattle.layout.specs.Fields.{get, recordAt, userKind, advanceKind, closingKind, openYearField}
+use Rattle.layout.specs.Fields.{recordAt, userKind, advanceKind, closingKind}
 use Rattle.records.specs.declared.AdvanceRecord.{AdvanceRecord}
 use Rattle.records.specs.declared.ClosingRecord.{ClosingRecord}
 use Rattle.records.specs.Records.{accountIn, advanceIn, closingIn}
-use Rattle.book.specs.Book.{used, kindAt, isUser, isAdvance, isClosing, isEntry, nextOf, firstEntryOf, numberOf, ownerOf, accountAt, activationOf, openYearOf, rankOf, yearFits, isRun, advanceFits, balanceFits, closingFits, userNextFits, numberIsNew, firstEntryFits, entryNextFits, ownerFits, inOrder, firstInOrder, nextInOrder}
-use Rattle.book.proofs.Faultless.{kind-index}
+use Rattle.book.specs.Book.{isUser, isAdvance, isClosing, isEntry, nextOf, firstEntryOf, ownerOf, accountAt, activationOf, openYearOf, rankOf, yearFits, isRun, advanceFits, balanceFits, closingFits, userNextFits, numberIsNew, firstEntryFits, entryNextFits, ownerFits, inOrder, firstInOrder, nextInOrder}
+use Rattle.book.proofs.RecordKinds.{kind-index, user-index, advance-entry, closing-entry, entry-index}
+use Rattle.book.proofs.Faultless.{owner-before}
 use Rattle.bookings.proofs.Bools.{or-stays, and-stays}
 use Rattle.bookings.proofs.Ranges.{conjuncts}
-use Rattle.bookings.proofs.Frame.{Frame, entry-index}
-use Rattle.bookings.proofs.KindsKept.{kind-same, kind-stays, entry-stays, owner-same, rank-same, activation-same, advance-entry, closing-entry}
+use Rattle.bookings.proofs.Frame.{Frame}
+use Rattle.bookings.proofs.KindsKept.{kind-same, kind-stays, entry-stays, owner-same, rank-same, activation-same}
 use Rattle.bookings.proofs.Numbers.{new-apart, apart-new}
 
 -- the ranges of an entry, against its owner later
@@ -54,8 +55,8 @@ module _ (b b′ : List ℕ) (i : ℕ) (f : Frame b b′ i) where
   pub user-next-kept : (j : ℕ) → isUser b j ≡ true → userNextFits b j ≡ true → userNextFits b′ j ≡ true
   unfolding userNextFits
   user-next-kept j h =
-      let place = kind-index b userKind j h in
-      rw (f .next j (place .0) (place .1 .0))
+      let place = user-index b j h in
+      rw (f .next j (place .0) (place .1))
       (or-stays (eqb (nextOf b j) 0) (isUser b (nextOf b j) && ltb (nextOf b j) j) (λ e. e)
       (and-stays (isUser b (nextOf b j)) (ltb (nextOf b j) j) (kind-stays b b′ i f userKind (nextOf b j)) (λ e. e)))
 
@@ -105,10 +106,6 @@ module _ (b b′ : List ℕ) (i : ℕ) (f : Frame b b′ i) where
       rw (first, year, activation-same b b′ i f j u) (order-kept (activationOf b j) (openYearOf b j) (firstEntryOf b j) h)
 
   -- links of an entry
-  pub owner-user : (j : ℕ) → ownerFits b j ≡ true → isUser b (ownerOf b j) ≡ true
-  unfolding ownerFits
-  owner-user j h = and-left (isUser b (ownerOf b j)) (ltb (ownerOf b j) j) h
-
   pub owner-kept : (j : ℕ) → isEntry b j ≡ true → ownerFits b j ≡ true → ownerFits b′ j ≡ true
   unfolding ownerFits
   owner-kept j e =
@@ -119,7 +116,7 @@ module _ (b b′ : List ℕ) (i : ℕ) (f : Frame b b′ i) where
   unfolding entryNextFits
   entry-next-kept j e =
       let place = entry-index b j e in
-      rw (f .next j (place .0) (place .1 .0), owner-same b b′ i f j e)
+      rw (f .next j (place .0) (place .1), owner-same b b′ i f j e)
       (or-stays (eqb (nextOf b j) 0) ((isEntry b (nextOf b j) && eqb (ownerOf b (nextOf b j)) (ownerOf b j)) && ltb (nextOf b j) j) (λ t. t)
       (and-stays (isEntry b (nextOf b j) && eqb (ownerOf b (nextOf b j)) (ownerOf b j)) (ltb (nextOf b j) j) owned (λ t. t)))
     where
@@ -133,7 +130,7 @@ module _ (b b′ : List ℕ) (i : ℕ) (f : Frame b b′ i) where
   unfolding nextInOrder
   next-order-kept j e o h =
       let place = entry-index b j e in
-      rw (owner-same b b′ i f j e, activation-same b b′ i f (ownerOf b j) (owner-user j o), rank-same b b′ i f j e, f .next j (place .0) (place .1 .0))
+      rw (owner-same b b′ i f j e, activation-same b b′ i f (ownerOf b j) (owner-before b j o .0), rank-same b b′ i f j e, f .next j (place .0) (place .1))
       (order-kept (activationOf b (ownerOf b j)) (rankOf b j) (nextOf b j) h)
 
   -- the ranges of an entry
@@ -142,13 +139,13 @@ module _ (b b′ : List ℕ) (i : ℕ) (f : Frame b b′ i) where
   unfolding accountIn openYearOf activationOf
   advance-fits-kept j e o h =
       rw (owner-same b b′ i f j e, f .entry j e)
-      (advance-later (accountAt b (ownerOf b j)) (accountAt b′ (ownerOf b j)) (advanceIn (recordAt b j)) (activation-same b b′ i f (ownerOf b j) (owner-user j o))
-      (f .openYear (ownerOf b j) (owner-user j o)) h)
+      (advance-later (accountAt b (ownerOf b j)) (accountAt b′ (ownerOf b j)) (advanceIn (recordAt b j)) (activation-same b b′ i f (ownerOf b j) (owner-before b j o .0))
+      (f .openYear (ownerOf b j) (owner-before b j o .0)) h)
 
   pub closing-fits-kept : (j : ℕ) → isEntry b j ≡ true → ownerFits b j ≡ true
       → closingFits (accountAt b (ownerOf b j)) (closingIn (recordAt b j)) ≡ true → closingFits (accountAt b′ (ownerOf b′ j)) (closingIn (recordAt b′ j)) ≡ true
   unfolding accountIn openYearOf activationOf
   closing-fits-kept j e o h =
       rw (owner-same b b′ i f j e, f .entry j e)
-      (closing-later (accountAt b (ownerOf b j)) (accountAt b′ (ownerOf b j)) (closingIn (recordAt b j)) (activation-same b b′ i f (ownerOf b j) (owner-user j o))
-      (f .openYear (ownerOf b j) (owner-user j o)) h)
+      (closing-later (accountAt b (ownerOf b j)) (accountAt b′ (ownerOf b j)) (closingIn (recordAt b j)) (activation-same b b′ i f (ownerOf b j) (owner-before b j o .0))
+      (f .openYear (ownerOf b j) (owner-before b j o .0)) h)

@@ -16,7 +16,7 @@ use Rattle.records.specs.Records.{headImage, userImage}
 use Rattle.records.proofs.Heads.{length-head-image, bytes-head-image, head-tail, head-used, head-first}
 use Rattle.records.proofs.Users.{length-user-image, bytes-user-image}
 use Rattle.book.specs.Book.{used, firstUser, isUser, nextOf, firstEntryOf}
-use Rattle.book.proofs.Faultless.{kind-index}
+use Rattle.book.proofs.RecordKinds.{kind-index}
 use Rattle.calls.specs.Bookings.{newAccount, enrolledAs, enrolled, withAccount, withEntry}
 use Rattle.bookings.proofs.Good.{Good, Sizes, sizes}
 

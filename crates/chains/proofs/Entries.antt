@@ -9,7 +9,8 @@ use Rattle.book.proofs.Faultless.{Faultless}
 use Rattle.chains.specs.Chains.{entriesOf}
 use Rattle.chains.proofs.Lists.{_∈_, All, Falling}
 use Rattle.chains.proofs.Chain.{chain-holds-only, chain-falling, chain-complete, falls-closed}
-use Rattle.chains.proofs.Links.{Owned, entry-index, entry-owner, first-entry, entries-fall}
+use Rattle.book.proofs.RecordKinds.{entry-index}
+use Rattle.chains.proofs.Links.{Owned, entry-owner, first-entry, entries-fall}
 use Rattle.chains.proofs.Pointers.{entry-pointed}
 
 module _ (b : List ℕ) (f : Faultless b) where

@@ -22,7 +22,8 @@ use Rattle.ledger.specs.Ledger.{Statement}
 use Rattle.chains.specs.Chains.{entriesOf}
 use Rattle.chains.specs.Statements.{closingPart, advancePart, balancePart, sumOver, sumOverℤ, statementAt}
 use Rattle.chains.proofs.Chain.{chain-from-length}
-use Rattle.chains.proofs.Links.{Owned, kinds-apart, entry-index, first-entry}
+use Rattle.book.proofs.RecordKinds.{kinds-apart, entry-index}
+use Rattle.chains.proofs.Links.{Owned, first-entry}
 use Rattle.chains.proofs.Entries.{entries-only}
 use Rattle.chains.proofs.Order.{chain-ordered}
 use Rattle.chains.proofs.Sums.{sum-at-most, closings-at-most, size-of-sum}

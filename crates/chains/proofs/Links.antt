@@ -1,55 +1,22 @@
 -- The links of a sound book, as facts: where the head, a user and an entry point to.
-use Prim.Native.Nat.{ℕ, _≤_, _<_}
-use mathlib.Core.Path.{_≡_, refl, sym, _∙_}
-use mathlib.Core.Bool.{Bool, true, false, _&&_, _||_, or-true}
+use Prim.Native.Nat.{ℕ, _<_}
+use mathlib.Core.Path.{_≡_, _∙_}
+use mathlib.Core.Bool.{true, _&&_, _||_}
 use mathlib.Core.Logic.{_⊎_, ⊎-elim, ⊎-map}
 use mathlib.Core.List.{List}
-use native.Mathlib.Omega.{arith}
 use lib.Dec.{eqb, ltb}
 use borrow.Author.Tests.{eqb-true, ltb-true}
 use Rattle.units.proofs.Bools.{and-left, and-right, or-cases}
-use Rattle.layout.specs.Fields.{zeros, recordAt, userKind, advanceKind, closingKind}
-use Rattle.book.specs.Book.{used, firstUser, hasKind, isUser, isAdvance, isClosing, isEntry, ownerOf, nextOf, firstEntryOf, userNextFits, firstEntryFits, entryNextFits, goodHead}
-use Rattle.book.proofs.Faultless.{Faultless, EntryLinks, kind-index, owner-before}
+use Rattle.layout.specs.Fields.{zeros, recordAt}
+use Rattle.book.specs.Book.{firstUser, isUser, isAdvance, isClosing, isEntry, ownerOf, nextOf, firstEntryOf, userNextFits, firstEntryFits, entryNextFits, goodHead}
+use Rattle.book.proofs.RecordKinds.{entry-cases}
+use Rattle.book.proofs.Faultless.{Faultless, EntryLinks, owner-before}
 use Rattle.chains.proofs.Chain.{Falls}
 
 -- an entry of the user at index i
 pub record Owned (b : List ℕ) (i e : ℕ) : Type 0 where
   pub entry : isEntry b e ≡ true
   pub owner : ownerOf b e ≡ i
-
-module _ (b : List ℕ) where
-  pub user-index : (i : ℕ) → isUser b i ≡ true → (1 ≤ i) × (i < used b)
-  user-index i u = let p = kind-index b userKind i u in (p .0, p .1 .0)
-
-  pub kinds-apart : (k l e : ℕ) → (k ≡ l → ⊥) → hasKind b k e ≡ true → hasKind b l e ≡ false
-  kinds-apart k l e apart h = by-value (hasKind b l e) refl
-    where
-      by-value : (t : Bool) → hasKind b l e ≡ t → hasKind b l e ≡ false
-      by-value true q = absurd (apart (sym (kind-index b k e h .1 .1) ∙ kind-index b l e q .1 .1))
-      by-value false q = q
-
-  pub entry-kind : (e : ℕ) → isEntry b e ≡ true → (isAdvance b e ≡ true) ⊎ (isClosing b e ≡ true)
-  unfolding isEntry
-  entry-kind e h = or-cases (isAdvance b e) (isClosing b e) h
-
-  pub advance-entry : (e : ℕ) → isAdvance b e ≡ true → isEntry b e ≡ true
-  unfolding isEntry
-  advance-entry e a = rw a
-
-  pub closing-entry : (e : ℕ) → isClosing b e ≡ true → isEntry b e ≡ true
-  unfolding isEntry
-  closing-entry e c = rw (c, or-true)
-
-  pub entry-index : (e : ℕ) → isEntry b e ≡ true → (1 ≤ e) × (e < used b)
-  entry-index e h =
-      ⊎-elim (λ (a : isAdvance b e ≡ true). let p = kind-index b advanceKind e a in (p .0, p .1 .0))
-      (λ (c : isClosing b e ≡ true). let p = kind-index b closingKind e c in (p .0, p .1 .0)) (entry-kind e h)
-
-  pub user-no-entry : (i : ℕ) → isUser b i ≡ true → isEntry b i ≡ true → ⊥
-  user-no-entry i u h =
-      ⊎-elim (λ (a : isAdvance b i ≡ true). omega (arith, kind-index b userKind i u, kind-index b advanceKind i a))
-      (λ (c : isClosing b i ≡ true). omega (arith, kind-index b userKind i u, kind-index b closingKind i c)) (entry-kind i h)
 
 module _ (b : List ℕ) (f : Faultless b) where
   -- "its first user is neither 0 nor a user below u"
@@ -78,7 +45,7 @@ module _ (b : List ℕ) (f : Faultless b) where
 
   pub entry-links : (e : ℕ) → isEntry b e ≡ true → EntryLinks b e
   entry-links e h =
-      ⊎-elim (λ (a : isAdvance b e ≡ true). f .advance e a .links) (λ (c : isClosing b e ≡ true). f .closing e c .links) (entry-kind b e h)
+      ⊎-elim (λ (a : isAdvance b e ≡ true). f .advance e a .links) (λ (c : isClosing b e ≡ true). f .closing e c .links) (entry-cases b e h)
 
   -- "An entry's next is 0 or an entry of the same owner with a smaller index"
   pub entry-next : (e : ℕ) → isEntry b e ≡ true → (nextOf b e ≡ 0) ⊎ (Owned b (ownerOf b e) (nextOf b e) × (nextOf b e < e))

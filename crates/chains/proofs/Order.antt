@@ -15,7 +15,8 @@ use Rattle.chains.specs.Chains.{chainFrom, entriesOf}
 use Rattle.chains.specs.Statements.{sumOver}
 use Rattle.chains.proofs.Lists.{All, all-map}
 use Rattle.chains.proofs.Chain.{chain-induction}
-use Rattle.chains.proofs.Links.{Owned, kinds-apart, entry-index, first-entry, entry-links, entries-fall}
+use Rattle.book.proofs.RecordKinds.{kinds-apart, entry-index}
+use Rattle.chains.proofs.Links.{Owned, first-entry, entry-links, entries-fall}
 
 -- what may stand where entries of year y follow, with all that stands behind it
 pub data Ordered (b : List ℕ) (activation : ℕ) : ℕ → List ℕ → Type 0 where

@@ -13,8 +13,9 @@ use Rattle.units.specs.Folds.{sumBelow}
 use Rattle.units.proofs.Bools.{or-cases}
 use Rattle.layout.specs.Fields.{userKind, advanceKind, closingKind}
 use Rattle.book.specs.Book.{used, firstUser, kindAt, isUser, isEntry, ownerOf, nextOf, firstEntryOf, hits, pointersFrom, pointersTo, pointedOnce}
-use Rattle.book.proofs.Faultless.{Faultless, kind-of}
-use Rattle.chains.proofs.Links.{Owned, user-index, entry-index, advance-entry, closing-entry, user-no-entry, first-user, user-next, first-entry, entry-links, entry-next}
+use Rattle.book.proofs.RecordKinds.{has-kind, user-index, advance-entry, closing-entry, entry-index, not-both}
+use Rattle.book.proofs.Faultless.{Faultless}
+use Rattle.chains.proofs.Links.{Owned, first-user, user-next, first-entry, entry-links, entry-next}
 
 -- a sum that is not zero has a term that is not
 some-term : (n : ℕ) (f : ℕ → ℕ) → 1 ≤ sumBelow n f → (j : ℕ) × ((j < n) × (1 ≤ f j))
@@ -52,8 +53,8 @@ one-of p q i h = either (decLt 0 (hits p i))
 module _ (b : List ℕ) (i j : ℕ) (l : j < used b) where
   entry-of : 1 ≤ j → (eqb (kindAt b j) advanceKind || eqb (kindAt b j) closingKind) ≡ true → isEntry b j ≡ true
   entry-of lo t =
-      ⊎-elim (λ (a : eqb (kindAt b j) advanceKind ≡ true). advance-entry b j (kind-of b advanceKind j lo l (eqb-true (kindAt b j) advanceKind a)))
-      (λ (c : eqb (kindAt b j) closingKind ≡ true). closing-entry b j (kind-of b closingKind j lo l (eqb-true (kindAt b j) closingKind c)))
+      ⊎-elim (λ (a : eqb (kindAt b j) advanceKind ≡ true). advance-entry b j (has-kind b advanceKind j lo l (eqb-true (kindAt b j) advanceKind a)))
+      (λ (c : eqb (kindAt b j) closingKind ≡ true). closing-entry b j (has-kind b closingKind j lo l (eqb-true (kindAt b j) closingKind c)))
       (or-cases (eqb (kindAt b j) advanceKind) (eqb (kindAt b j) closingKind) t)
 
   points-entry : 1 ≤ j → 1 ≤ cond (eqb (kindAt b j) advanceKind || eqb (kindAt b j) closingKind) (hits (nextOf b j) i) 0 → Points b i j
@@ -69,7 +70,7 @@ module _ (b : List ℕ) (i j : ℕ) (l : j < used b) where
     where
       by-kind : 1 ≤ j → (t : Bool) → eqb (kindAt b j) userKind ≡ t → eqb j 0 ≡ false → Points b i j
       by-kind lo true u e =
-          let user = kind-of b userKind j lo l (eqb-true (kindAt b j) userKind u) in
+          let user = has-kind b userKind j lo l (eqb-true (kindAt b j) userKind u) in
           ⊎-elim (λ (n : nextOf b j ≡ i). by-user user n) (λ (n : firstEntryOf b j ≡ i). by-first user n)
           (one-of (nextOf b j) (firstEntryOf b j) i (rw (e, u) at h))
       by-kind lo false u e = points-entry lo (rw (e, u) at h)
@@ -89,11 +90,11 @@ module _ (b : List ℕ) (f : Faultless b) where
   -- the next of an entry is no user, and neither is a user's first entry; the next of a user is no entry
   owned-no-user : (i e k : ℕ) → 1 ≤ k → (e ≡ 0) ⊎ Owned b i e → e ≡ k → isUser b k ≡ true → ⊥
   owned-no-user i e k lo (inl z) p u = omega arith
-  owned-no-user i e k lo (inr o) p u = user-no-entry b k u (subst (λ x. isEntry b x ≡ true) p (o .entry))
+  owned-no-user i e k lo (inr o) p u = not-both b k u (subst (λ x. isEntry b x ≡ true) p (o .entry))
 
   user-no-end : (u k : ℕ) → 1 ≤ k → (u ≡ 0) ⊎ (isUser b u ≡ true) → u ≡ k → isEntry b k ≡ true → ⊥
   user-no-end u k lo (inl z) p e = omega arith
-  user-no-end u k lo (inr t) p e = user-no-entry b k (subst (λ x. isUser b x ≡ true) p t) e
+  user-no-end u k lo (inr t) p e = not-both b k (subst (λ x. isUser b x ≡ true) p t) e
 
   -- a user is the head's first or the next of a user
   pub user-pointed : (i : ℕ) → isUser b i ≡ true → (firstUser b ≡ i) ⊎ ((j : ℕ) × ((isUser b j ≡ true) × (nextOf b j ≡ i)))

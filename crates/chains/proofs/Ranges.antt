@@ -18,7 +18,8 @@ use Rattle.records.specs.declared.ClosingRecord.{ClosingRecord}
 use Rattle.records.specs.Records.{advanceIn, closingIn}
 use Rattle.book.specs.Book.{within, isUser, isAdvance, isClosing, ownerOf, accountAt, accountFits, detailsFit, openYearFits, runsFit, advancesFit, creditFits, halvesFit, yearFits, isRun, advanceFits, balanceFits, closingFits}
 use Rattle.book.proofs.Faultless.{Faultless}
-use Rattle.chains.proofs.Links.{closing-entry, entry-owner}
+use Rattle.book.proofs.RecordKinds.{closing-entry}
+use Rattle.chains.proofs.Links.{entry-owner}
 
 -- the years that can be closed
 abbrev pub mostYears : ℕ

@@ -15,7 +15,8 @@ use Rattle.book.proofs.Faultless.{Faultless}
 use Rattle.chains.specs.Chains.{usersOf}
 use Rattle.chains.proofs.Lists.{_∈_, All, Falling}
 use Rattle.chains.proofs.Chain.{chain-holds-only, chain-falling, chain-complete, falls-closed}
-use Rattle.chains.proofs.Links.{user-index, first-user, users-fall}
+use Rattle.book.proofs.RecordKinds.{user-index}
+use Rattle.chains.proofs.Links.{first-user, users-fall}
 use Rattle.chains.proofs.Pointers.{user-pointed}
 
 module _ (b : List ℕ) (f : Faultless b) where

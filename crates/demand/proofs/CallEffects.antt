@@ -21,8 +21,9 @@ use Rattle.accounts.specs.Account.{accountElected, accountAdvanced, accountClos
 use Rattle.accounts.proofs.Closing.{contribution-capped}
 use Rattle.layout.specs.Fields.{recordAt, userKind, advanceKind, closingKind}
 use Rattle.book.specs.Book.{used, isUser, isAdvance, isClosing, isEntry, isRun, runMade, nextOf, firstEntryOf, ownerOf, accountAt, kindAt, hasKind, accountFits}
-use Rattle.book.proofs.Faultless.{Faultless, kind-index, kind-of}
-use Rattle.chains.proofs.Links.{Owned, kinds-apart, advance-entry, closing-entry}
+use Rattle.book.proofs.RecordKinds.{has-kind, kind-index, kinds-apart, advance-entry, closing-entry}
+use Rattle.book.proofs.Faultless.{Faultless}
+use Rattle.chains.proofs.Links.{Owned}
 use Rattle.ledger.specs.Ledger.{sheetValue, sheetFlatRate}
 use Rattle.calls.specs.Bookings.{findUser, newAccount, enrolled, elected, advanced, advanceEntry, closed, closingEntry, valuesOf}
 use Rattle.calls.specs.Refusals.{numberFree, present, runOpen, yearOpen, userAt, enrolRefusal, electRefusal, advanceRefusal, closeRefusal}
@@ -67,7 +68,7 @@ enrols b g n d o t r =
         good = k .good;
         frame = k .frame;
         users = λ j u. place j u (decLt j (used b));
-        user = kind-of b′ userKind (used b) (sizes b g .some) (omega (arith, count)) (k .user .kind);
+        user = has-kind b′ userKind (used b) (sizes b g .some) (omega (arith, count)) (k .user .kind);
         account = k .user .account;
         first = k .user .first;
       },
@@ -93,7 +94,7 @@ entered : (b b′ : List ℕ) → Good b → (i : ℕ) (a : Account) (kind : ℕ
     → (hasKind b′ kind (used b) ≡ true → isEntry b′ (used b) ≡ true) → nextOf b′ (used b) ≡ firstEntryOf b i → ownerOf b′ (used b) ≡ i → NewEntry b b′ i a
 entered b b′ g i a kind e apart k entry next owner =
     let count = e .head .used-is in
-    let new-kind = kind-of b′ kind (used b) (sizes b g .some) (omega (arith, count)) k in
+    let new-kind = has-kind b′ kind (used b) (sizes b g .some) (omega (arith, count)) k in
     let place : (j : ℕ) → isUser b′ j ≡ true → Dec (j < used b) → isUser b j ≡ true =
     λ j u. elim [
       | yes l ↦ old-user b b′ i (e .frame) j l u
@@ -129,7 +130,7 @@ advances b g n y r p e₁ e₂ t z =
     let year = eqb-true y (x .«open_year») (and-left (eqb y (x .«open_year»)) (leb y lastActivation) (and-left (eqb y (x .«open_year») && leb y lastActivation) (isRun r) tests)) in
     let apart : userKind ≡ advanceKind → ⊥ = omega arith in
     let count = k .after .head .used-is in
-    let new-kind = kind-of b′ advanceKind (used b) (sizes b g .some) (omega (arith, count)) (k .entry .kind) in (
+    let new-kind = has-kind b′ advanceKind (used b) (sizes b g .some) (omega (arith, count)) (k .entry .kind) in (
       is-there b n (a .found),
       (
         year,
@@ -167,7 +168,7 @@ closes b g s t z =
     let account = account-within x (g .faultless .user i (named-user b (sheetUser s) (a .found) .user) .fits) in
     let small = contribution-capped (x .option) (x .credit .0) (sheetValue (x .details) s) (costOf s) (sheetFlatRate (x .details) s) (values .cost) (values .flatRate) in
     let count = k .after .head .used-is in
-    let new-kind = kind-of b′ closingKind (used b) (sizes b g .some) (omega (arith, count)) (k .entry .kind) in (
+    let new-kind = has-kind b′ closingKind (used b) (sizes b g .some) (omega (arith, count)) (k .entry .kind) in (
       there,
       (
         year,

@@ -20,7 +20,7 @@ use Rattle.layout.specs.Fields.{recordAt, userKind}
 use Rattle.records.specs.declared.AdvanceRecord.{AdvanceRecord}
 use Rattle.records.specs.Records.{accountIn, advanceIn, closingIn}
 use Rattle.book.specs.Book.{used, isUser, numberOf, nextOf, firstEntryOf, accountAt}
-use Rattle.book.proofs.Faultless.{kind-index}
+use Rattle.book.proofs.RecordKinds.{kind-index}
 use Rattle.ledger.specs.Ledger.{Advance, Ledger, openYear, yearAfter, sumAdvances, enrolled, elected, advanceAmount, advanced, closed, sheetValue, sheetFlatRate}
 use Rattle.ledger.proofs.Kept.{Kept, kept-enrolled, kept-elected, kept-advanced, kept-closed}
 use Rattle.chains.specs.Chains.{chainFrom, entriesOf}

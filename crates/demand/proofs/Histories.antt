@@ -9,13 +9,14 @@ use native.Mathlib.Omega.{arith}
 use Rattle.layout.specs.Fields.{get, recordAt, firstEntryField, advanceKind, closingKind, userKind}
 use Rattle.records.specs.Records.{accountIn, closingIn}
 use Rattle.book.specs.Book.{used, isUser, isAdvance, isClosing, isEntry, nextOf, firstEntryOf, ownerOf, accountAt}
-use Rattle.book.proofs.Faultless.{Faultless, kind-index}
+use Rattle.book.proofs.RecordKinds.{kind-index, entry-index}
+use Rattle.book.proofs.Faultless.{Faultless}
 use Rattle.chains.specs.Chains.{chainFrom, entriesOf}
 use Rattle.chains.proofs.Lists.{All, all-map}
 use Rattle.chains.proofs.Chain.{On, falls-closed, chain-same, chain-cons, chain-none, chain-holds-only}
 use Rattle.chains.proofs.Links.{Owned, first-entry, entries-fall}
 use Rattle.chains.proofs.Entries.{entries-only}
-use Rattle.bookings.proofs.Frame.{Frame, entry-index}
+use Rattle.bookings.proofs.Frame.{Frame}
 use Rattle.bookings.proofs.KindsKept.{kind-same}
 use Rattle.demand.proofs.Agreement.{itemIn, itemsOf, advanceAt, advancesOf}
 use Rattle.demand.proofs.LedgerSteps.{itemsAt, paidAt}
@@ -29,14 +30,14 @@ module _ (b b′ : List ℕ) (k : ℕ) (f : Frame b b′ k) where
   unfolding itemsOf
   items-stay [] a = refl
   items-stay (e ∷ es) a =
-      let closing : isClosing b′ e ≡ isClosing b e = kind-same b b′ k f closingKind e (entry-index b e (a .0) .1 .0) in
+      let closing : isClosing b′ e ≡ isClosing b e = kind-same b b′ k f closingKind e (entry-index b e (a .0) .1) in
       rw (closing, f .entry e (a .0), items-stay es (a .1))
 
   paid-stay : (es : List ℕ) → All (IsEntry b) es → advancesOf b′ es ≡ advancesOf b es
   unfolding advancesOf
   paid-stay [] a = refl
   paid-stay (e ∷ es) a =
-      let advance : isAdvance b′ e ≡ isAdvance b e = kind-same b b′ k f advanceKind e (entry-index b e (a .0) .1 .0) in
+      let advance : isAdvance b′ e ≡ isAdvance b e = kind-same b b′ k f advanceKind e (entry-index b e (a .0) .1) in
       rw (advance, f .entry e (a .0), paid-stay es (a .1))
 
   module _ (g : Faultless b) (i : ℕ) (u : isUser b i ≡ true) where
@@ -47,7 +48,7 @@ module _ (b b′ : List ℕ) (k : ℕ) (f : Frame b b′ k) where
     old-chain : (e : ℕ) → On (Owned b i) e → chainFrom (nextOf b′) e ≡ chainFrom (nextOf b) e
     old-chain e o =
         chain-same (Owned b i) (nextOf b) (falls-closed (Owned b i) (nextOf b) (entries-fall b g i)) (nextOf b′)
-        (λ j p. let place = entry-index b j (p .entry) in f .next j (place .0) (place .1 .0)) e o
+        (λ j p. let place = entry-index b j (p .entry) in f .next j (place .0) (place .1)) e o
 
     pub entries-stay : firstEntryOf b′ i ≡ firstEntryOf b i → entriesOf b′ i ≡ entriesOf b i
     unfolding entriesOf

@@ -12,7 +12,7 @@ use lib.IntN.{pos}
 use Rattle.layout.specs.Fields.{userKind}
 use Rattle.values.specs.declared.Details.{Details}
 use Rattle.book.specs.Book.{isUser, numberOf}
-use Rattle.book.proofs.Faultless.{kind-index}
+use Rattle.book.proofs.RecordKinds.{kind-index}
 use Rattle.ledger.specs.Ledger.{Ledger}
 use Rattle.ledger.proofs.Kept.{Kept, kept-conserved, kept-standing, kept-lapsed}
 use Rattle.calls.specs.Bookings.{findUser}

@@ -1,31 +1,21 @@
 -- A number and its ledger, kept in step by every booking of the book.
-use Prim.Native.Nat.{ℕ, _+_, _^_, _≤_, _<_}
-use mathlib.Core.Path.{_≡_, refl, ap, ap₂, sym, _∙_, subst}
-use mathlib.Core.Logic.{_⊎_, inl, inr, ⊎-elim}
-use mathlib.Core.Bool.{Bool, true, false}
-use mathlib.Core.List.{List, [], _∷_}
+use Prim.Native.Nat.{ℕ}
+use mathlib.Core.Path.{_≡_, sym, _∙_, subst}
+use mathlib.Core.Bool.{true}
+use mathlib.Core.List.{List}
 use mathlib.Core.Option.{Option, none, some}
-use native.Mathlib.Omega.{arith}
-use lib.Dec.{eqb}
-use Rattle.layout.specs.Fields.{userKind, get, numberField}
-use Rattle.records.specs.Records.{accountIn}
-use Rattle.records.specs.declared.AdvanceRecord.{AdvanceRecord}
-use Rattle.records.specs.declared.ClosingRecord.{ClosingRecord}
-use Rattle.accounts.specs.declared.Account.{Account}
-use Rattle.book.specs.Book.{used, isUser, numberOf, firstEntryOf, accountAt}
-use Rattle.book.proofs.Faultless.{kind-index}
+use Rattle.layout.specs.Fields.{userKind}
+use Rattle.book.specs.Book.{isUser, numberOf}
 use Rattle.ledger.specs.Ledger.{Ledger}
 use Rattle.ledger.proofs.Kept.{Kept}
 use Rattle.calls.specs.Bookings.{findUser}
 use Rattle.bookings.proofs.Good.{Good}
 use Rattle.bookings.proofs.Frame.{Frame}
 use Rattle.bookings.proofs.KindsKept.{kind-stays}
-use Rattle.bookings.proofs.Numbers.{found, none-found}
 use Rattle.demand.proofs.Agreement.{Agrees}
 use Rattle.demand.proofs.LedgerSteps.{agrees-kept}
 use Rattle.demand.proofs.Histories.{items-kept, paid-kept, first-kept, account-kept}
-use Rattle.demand.proofs.Found.{found-is, nowhere}
-use Rattle.demand.proofs.Effects.{NewUser, NewAccount, NewEntry}
+use Rattle.demand.proofs.Found.{found-is}
 
 -- the user at i bears the number, and its records agree with the ledger, whose closed years have the value v in all
 pub record Held (b : List ℕ) (n : ℕ) (l : Ledger) (v i : ℕ) : Type 0 where

@@ -10,7 +10,7 @@ use Rattle.layout.specs.Fields.{userKind}
 use Rattle.layout.proofs.ByteRanges.{Bytes}
 use Rattle.book.specs.Book.{lengthFits, freshBook, isUser}
 use Rattle.book.proofs.Lengths.{length-least}
-use Rattle.book.proofs.Faultless.{kind-index}
+use Rattle.book.proofs.RecordKinds.{kind-index}
 use Rattle.soundness.specs.Verdicts.{Accepted, freshAfter}
 use Rattle.soundness.proofs.FreshBooks.{fresh-accepted, used-fresh}
 use Rattle.ledger.specs.Ledger.{Ledger}

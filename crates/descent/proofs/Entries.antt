@@ -11,9 +11,9 @@ use borrow.Author.Tests.{eq-eqb, ne-eqb, lt-ltb}
 use lib.Dec.{eqb, ltb}
 use Rattle.layout.specs.Fields.{userKind}
 use Rattle.book.specs.Book.{used, isUser, isAdvance, isClosing, isEntry, ownerOf, nextOf, firstEntryOf, rankOf, inOrder, activationOf, openYearOf, firstEntryFits, firstInOrder, ownerFits, entryNextFits, nextInOrder}
-use Rattle.view.proofs.RecordKinds.{entry-cases, entry-from-one, kind-from-one, kind-below}
+use Rattle.book.proofs.RecordKinds.{kind-from-one, kind-below, entry-cases, not-both, entry-index}
 use Rattle.descent.specs.Descent.{met, dueEntry, dueYear, MetUser, MetEntry, Passed}
-use Rattle.descent.proofs.Steps.{met-at, not-both, user-keeps-entry, user-keeps-year, entry-moves, entry-moves-year, entry-keeps-other, entry-keeps-year}
+use Rattle.descent.proofs.Steps.{met-at, user-keeps-entry, user-keeps-year, entry-moves, entry-moves-year, entry-keeps-other, entry-keeps-year}
 use Rattle.descent.proofs.Users.{user-met}
 
 -- what the chain of the user o may lead to from the year y: its end, or an entry of o below n
@@ -32,7 +32,7 @@ leads-in-order b o n y e (ended z a) = rw (eq-eqb e 0 z, eq-eqb y (activationOf 
 leads-in-order b o n y e (owned h k l a c) = by-kind (entry-cases b e h)
   where
     some : eqb e 0 ≡ false
-    some = ne-eqb e 0 (let lo = entry-from-one b e h in omega arith)
+    some = ne-eqb e 0 (let lo = entry-index b e h .0 in omega arith)
 
     by-kind : (isAdvance b e ≡ true) ⊎ (isClosing b e ≡ true) → inOrder b (activationOf b o) y e ≡ true
     by-kind (inl q) = rw (some, q, eq-eqb (rankOf b e) y (a q))

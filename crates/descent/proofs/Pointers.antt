@@ -13,7 +13,7 @@ use Rattle.units.specs.Folds.{sumBelow}
 use Rattle.units.proofs.Folds.{sum-cong, sum-none, sum-plus, sum-changed}
 use Rattle.layout.specs.Fields.{userKind, advanceKind, closingKind}
 use Rattle.book.specs.Book.{used, firstUser, hasKind, isUser, isAdvance, isClosing, isEntry, ownerOf, nextOf, hits, pointersTo, pointedOnce}
-use Rattle.view.proofs.RecordKinds.{entry-cases, entry-from-one, kind-from-one, kind-below, kind-is}
+use Rattle.book.proofs.RecordKinds.{kind-from-one, kind-below, kind-is, entry-cases, entry-index}
 use Rattle.pointers.specs.Pointers.{nextPointer, firstPointer}
 use Rattle.pointers.proofs.Hits.{hits-same, hits-other}
 use Rattle.pointers.proofs.Tallies.{tally-all}
@@ -34,7 +34,7 @@ next-of-user b i u = let lo = kind-from-one b userKind i u in rw (ne-eqb i 0 (om
 
 next-of-entry : (b : List ℕ) (i : ℕ) → isEntry b i ≡ true → nextPointer b i ≡ nextOf b i
 unfolding nextPointer
-next-of-entry b i h = let lo = entry-from-one b i h in by-kind (ne-eqb i 0 (omega arith)) (entry-cases b i h)
+next-of-entry b i h = let lo = entry-index b i h .0 in by-kind (ne-eqb i 0 (omega arith)) (entry-cases b i h)
   where
     by-kind : eqb i 0 ≡ false → (isAdvance b i ≡ true) ⊎ (isClosing b i ≡ true) → nextPointer b i ≡ nextOf b i
     by-kind some (inl a) = rw (some, kind-is b advanceKind i a)

@@ -10,9 +10,9 @@ use Rattle.units.proofs.Bools.{and-both}
 use Rattle.layout.specs.Fields.{userKind}
 use Rattle.book.specs.Book.{used, kindAt, isUser, isEntry, rangesFit, zeroBytesFit, linksFit, goodRecord, goodHead, sound}
 use Rattle.book.proofs.Faults.{used-within, good-sound}
-use Rattle.view.proofs.RecordKinds.{kind-is}
+use Rattle.book.proofs.RecordKinds.{kind-is, entry-no-user}
 use Rattle.descent.specs.Descent.{met, MetUser, MetEntry, Passed}
-use Rattle.descent.proofs.Steps.{met-at, entry-no-user}
+use Rattle.descent.proofs.Steps.{met-at}
 use Rattle.descent.proofs.Users.{first-user-fits, user-next-fits, number-new}
 use Rattle.descent.proofs.Entries.{first-entry-fits, first-in-order, owner-fits, entry-next-fits, next-in-order}
 use Rattle.descent.proofs.Pointers.{pointed-once}

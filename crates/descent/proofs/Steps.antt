@@ -2,13 +2,11 @@
 use Prim.Native.Nat.{ℕ, suc, _+_}
 use mathlib.Core.Path.{_≡_, refl}
 use mathlib.Core.Bool.{Bool, true, false}
-use mathlib.Core.Logic.{_⊎_, inl, inr}
 use mathlib.Core.List.{List}
 use native.Mathlib.Omega.{arith}
 use borrow.Author.Tests.{eq-eqb, ne-eqb}
-use Rattle.layout.specs.Fields.{userKind, advanceKind, closingKind}
-use Rattle.book.specs.Book.{used, kindAt, isUser, isAdvance, isClosing, isEntry, ownerOf, nextOf, rankOf}
-use Rattle.view.proofs.RecordKinds.{entry-cases, kind-is}
+use Rattle.book.specs.Book.{used, isUser, isEntry, ownerOf, nextOf, rankOf}
+pub use Rattle.book.proofs.RecordKinds.{not-both}
 use Rattle.descent.specs.Descent.{met, owns, dueUser, dueEntry, dueYear, MetUser, MetEntry}
 
 -- the record i is met after all above it
@@ -19,17 +17,6 @@ met-at b i d e = omega arith
 pub fails : (t : Bool) → (t ≡ true → ⊥) → t ≡ false
 fails true n = absurd (n refl)
 fails false n = refl
-
--- a record has one kind
-pub entry-no-user : (b : List ℕ) (i : ℕ) → isEntry b i ≡ true → kindAt b i ≡ userKind → ⊥
-entry-no-user b i h k = by-kind (entry-cases b i h)
-  where
-    by-kind : (isAdvance b i ≡ true) ⊎ (isClosing b i ≡ true) → ⊥
-    by-kind (inl a) = omega (arith, kind-is b advanceKind i a)
-    by-kind (inr c) = omega (arith, kind-is b closingKind i c)
-
-pub not-both : (b : List ℕ) (i : ℕ) → isUser b i ≡ true → isEntry b i ≡ true → ⊥
-not-both b i u h = entry-no-user b i h (kind-is b userKind i u)
 
 -- a user is met
 module _ (b : List ℕ) (d : ℕ) (m : MetUser b d) where

@@ -13,9 +13,9 @@ use Rattle.units.proofs.Bools.{and-left, and-right}
 use Rattle.units.proofs.Folds.{none-of}
 use Rattle.layout.specs.Fields.{userKind}
 use Rattle.book.specs.Book.{used, firstUser, isUser, nextOf, numberOf, userNextFits, numberIsNew}
-use Rattle.view.proofs.RecordKinds.{kind-from-one}
+use Rattle.book.proofs.RecordKinds.{kind-from-one, not-both}
 use Rattle.descent.specs.Descent.{met, dueUser, MetUser, MetEntry, Passed}
-use Rattle.descent.proofs.Steps.{met-at, fails, not-both, user-moves, entry-keeps-user}
+use Rattle.descent.proofs.Steps.{met-at, fails, user-moves, entry-keeps-user}
 
 -- the end of the users' chain, or a user below n
 abbrev pub UserBelow : List ℕ → ℕ → ℕ → Type 0

@@ -16,7 +16,8 @@ use Rattle.book.proofs.Faults.{used-within}
 use Rattle.book.proofs.Faultless.{Faultless, sound-faultless}
 use Rattle.chains.specs.Chains.{chainFrom, usersOf}
 use Rattle.chains.proofs.Chain.{On, chain-none, chain-from-length}
-use Rattle.chains.proofs.Links.{user-index, first-user, users-fall}
+use Rattle.book.proofs.RecordKinds.{user-index}
+use Rattle.chains.proofs.Links.{first-user, users-fall}
 use Rattle.chains.proofs.Walks.{walk-here, walk-on, walk-falls, walk-chain}
 use Rattle.listing_text.specs.Listing.{line, lines}
 use Rattle.listing_text.specs.Written.{longestLine, mostUsers, longestText, accountLine}

@@ -13,7 +13,7 @@ use Rattle.layout.specs.Fields.{userKind, advanceKind, closingKind}
 use Rattle.book.specs.Book.{used, usedFits, kindAt, isUser, isEntry, ownerOf, ownerFits, rangesFit, zeroBytesFit, linksFit, goodRecord, faulty}
 use Rattle.book.proofs.Faults.{faulty-record}
 use Rattle.book.proofs.Faultless.{owner-before}
-use Rattle.view.proofs.RecordKinds.{kind-from-one, kind-below, no-user, no-advance, no-closing}
+use Rattle.book.proofs.RecordKinds.{kind-from-one, kind-below, no-user, no-advance, no-closing}
 
 -- an entry of a user
 abbrev pub belongs : List ℕ → ℕ → ℕ → Bool

@@ -13,7 +13,7 @@ use Rattle.records.specs.declared.ClosingRecord.{ClosingRecord}
 use Rattle.records.specs.Records.{advanceIn, closingIn}
 use Rattle.book.specs.Book.{isAdvance, isClosing}
 use Rattle.chains.specs.Statements.{closingPart, advancePart, balancePart, sumOver, sumOverℤ}
-use Rattle.chains.proofs.Links.{kinds-apart}
+use Rattle.book.proofs.RecordKinds.{kinds-apart}
 
 module _ (b : List ℕ) (e : ℕ) (es : List ℕ) where
   -- a closing joins the sums over closings and passes those over advances

@@ -13,19 +13,18 @@ use Rattle.layout.specs.Fields.{recordAt, advanceKind, closingKind}
 use Rattle.records.specs.declared.AdvanceRecord.{AdvanceRecord}
 use Rattle.records.specs.Records.{advanceIn, closingIn}
 use Rattle.book.specs.Book.{isAdvance, isClosing, isEntry, kindAt}
-use Rattle.book.proofs.Faultless.{kind-of, kind-index}
-use Rattle.chains.proofs.Links.{entry-index, entry-kind, kinds-apart}
+use Rattle.book.proofs.RecordKinds.{has-kind, kind-index, kinds-apart, entry-cases, entry-index}
 use Rattle.statements.specs.declared.Sums.{Sums}
 use Rattle.statements.specs.Walk.{closingAdded, advanceAdded, entryAdded}
 
 module _ (b : List ℕ) (e kind : ℕ) (entry : isEntry b e ≡ true) (shown : kind ≡ kindAt b e) where
   pub closing-shown : kind ≡ closingKind → isClosing b e ≡ true
-  closing-shown k = let i = entry-index b e entry in kind-of b closingKind e (i .0) (i .1) (sym shown ∙ k)
+  closing-shown k = let i = entry-index b e entry in has-kind b closingKind e (i .0) (i .1) (sym shown ∙ k)
 
   pub advance-shown : (kind ≡ closingKind → ⊥) → isAdvance b e ≡ true
   advance-shown k =
       ⊎-elim (λ (a : isAdvance b e ≡ true). a) (λ (c : isClosing b e ≡ true). absurd (k (shown ∙ kind-index b closingKind e c .1 .1)))
-      (entry-kind b e entry)
+      (entry-cases b e entry)
 
 pub closing-entry-added : (b : List ℕ) (e : ℕ) (s : Sums) → isClosing b e ≡ true → entryAdded b e s ≡ closingAdded (closingIn (recordAt b e)) s
 unfolding entryAdded

@@ -13,7 +13,7 @@ use Rattle.ledger.specs.Ledger.{Statement}
 use Rattle.chains.specs.Chains.{chainFrom, entriesOf}
 use Rattle.chains.specs.Statements.{closingPart, advancePart, balancePart, sumOver, sumOverℤ, statementAt}
 use Rattle.chains.proofs.Chain.{chain-none}
-use Rattle.chains.proofs.Links.{entry-kind}
+use Rattle.book.proofs.RecordKinds.{entry-cases}
 use Rattle.chains.proofs.Fit.{SumsFit, sums-fit, balance-sizes}
 use Rattle.chains.proofs.Walks.{Ahead, begins, entry-here, ahead-next, chain-here}
 use Rattle.statements.specs.declared.Sums.{Sums}
@@ -100,7 +100,7 @@ module _ (b : List ℕ) (s₀ : Sums) (first : ℕ) (s : Sums) (at : ℕ) (w : W
   after =
       ⊎-elim (λ (a : isAdvance b at ≡ true). subst (Toward b whole rest) (sym (advance-entry-added b at s a)) (after-advance b whole at rest s (w .fit) here a))
       (λ (c : isClosing b at ≡ true). subst (Toward b whole rest) (sym (closing-entry-added b at s c)) (after-closing b whole at rest s (w .fit) here c))
-      (entry-kind b at (entry-here b at (w .ahead) more))
+      (entry-cases b at (entry-here b at (w .ahead) more))
 
   pub turned : Walking b s₀ first (entryAdded b at s) (nextOf b at)
   turned = record { ahead = ahead-next b at (w .ahead) more; fit = w .fit; toward = after }

@@ -1,0 +1,90 @@
+-- What it means that a record is a user or an entry: an index from 1 to u, and the kind.
+use Prim.Native.Nat.{ℕ, _≤_, _<_}
+use mathlib.Core.Path.{_≡_, refl, sym, _∙_}
+use mathlib.Core.Bool.{Bool, true, false, _&&_, or-true}
+use mathlib.Core.Logic.{_⊎_, ⊎-elim}
+use mathlib.Core.List.{List}
+use native.Mathlib.Omega.{arith}
+use borrow.Author.Tests.{ltb-true, lt-ltb, eq-eqb, eqb-true, eqb-false}
+use lib.Dec.{ltb, eqb}
+use Rattle.units.proofs.Bools.{and-left, and-right, or-left, or-right, or-cases}
+use Rattle.layout.specs.Fields.{userKind, advanceKind, closingKind}
+use Rattle.book.specs.Book.{used, kindAt, hasKind, isUser, isAdvance, isClosing, isEntry}
+
+-- of a record below u the kind decides
+kind-decides : (b : List ℕ) (kind i : ℕ) → 1 ≤ i → i < used b → hasKind b kind i ≡ eqb (kindAt b i) kind
+unfolding hasKind
+kind-decides b kind i p h = rw (lt-ltb 0 i p, lt-ltb i (used b) h)
+
+pub has-kind : (b : List ℕ) (kind i : ℕ) → 1 ≤ i → i < used b → kindAt b i ≡ kind → hasKind b kind i ≡ true
+has-kind b kind i p h e = kind-decides b kind i p h ∙ eq-eqb (kindAt b i) kind e
+
+module _ (b : List ℕ) (kind i : ℕ) (k : hasKind b kind i ≡ true) where
+  in-range : (ltb 0 i && ltb i (used b)) ≡ true
+  unfolding hasKind
+  in-range = and-left (ltb 0 i && ltb i (used b)) (eqb (kindAt b i) kind) k
+
+  pub kind-from-one : 1 ≤ i
+  kind-from-one = ltb-true 0 i (and-left (ltb 0 i) (ltb i (used b)) in-range)
+
+  pub kind-below : i < used b
+  kind-below = ltb-true i (used b) (and-right (ltb 0 i) (ltb i (used b)) in-range)
+
+  pub kind-is : kindAt b i ≡ kind
+  unfolding hasKind
+  kind-is = eqb-true (kindAt b i) kind (and-right (ltb 0 i && ltb i (used b)) (eqb (kindAt b i) kind) k)
+
+  -- the three together
+  pub kind-index : (1 ≤ i) × ((i < used b) × (kindAt b i ≡ kind))
+  kind-index = (kind-from-one, (kind-below, kind-is))
+
+pub user-index : (b : List ℕ) (i : ℕ) → isUser b i ≡ true → (1 ≤ i) × (i < used b)
+user-index b i u = (kind-from-one b userKind i u, kind-below b userKind i u)
+
+-- a record has one kind
+pub kinds-apart : (b : List ℕ) (k l i : ℕ) → (k ≡ l → ⊥) → hasKind b k i ≡ true → hasKind b l i ≡ false
+kinds-apart b k l i apart h = by-value (hasKind b l i) refl
+  where
+    by-value : (t : Bool) → hasKind b l i ≡ t → hasKind b l i ≡ false
+    by-value true q = absurd (apart (sym (kind-is b k i h) ∙ kind-is b l i q))
+    by-value false q = q
+
+-- an entry is an advance or a closing
+pub entry-cases : (b : List ℕ) (i : ℕ) → isEntry b i ≡ true → (isAdvance b i ≡ true) ⊎ (isClosing b i ≡ true)
+unfolding isEntry
+entry-cases b i e = or-cases (isAdvance b i) (isClosing b i) e
+
+pub advance-entry : (b : List ℕ) (i : ℕ) → isAdvance b i ≡ true → isEntry b i ≡ true
+unfolding isEntry
+advance-entry b i a = rw a
+
+pub closing-entry : (b : List ℕ) (i : ℕ) → isClosing b i ≡ true → isEntry b i ≡ true
+unfolding isEntry
+closing-entry b i c = rw (c, or-true)
+
+pub entry-index : (b : List ℕ) (i : ℕ) → isEntry b i ≡ true → (1 ≤ i) × (i < used b)
+entry-index b i e =
+    ⊎-elim (λ (a : isAdvance b i ≡ true). (kind-from-one b advanceKind i a, kind-below b advanceKind i a))
+    (λ (c : isClosing b i ≡ true). (kind-from-one b closingKind i c, kind-below b closingKind i c)) (entry-cases b i e)
+
+-- an entry is no user
+pub entry-no-user : (b : List ℕ) (i : ℕ) → isEntry b i ≡ true → kindAt b i ≡ userKind → ⊥
+entry-no-user b i e u =
+    ⊎-elim (λ (a : isAdvance b i ≡ true). omega (arith, kind-is b advanceKind i a)) (λ (c : isClosing b i ≡ true). omega (arith, kind-is b closingKind i c))
+    (entry-cases b i e)
+
+pub not-both : (b : List ℕ) (i : ℕ) → isUser b i ≡ true → isEntry b i ≡ true → ⊥
+not-both b i u e = entry-no-user b i e (kind-is b userKind i u)
+
+-- a record below u that is no entry has neither kind
+module _ (b : List ℕ) (i : ℕ) (p : 1 ≤ i) (h : i < used b) (n : isEntry b i ≡ false) where
+  pub no-advance : kindAt b i ≡ advanceKind → ⊥
+  unfolding isEntry
+  no-advance = eqb-false (kindAt b i) advanceKind (sym (kind-decides b advanceKind i p h) ∙ or-left (isAdvance b i) (isClosing b i) n)
+
+  pub no-closing : kindAt b i ≡ closingKind → ⊥
+  unfolding isEntry
+  no-closing = eqb-false (kindAt b i) closingKind (sym (kind-decides b closingKind i p h) ∙ or-right (isAdvance b i) (isClosing b i) n)
+
+pub no-user : (b : List ℕ) (i : ℕ) → 1 ≤ i → i < used b → isUser b i ≡ false → kindAt b i ≡ userKind → ⊥
+no-user b i p h n = eqb-false (kindAt b i) userKind (sym (kind-decides b userKind i p h) ∙ n)
