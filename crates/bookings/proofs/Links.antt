@@ -13,9 +13,10 @@ use Rattle.units.proofs.Bools.{and-left, and-right, or-cases}
 use Rattle.units.proofs.Folds.{sum-none}
 use Rattle.book.specs.Book.{used, firstUser, kindAt, isUser, isAdvance, isClosing, isEntry, nextOf, firstEntryOf, ownerOf, goodHead, userNextFits, firstEntryFits, entryNextFits, pointersFrom, pointersTo}
 use Rattle.book.proofs.Faults.{used-within}
+use Rattle.book.proofs.Hits.{hits-other}
 use Rattle.book.proofs.RecordKinds.{kind-index, entry-index}
 use Rattle.book.proofs.Faultless.{Faultless, EntryLinks}
-use Rattle.bookings.proofs.Pointers.{hits-other, from-head, from-user, from-advance, from-closing}
+use Rattle.bookings.proofs.Pointers.{from-head, from-user, from-advance, from-closing}
 
 module _ (b : List ℕ) (g : Faultless b) where
   some-used : 1 ≤ used b

@@ -4,17 +4,9 @@ use Prim.Native.Nat.{ℕ, _+_, _≤_}
 use mathlib.Core.Path.{_≡_, refl}
 use mathlib.Core.List.{List}
 use native.Mathlib.Omega.{arith}
-use borrow.Author.Tests.{eq-eqb, ne-eqb}
+use borrow.Author.Tests.{ne-eqb}
 use Rattle.layout.specs.Fields.{recordAt, userKind, advanceKind, closingKind}
 use Rattle.book.specs.Book.{firstUser, kindAt, nextOf, firstEntryOf, hits, pointersFrom}
-
-pub hits-self : (k : ℕ) → hits k k ≡ 1
-unfolding hits
-hits-self k = rw (eq-eqb k k refl)
-
-pub hits-other : (p k : ℕ) → (p ≡ k → ⊥) → hits p k ≡ 0
-unfolding hits
-hits-other p k n = rw (ne-eqb p k n)
 
 -- what the head, a user and an entry point to
 pub from-head : (b : List ℕ) (k : ℕ) → pointersFrom b k 0 ≡ hits (firstUser b) k

@@ -13,11 +13,12 @@ use Rattle.units.specs.Folds.{sumBelow}
 use Rattle.units.proofs.Folds.{sum-cong, sum-moved}
 use Rattle.book.specs.Book.{used, firstUser, kindAt, isUser, nextOf, firstEntryOf, hits, pointersFrom, pointersTo, pointedOnce}
 use Rattle.book.proofs.Faults.{used-within}
+use Rattle.book.proofs.Hits.{hits-same, hits-other}
 use Rattle.book.proofs.RecordKinds.{kind-index}
 use Rattle.book.proofs.Faultless.{Faultless}
 use Rattle.bookings.proofs.Records.{UserAt}
 use Rattle.bookings.proofs.Written.{HeadAt, UserEnrolled, AccountSet, EntryAdded, userWith}
-use Rattle.bookings.proofs.Pointers.{hits-self, hits-other, from-head, from-user, from-same}
+use Rattle.bookings.proofs.Pointers.{from-head, from-user, from-same}
 use Rattle.bookings.proofs.Links.{none-points}
 
 -- the old records of b are pointed to in b′ as often as before, and so the record at u once
@@ -34,7 +35,7 @@ pub new-pointed : (b b′ : List ℕ) → Faultless b → OneMore b b′ → poi
 unfolding pointedOnce
 new-pointed b b′ g more =
     let some = used-within b (g .used-fits) .0 in
-    eq-eqb (pointersTo b′ (used b)) 1 (omega (arith, more (used b) some, none-points b g (used b) (omega arith), hits-self (used b)))
+    eq-eqb (pointersTo b′ (used b)) 1 (omega (arith, more (used b) some, none-points b g (used b) (omega arith), hits-same (used b) (used b) refl))
 
 pub pointed-kept : (b b′ : List ℕ) → OldPointers b b′ → (k : ℕ) → 1 ≤ k → k < used b → pointedOnce b k ≡ true → pointedOnce b′ k ≡ true
 unfolding pointedOnce

@@ -15,7 +15,7 @@ use Rattle.layout.specs.Fields.{userKind, advanceKind, closingKind}
 use Rattle.book.specs.Book.{used, firstUser, hasKind, isUser, isAdvance, isClosing, isEntry, ownerOf, nextOf, hits, pointersTo, pointedOnce}
 use Rattle.book.proofs.RecordKinds.{kind-from-one, kind-below, kind-is, entry-cases, entry-index}
 use Rattle.pointers.specs.Pointers.{nextPointer, firstPointer}
-use Rattle.pointers.proofs.Hits.{hits-same, hits-other}
+use Rattle.book.proofs.Hits.{hits-same, hits-other}
 use Rattle.pointers.proofs.Tallies.{tally-all}
 use Rattle.descent.specs.Descent.{met, dueUser, dueEntry, MetUser, MetEntry, Passed}
 use Rattle.descent.proofs.Steps.{met-at, user-moves, user-keeps-entry, entry-keeps-user, entry-moves, entry-keeps-other}

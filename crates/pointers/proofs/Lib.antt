@@ -1,2 +1,1 @@
-pub mod Hits
 pub mod Tallies

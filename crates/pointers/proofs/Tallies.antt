@@ -14,7 +14,7 @@ use Rattle.units.proofs.Folds.{sum-step, sum-cong, sum-capped}
 use Rattle.layout.specs.Fields.{userKind, advanceKind, closingKind}
 use Rattle.book.specs.Book.{used, firstUser, kindAt, nextOf, firstEntryOf, hits, pointersFrom, pointersTo}
 use Rattle.pointers.specs.Pointers.{nextPointer, firstPointer}
-use Rattle.pointers.proofs.Hits.{hits-other, hits-at-most}
+use Rattle.book.proofs.Hits.{hits-other, hits-at-most}
 
 -- how often the two fields of record j lead to record m
 abbrev pub pointed : List ℕ → ℕ → ℕ → ℕ

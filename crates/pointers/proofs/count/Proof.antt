@@ -9,7 +9,7 @@ use native.Mathlib.Decide.{ℕ-discrete}
 use native.Mathlib.Omega.{arith}
 use lib.ListN.{length, getD, set, length-set}
 use lib.Seq.{getD-set-same, getD-set-other}
-use Rattle.pointers.proofs.Hits.{hits-same, hits-other}
+use Rattle.book.proofs.Hits.{hits-same, hits-other}
 use borrow.Author.Needs.{needs}
 use Rattle.pointers.proofs.count.Statement.{statement}
 use Rattle.pointers.proofs.count.Tie as tie

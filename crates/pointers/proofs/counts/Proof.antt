@@ -9,7 +9,7 @@ use lib.ListN.{length, getD, getD-replicate}
 use Rattle.units.specs.Folds.{sumBelow}
 use Rattle.units.proofs.Folds.{sum-zero}
 use Rattle.pointers.proofs.Tallies.{pointed, tally-bound, tally-next, tally-all}
-use Rattle.pointers.proofs.Hits.{hits-at-most}
+use Rattle.book.proofs.Hits.{hits-at-most}
 use borrow.Author.Needs.{needs}
 use Rattle.pointers.proofs.counts.Statement.{statement}
 use Rattle.pointers.proofs.counts.Tie as tie
