@@ -1,21 +1,18 @@
 -- THE THIRD DEMAND, over the functions themselves.
-use Prim.Native.Nat.{ℕ, _^_, _≤_, _<_}
+use Prim.Native.Nat.{ℕ, _^_, _≤_}
 use mathlib.Core.Path.{_≡_, refl, ap, sym, subst, _∙_}
-use mathlib.Core.Bool.{Bool, true, false, cond, _&&_}
+use mathlib.Core.Bool.{Bool, true, false, cond}
 use mathlib.Core.List.{List, [], _∷_}
 use mathlib.Core.Option.{Option, none, some}
 use native.Mathlib.Omega.{arith}
 use borrow.Author.Tests.{eq-eqb}
 use lib.Dec.{eqb}
-use lib.IntN.{ℤ, pos, natAbs}
+use lib.IntN.{pos, natAbs}
 use lib.ListN.{length}
-use lib.Signed.{mag}
 use mir.Syntax.{w64}
 use mir.Val.{toZ}
-use mir.Facts.{toZ-ofZ}
 use denote.Ref.{now}
-use Rattle.values.specs.declared.Details.{Details}
-use Rattle.accounts.specs.Account.{balanceBits}
+use Rattle.accounts.proofs.Balances.{signed-back}
 use Rattle.book.specs.Book.{lengthFits, freshBook}
 use Rattle.book.proofs.Faultless.{sound-faultless}
 use Rattle.soundness.specs.Verdicts.{freshAnswer, freshAfter}
@@ -36,8 +33,8 @@ use Rattle.statement.proofs.Contract.{statement-says}
 use Rattle.statement.proofs.statement.Reads as statement-of
 use Rattle.demand.specs.Demand.{Demand, posted, namedBy, bookAfterAll}
 use Rattle.demand.proofs.Theorem as demand
-use Rattle.claims.specs.Runs.{Made, made, Runs}
-use Rattle.claims.specs.Claims.{isFor, ledgerOf, Claim, Enrols, here, later, UserRight, ThirdDemand}
+use Rattle.claims.specs.Runs.{Made, Runs}
+use Rattle.claims.specs.Claims.{isFor, ledgerOf, Claim, Enrols, here, later, ThirdDemand}
 use Rattle.claims.proofs.Follow.{callsOf, run-typed, run-leaves, run-feeds, run-values, run-undamaged}
 
 -- a number that the list enrolled has a ledger at its end
@@ -64,10 +61,6 @@ unfolding ledgerOf isFor posted namedBy
 has-ledger {number} (here d option ms) l = let q = stays number ms (enrolled d option) in (q .0, rw (eq-eqb number number refl) (q .1))
 has-ledger {number} (later m ms e) l = has-ledger e (cond (isFor number m) (posted (m .call) l) l)
 
--- a balance of that size is read back from its bits
-bits-read : (z : ℤ) → natAbs z ≤ 2 ^ 62 → toZ w64 (balanceBits z .0) ≡ z
-bits-read z small = toZ-ofZ {w = w64} {z = z} (record { sfits = omega (arith, mag-size z) })
-
 module _ (b : List ℕ) (number : ℕ) (l : Ledger) (known : statementRefusal b number ≡ 0) (right : statementAt b (findUser b number) ≡ statementOf l) where
   balance-small : natAbs (statementOf l .balance) ≤ 2 ^ 62
   balance-small =
@@ -81,7 +74,7 @@ module _ (b : List ℕ) (number : ℕ) (l : Ledger) (known : statementRefusal b 
 
   balance-right : (sums : Sums) → sums ≡ sumsOf (statementOf l) → toZ w64 (sums .balance .0) ≡ statementOf l .balance
   unfolding sumsOf
-  balance-right sums e = rw e (bits-read (statementOf l .balance) balance-small)
+  balance-right sums e = rw e (signed-back (statementOf l .balance) (omega (arith, mag-size (statementOf l .balance), balance-small)))
 
   statement-right : (κs : _) (a : _) (r : _) (s : _) → statement-of.Post κs a r s → now (a .0) ≡ b → a .1 .0 .0 ≡ number
       → (r .refusal ≡ 0) × (r .«record» .0 ≡ 0) × (r .sums ≡ sumsOf (statementOf l)) × (toZ w64 (r .sums .balance .0) ≡ statementOf l .balance)

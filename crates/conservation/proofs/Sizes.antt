@@ -1,16 +1,16 @@
 -- The conserved sum, step by step: every partial sum fits 64 bits.
-use Prim.Native.Nat.{ℕ, _+_, _^_, _≤_, _<_}
+use Prim.Native.Nat.{ℕ, _+_, _^_, _<_}
 use mathlib.Core.Path.{_≡_, ap, sym, subst, _∙_}
 use native.Mathlib.Omega.{arith}
-use borrow.Author.Tests.{lt-ltb}
 use lib.IntN.{ℤ, pos, negℤ, natAbs, _+ℤ_, _-ℤ_, +ℤ-idl, +ℤ-comm}
 use lib.Signed.{mag}
 use mir.Syntax.{w64}
 use mir.Val.{toZ}
-use mir.Facts.{toZ-ofZ, toZ-inj}
+use mir.Facts.{toZ-pos, toZ-inj}
 use Rattle.accounts.specs.declared.Balance.{Balance}
 use Rattle.accounts.specs.Closing.{balanceOf}
 use Rattle.accounts.specs.Account.{balanceBits}
+use Rattle.accounts.proofs.Balances.{signed-back}
 use Rattle.ledger.specs.Ledger.{Statement}
 use Rattle.ledger.specs.Accounting.{conserved}
 use Rattle.chains.proofs.Sums.{size-sum, size-negated}
@@ -64,12 +64,6 @@ module _ (s : Sums) (h : Small s) where
   sum-fits = omega (arith, mag-size sum, size-sum lapsed (pos (s .credit .0)), lapsed-size, h .credit)
 
 -- THE STEPS
-low : (n : ℕ) → n < 2 ^ 63 → toZ w64 n ≡ pos n
-low n l = rw (lt-ltb n (2 ^ 63) l)
-
-bits-read : (z : ℤ) → mag z < 2 ^ 63 → toZ w64 (balanceBits z .0) ≡ z
-bits-read z l = toZ-ofZ {w = w64} {z = z} (record { sfits = l })
-
 -- less than nothing
 negated : (n : ℕ) → n < 2 ^ 63 → (b : Balance) → b ≡ balanceBits (balanceOf 0 n) → toZ w64 (b .0) ≡ negℤ (pos n)
 unfolding balanceOf
@@ -77,15 +71,15 @@ negated n l b e =
     let z : ℤ = pos 0 -ℤ pos n in
     let same : z ≡ negℤ (pos n) = +ℤ-idl (negℤ (pos n)) in
     let size : mag z < 2 ^ 63 = rw same (omega (arith, mag-size (negℤ (pos n)), size-negated (pos n))) in
-    ap (λ x. toZ w64 (x .0)) e ∙ bits-read z size ∙ same
+    ap (λ x. toZ w64 (x .0)) e ∙ signed-back z size ∙ same
 
 module _ (sum : ℤ) (part : ℕ) (l : part < 2 ^ 63) where
   pub plus-room : mag (sum +ℤ pos part) < 2 ^ 63 → mag (sum +ℤ toZ w64 part) < 2 ^ 63
-  plus-room h = subst (λ x. mag (sum +ℤ x) < 2 ^ 63) (sym (low part l)) h
+  plus-room h = subst (λ x. mag (sum +ℤ x) < 2 ^ 63) (sym (toZ-pos w64 {n = part} l)) h
 
   pub plus-is : mag (sum +ℤ pos part) < 2 ^ 63 → (r : Balance) → r ≡ balanceBits (sum +ℤ toZ w64 part) → toZ w64 (r .0) ≡ sum +ℤ pos part
   plus-is h r e =
-      ap (λ x. toZ w64 (x .0)) e ∙ bits-read (sum +ℤ toZ w64 part) (plus-room h) ∙ ap (λ x. sum +ℤ x) (low part l)
+      ap (λ x. toZ w64 (x .0)) e ∙ signed-back (sum +ℤ toZ w64 part) (plus-room h) ∙ ap (λ x. sum +ℤ x) (toZ-pos w64 {n = part} l)
 
   module _ (b : Balance) (n : b ≡ balanceBits (balanceOf 0 part)) where
     pub less-room : mag (sum -ℤ pos part) < 2 ^ 63 → mag (sum +ℤ toZ w64 (b .0)) < 2 ^ 63
@@ -93,7 +87,7 @@ module _ (sum : ℤ) (part : ℕ) (l : part < 2 ^ 63) where
 
     pub less-is : mag (sum -ℤ pos part) < 2 ^ 63 → (r : Balance) → r ≡ balanceBits (sum +ℤ toZ w64 (b .0)) → toZ w64 (r .0) ≡ sum -ℤ pos part
     less-is h r e =
-        ap (λ x. toZ w64 (x .0)) e ∙ bits-read (sum +ℤ toZ w64 (b .0)) (less-room h) ∙ ap (λ x. sum +ℤ x) (negated part l b n)
+        ap (λ x. toZ w64 (x .0)) e ∙ signed-back (sum +ℤ toZ w64 (b .0)) (less-room h) ∙ ap (λ x. sum +ℤ x) (negated part l b n)
 
 -- THE SUM, step by step
 module _ (s : Sums) (h : Small s) where
@@ -134,16 +128,16 @@ module _ (s : Sums) (h : Small s) where
 
   -- it is the value, or it is not
   pub same-value : (x : Balance) → toZ w64 (x .0) ≡ conservedIn s → x .0 ≡ s .value .0 → conservedIn s ≡ pos (s .value .0)
-  same-value x e v = sym e ∙ ap (toZ w64) v ∙ low (s .value .0) (omega (arith, h .value))
+  same-value x e v = sym e ∙ ap (toZ w64) v ∙ toZ-pos w64 {n = s .value .0} (omega (arith, h .value))
 
   pub other-value : (x : Balance) → x .0 < 2 ^ 64 → toZ w64 (x .0) ≡ conservedIn s → (x .0 ≡ s .value .0 → ⊥) → conservedIn s ≡ pos (s .value .0) → ⊥
   other-value x fits e differs v =
       differs
-      (toZ-inj {w = w64} (record { fits = fits }) (record { fits = omega (arith, h .value) }) (e ∙ v ∙ sym (low (s .value .0) (omega (arith, h .value)))))
+      (toZ-inj {w = w64} (record { fits = fits }) (record { fits = omega (arith, h .value) }) (e ∙ v ∙ sym (toZ-pos w64 {n = s .value .0} (omega (arith, h .value)))))
 
 -- the sums of a statement that is small, and their conserved sum
 balance-read : (z : ℤ) → natAbs z < 2 ^ 59 → toZ w64 (balanceBits z .0) ≡ z
-balance-read z small = toZ-ofZ {w = w64} {z = z} (record { sfits = omega (arith, mag-size z) })
+balance-read z small = signed-back z (omega (arith, mag-size z))
 
 pub small-sums : (t : Statement) → SumsSmall t → Small (sumsOf t)
 unfolding sumsOf

@@ -9,10 +9,8 @@ use lib.IntN.{ℤ, pos, negsuc, subℕ, _+ℤ_}
 use lib.Signed.{mag}
 use mir.Syntax.{w64}
 use mir.Val.{ofZ, toZ}
-use borrow.Author.Tests.{lt-ltb, le-ltb, ltb-true, ltb-false}
-
-low : (n : ℕ) → n < 2 ^ 63 → toZ w64 n ≡ pos n
-low n h = rw (lt-ltb n (2 ^ 63) h)
+use mir.Facts.{toZ-pos}
+use borrow.Author.Tests.{le-ltb, ltb-true, ltb-false}
 
 high : (n : ℕ) → 2 ^ 63 ≤ n → toZ w64 n ≡ negsuc (2 ^ 64 - suc n)
 high n h = rw (le-ltb n (2 ^ 63) h)
@@ -38,10 +36,10 @@ pub wrapped-sum : (a b : ℕ) → a < 2 ^ 64 → b < 2 ^ 64 → Joins a b (toZ w
 wrapped-sum a b ha hb = either (decLt a (2 ^ 63)) (decLt b (2 ^ 63))
   where
     either : Dec (a < 2 ^ 63) → Dec (b < 2 ^ 63) → Joins a b (toZ w64 a +ℤ toZ w64 b)
-    either (yes la) (yes lb) = rw (low a la, low b lb) (both-low a b)
+    either (yes la) (yes lb) = rw (toZ-pos w64 {n = a} la, toZ-pos w64 {n = b} lb) (both-low a b)
     either (yes la) (no mb) =
-        let lb : 2 ^ 63 ≤ b = omega (arith, mb) in rw (low a la, high b lb) (difference a b la lb hb)
+        let lb : 2 ^ 63 ≤ b = omega (arith, mb) in rw (toZ-pos w64 {n = a} la, high b lb) (difference a b la lb hb)
     either (no ma) (yes lb) =
         let la : 2 ^ 63 ≤ a = omega (arith, ma) in
-        rw (high a la, low b lb) (λ h. omega (arith, difference b a lb la ha h))
+        rw (high a la, toZ-pos w64 {n = b} lb) (λ h. omega (arith, difference b a lb la ha h))
     either (no ma) (no mb) = rw (high a (omega (arith, ma)), high b (omega (arith, mb))) (both-high a b ha hb)
