@@ -6,6 +6,7 @@ use mathlib.Core.Bool.{Bool, true, false, cond}
 use native.Mathlib.Omega.{arith}
 use borrow.Author.Tests.{eq-eqb, ne-eqb}
 use Rattle.units.specs.Limits.{maxYearTicks, maxFlatRate, maxContribution}
+use Rattle.units.proofs.Bools.{cond-capped}
 use Rattle.accounts.specs.Closing.{liquidates, contributionOf, liquidationOf, lapsedOf, creditAfter}
 
 one-year-by : (liquidated : Bool) (k c o f : ℕ)
@@ -22,43 +23,26 @@ pub one-year : (option k c o f : ℕ)
 unfolding contributionOf liquidationOf lapsedOf creditAfter
 one-year option k c o f = one-year-by (liquidates option) k c o f
 
-contribution-by : (liquidated : Bool) (k c o f : ℕ)
-    → cond liquidated (min o c + f) (min o c + min k (o - c) + f) ≤ o + f
-contribution-by true k c o f = omega arith
-contribution-by false k c o f = omega arith
-
 pub contribution-at-most : (option k c o f : ℕ) → contributionOf option k c o f ≤ o + f
 unfolding contributionOf
-contribution-at-most option k c o f = contribution-by (liquidates option) k c o f
+contribution-at-most option k c o f = cond-capped (liquidates option) (omega arith) (omega arith)
 
 -- "contribution 1.08·10^15"
 pub contribution-capped : (option k c o f : ℕ) → o ≤ maxYearTicks → f ≤ maxFlatRate → contributionOf option k c o f ≤ maxContribution
 contribution-capped option k c o f ho hf = omega (arith, contribution-at-most option k c o f)
 
-liquidation-by : (liquidated : Bool) (c o : ℕ) → cond liquidated (c - o) 0 ≤ c
-liquidation-by true c o = omega arith
-liquidation-by false c o = omega arith
-
 -- "C, O, liquidation and an advance are at most 3.6·10^14"
 pub liquidation-capped : (option c o : ℕ) → c ≤ maxYearTicks → liquidationOf option c o ≤ maxYearTicks
 unfolding liquidationOf
-liquidation-capped option c o h = omega (arith, liquidation-by (liquidates option) c o)
-
-lapsed-by : (liquidated : Bool) (k : ℕ) → cond liquidated k 0 ≤ k
-lapsed-by true k = omega arith
-lapsed-by false k = omega arith
+liquidation-capped option c o h = cond-capped (liquidates option) (omega arith) (omega arith)
 
 pub lapsed-at-most : (option k : ℕ) → lapsedOf option k ≤ k
 unfolding lapsedOf
-lapsed-at-most option k = lapsed-by (liquidates option) k
-
-credit-by : (liquidated : Bool) (k c o : ℕ) → cond liquidated 0 (k + c - o) ≤ k + c
-credit-by true k c o = omega arith
-credit-by false k c o = omega arith
+lapsed-at-most option k = cond-capped (liquidates option) (omega arith) (omega arith)
 
 pub credit-at-most : (option k c o : ℕ) → creditAfter option k c o ≤ k + c
 unfolding creditAfter
-credit-at-most option k c o = credit-by (liquidates option) k c o
+credit-at-most option k c o = cond-capped (liquidates option) (omega arith) (omega arith)
 
 -- "Credit is at most 3.6·10^14 times the closed years"
 pub credit-capped : (option k c o n : ℕ) → k ≤ maxYearTicks * n → c ≤ maxYearTicks → creditAfter option k c o ≤ maxYearTicks * (n + 1)

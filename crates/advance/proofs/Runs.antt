@@ -1,10 +1,11 @@
 -- A run's amount, and its entry in the book.
 use Prim.Native.Nat.{ℕ, _≤_}
 use mathlib.Core.Path.{_≡_, sym}
-use mathlib.Core.Bool.{Bool, true, false, cond}
+use mathlib.Core.Bool.{true, cond}
 use mathlib.Core.List.{List}
 use borrow.Author.Tests.{leb-true, eq-eqb, ne-eqb}
 use lib.Dec.{eqb}
+use Rattle.units.proofs.Bools.{cond-capped}
 use Rattle.units.specs.declared.RecordIndex.{RecordIndex}
 use Rattle.units.specs.declared.Ticks.{Ticks}
 use Rattle.units.specs.Units.{recordIndex, ticks}
@@ -30,10 +31,6 @@ module _ (a : Account) (p e₁ e₂ : ℕ) where
   abbrev pub paidFor : ℕ → ℕ → ℕ
   paidFor estimate half = cond (eqb (a .«open_year») (a .details .year)) estimate half
 
-  either-fits : (t : Bool) (x y : ℕ) → x ≤ maxHalfKwh → y ≤ maxHalfKwh → cond t x y ≤ maxHalfKwh
-  either-fits true x y p q = p
-  either-fits false x y p q = q
-
   pub run-within : halvesFit a ≡ true → orderFits p e₁ e₂ ≡ true → (first second : ℕ) → first ≡ paidFor e₁ (a .half1 .0) → second ≡ paidFor e₂ (a .half2 .0)
       → (p ≤ maxPrice) × ((first ≤ maxHalfKwh) × (second ≤ maxHalfKwh))
   unfolding halvesFit orderFits
@@ -44,7 +41,7 @@ module _ (a : Account) (p e₁ e₂ : ℕ) where
       let estimate2 : e₂ ≤ maxHalfKwh = search (conjuncts, leb-true) in
       let half1 : a .half1 .0 ≤ maxHalfKwh = search (conjuncts, leb-true) in
       let half2 : a .half2 .0 ≤ maxHalfKwh = search (conjuncts, leb-true) in
-      (price, (rw f (either-fits none e₁ (a .half1 .0) estimate1 half1), rw s (either-fits none e₂ (a .half2 .0) estimate2 half2)))
+      (price, (rw f (cond-capped none estimate1 half1), rw s (cond-capped none estimate2 half2)))
 
   pub run-paid : (run first second : ℕ) → first ≡ paidFor e₁ (a .half1 .0) → second ≡ paidFor e₂ (a .half2 .0) → (h : Halves) → h ≡ halvesOf a run → (paid : Ticks)
       → paid ≡ ticks (amountOf h p first second) → paid ≡ ticks (runAmount a (a .«open_year») run p e₁ e₂)

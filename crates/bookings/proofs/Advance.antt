@@ -6,7 +6,7 @@ use mathlib.Core.List.{List}
 use native.Mathlib.Omega.{arith}
 use borrow.Author.Tests.{leb-true, le-leb, eqb-true, not-true}
 use lib.Dec.{eqb, leb}
-use Rattle.units.proofs.Bools.{and-left, and-right, and-both}
+use Rattle.units.proofs.Bools.{and-left, and-right, and-both, cond-capped}
 use Rattle.units.specs.Units.{ticks}
 use Rattle.units.specs.Limits.{maxPrice, maxHalfKwh, maxHalfTicks, maxYearTicks, lastActivation}
 use Rattle.calendar.specs.declared.Halves.{Halves}
@@ -74,14 +74,10 @@ run-at-most a year run rate estimate1 estimate2 fits e order =
     let second : estimate2 ≤ maxHalfKwh = search (conjuncts, leb-true) in
     rw e
     (amount-at-most (halvesPaid (a .details .year) (a .details .month) (a .«open_year») run) rate (cond none estimate1 (a .half1 .0)) (cond none estimate2 (a .half2 .0)) price
-    (either none estimate1 (a .half1 .0) first (w .half1)) (either none estimate2 (a .half2 .0) second (w .half2)))
+    (cond-capped none first (w .half1)) (cond-capped none second (w .half2)))
   where
     none : Bool
     none = eqb (a .«open_year») (a .details .year)
-
-    either : (t : Bool) (x y : ℕ) → x ≤ maxHalfKwh → y ≤ maxHalfKwh → cond t x y ≤ maxHalfKwh
-    either true x y p q = p
-    either false x y p q = q
 
 -- the entry's own ranges
 advance-ranges : (b : List ℕ) (i year run paid : ℕ) (a : Account) → a .«open_year» ≡ year → accountFits a ≡ true → isRun run ≡ true → paid ≤ maxYearTicks

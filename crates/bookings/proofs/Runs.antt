@@ -6,6 +6,7 @@ use native.Mathlib.Omega.{arith}
 use borrow.Author.Tests.{eqb-true, eqb-false, eq-eqb}
 use lib.Dec.{leb, ltb, eqb}
 use Rattle.units.specs.Limits.{maxHalfTicks, maxYearTicks}
+use Rattle.units.proofs.Bools.{cond-capped}
 use Rattle.calendar.specs.ElectionAndAdvances.{june, october, january, halves, halvesPaid, due, halvesCount}
 use Rattle.accounts.specs.declared.Account.{Account}
 use Rattle.book.specs.Book.{halvesOf, runMade, halvesMade, isRun}
@@ -33,11 +34,7 @@ two-halves activation month year =
 -- a run that is not made pays nothing
 made-at-most : (a : Account) (run : ℕ) → halvesMade a run ≤ halvesCount (halvesOf a run)
 unfolding halvesMade
-made-at-most a run = by-value (runMade a run)
-  where
-    by-value : (t : Bool) → cond t (halvesCount (halvesOf a run)) 0 ≤ halvesCount (halvesOf a run)
-    by-value true = omega arith
-    by-value false = omega arith
+made-at-most a run = cond-capped (runMade a run) (omega arith) (omega arith)
 
 pub made-two-halves : (a : Account) → halvesMade a june + halvesMade a october + halvesMade a january ≤ 2
 unfolding halvesOf

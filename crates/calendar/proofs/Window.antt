@@ -2,25 +2,21 @@
 -- day from year a on, and no January is longer than 31 days.
 use Prim.Native.Nat.{ℕ, _+_, _≤_, _<_}
 use mathlib.Core.Path.{_≡_}
-use mathlib.Core.Bool.{Bool, true, false, cond, _&&_, _||_, and-true}
+use mathlib.Core.Bool.{Bool, true, _&&_, _||_, and-true}
 use native.Mathlib.Decide.{decLt}
 use native.Mathlib.Numerals.{add-one}
 use native.Mathlib.Nat.{le-trans}
 use native.Mathlib.Omega.{arith}
 use borrow.Author.Tests.{leb-true, lt-ltb, le-ltb, le-leb, lt-leb, eq-eqb, ne-eqb}
 use lib.Dec.{leb, ltb, eqb, leb·suc-suc}
-use Rattle.units.proofs.Bools.{and-left, and-right}
+use Rattle.units.proofs.Bools.{and-left, and-right, cond-capped}
 use Rattle.calendar.specs.ElectionAndAdvances.{leap, daysIn, isDay, notAfter, inWindow}
-
-cond-at-most : (b : Bool) {x y n : ℕ} → x ≤ n → y ≤ n → cond b x y ≤ n
-cond-at-most true h k = h
-cond-at-most false h k = k
 
 pub days-at-most : (y m : ℕ) → daysIn y m ≤ 31
 unfolding daysIn
 days-at-most y m =
-    cond-at-most (eqb m 2) (cond-at-most (leap y) (omega arith) (omega arith))
-    (cond-at-most (((eqb m 4 || eqb m 6) || eqb m 9) || eqb m 11) (omega arith) (omega arith))
+    cond-capped (eqb m 2) (cond-capped (leap y) (omega arith) (omega arith))
+    (cond-capped (((eqb m 4 || eqb m 6) || eqb m 9) || eqb m 11) (omega arith) (omega arith))
 
 -- what a day that exists has
 pub record Day (y m d : ℕ) : Type 0 where

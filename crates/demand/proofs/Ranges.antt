@@ -8,6 +8,7 @@ use native.Mathlib.Nat.{mul-le-mul}
 use native.Mathlib.Omega.{arith}
 use lib.Dec.{lit<, lit≤}
 use lib.ListN.{getD}
+use Rattle.units.proofs.Bools.{cond-capped}
 use Rattle.units.specs.Limits.{maxKwh, maxPrice, maxTierRate, maxYearTicks, maxFlatRate, maxHalfKwh}
 use Rattle.units.specs.Folds.{sumBelow}
 use Rattle.units.proofs.Folds.{sum-capped}
@@ -22,10 +23,6 @@ use Rattle.values.specs.declared.Details.{Details}
 use Rattle.values.specs.YearsValues.{monthExchanged, monthRate, annualRate, monthFlatRate, annualFlatRate, flatRateOver, withdrawnOver, exchangedOver, someMonthAbove, halfOf, yearValues, onIsland, isPhotovoltaic, ValuesFit}
 use Rattle.values.proofs.SheetRates.{month-rate-capped, annual-rate-capped}
 use Rattle.values.proofs.SheetEnergies.{withdrawn-capped, exchanged-within, exchanged-capped}
-
-cond-capped : (b : Bool) {x y cap : ℕ} → x ≤ cap → y ≤ cap → cond b x y ≤ cap
-cond-capped true hx hy = hx
-cond-capped false hx hy = hy
 
 -- O and C: at most three bands a month, each at most the greatest energy at the greatest price
 abbrev maxBandTicks : ℕ

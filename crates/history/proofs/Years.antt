@@ -7,7 +7,7 @@ use mathlib.Core.List.{List, [], _∷_}
 use native.Mathlib.Omega.{arith}
 use borrow.Author.Tests.{eq-eqb, ne-eqb}
 use lib.Dec.{eqb}
-use Rattle.units.proofs.Bools.{and-left}
+use Rattle.units.proofs.Bools.{and-left, cond-capped}
 use Rattle.units.specs.declared.RecordIndex.{RecordIndex}
 use Rattle.units.specs.declared.Ticks.{Ticks}
 use Rattle.units.specs.Units.{recordIndex, ticks}
@@ -52,11 +52,7 @@ is-closing b i n entry e some =
 -- a year adds at most its value to the credit
 over-most : (c : ClosingRecord) (k : ℕ) → c .value .0 ≤ maxYearTicks → creditOver c k ≤ k + maxYearTicks
 unfolding creditOver creditAfter
-over-most c k l = by-option (eqb (c .option) 1)
-  where
-    by-option : (t : Bool) → cond t 0 (k + c .value .0 - c .cost .0) ≤ k + maxYearTicks
-    by-option true = omega arith
-    by-option false = omega arith
+over-most c k l = cond-capped (eqb (c .option) 1) (omega arith) (omega arith)
 
 module _ (b : List ℕ) (long : lengthFits b ≡ true) (good : sound b ≡ true) (e k : ℕ) (is : isClosing b e ≡ true) where
   value-most : closingIn (recordAt b e) .value .0 ≤ maxYearTicks

@@ -1,7 +1,7 @@
 -- Numbers that were read fit where they are as many as asked, each within its width, and the line ends after them.
-use Prim.Native.Nat.{ℕ, _+_, _≤_, _<_}
-use mathlib.Core.Path.{_≡_, refl, ap, ap₂, sym, _∙_}
-use mathlib.Core.Bool.{Bool, true, false, true≢false, _&&_}
+use Prim.Native.Nat.{ℕ, _≤_, _<_}
+use mathlib.Core.Path.{_≡_, refl, ap, sym, _∙_}
+use mathlib.Core.Bool.{Bool, true, false, true≢false, _&&_, and-false}
 use mathlib.Core.List.{List}
 use native.Mathlib.Omega.{arith}
 use native.Mathlib.Decide.{decLt}
@@ -22,10 +22,6 @@ all-fails n p i l e = by-value (allBelow n p) refl
     by-value : (b : Bool) → allBelow n p ≡ b → allBelow n p ≡ false
     by-value true q = absurd (true≢false (sym (all-at n p q i l) ∙ e))
     by-value false q = q
-
-and-false : (a : Bool) → (a && false) ≡ false
-and-false true = refl
-and-false false = refl
 
 module _ (s : List ℕ) (at : ℕ) (most : List ℕ) (r : Numbers) (h : FieldsRead s at (length most) r) where
   abbrev pub within : ℕ → Bool

@@ -1,11 +1,11 @@
 -- Rates: the mean of n months is the number nearest to the sum divided by n, halves up; the three cases of a tier rate.
 use Prim.Native.Nat.{ℕ, _+_, _-_, _*_, _/_, _≤_, _<_, min}
 use mathlib.Core.Path.{_≡_}
-use mathlib.Core.Bool.{Bool, true, false, cond}
 use native.Mathlib.Nat.{mul-div-le, lt-mul-div-succ, div-lt-iff-lt-mul, mul-add, mul-one}
 use native.Mathlib.Omega.{arith}
 use lib.Dec.{eqb, leb}
 use borrow.Author.Tests.{eq-eqb, ne-eqb, le-leb, lt-leb}
+use Rattle.units.proofs.Bools.{cond-capped}
 use Rattle.units.specs.Units.{unitsPerEuroMwh}
 use Rattle.tariff.specs.Table1.{tableEuroPerMwh}
 use Rattle.tariff.specs.Tariff.{meanRate, cogeneration, smallPower, limit, tierRate}
@@ -41,10 +41,6 @@ pub rate-of-large :
     tierRate plant power net system ≡ net + part
 unfolding tierRate limit
 rate-of-large {plant} {power} net system n h t l p = rw (ne-eqb plant cogeneration n, lt-leb power smallPower h, p, l, t)
-
-cond-capped : (t : Bool) {x y cap : ℕ} → x ≤ cap → y ≤ cap → cond t x y ≤ cap
-cond-capped true h k = h
-cond-capped false h k = k
 
 pub tier-rate-capped :
     (plant power cap : ℕ) {net system : ℕ} → net ≤ cap → system ≤ cap → tierRate plant power net system ≤ cap + cap

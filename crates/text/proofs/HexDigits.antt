@@ -1,7 +1,7 @@
 -- What a hexadecimal digit is, on either side of `9`.
 use Prim.Native.Nat.{ℕ, _+_, _-_, _≤_, _<_}
 use mathlib.Core.Path.{_≡_, refl}
-use mathlib.Core.Bool.{Bool, true, false, _||_, _&&_, true≢false, false≢true}
+use mathlib.Core.Bool.{Bool, true, false, _||_, _&&_, and-false, true≢false, false≢true}
 use native.Mathlib.Omega.{arith}
 use borrow.Author.Tests.{leb-true, lt-leb}
 use mathlib.Core.List.{List}
@@ -17,11 +17,7 @@ letter false x f e = e
 
 pub above-nine : (b : ℕ) → 57 < b → isDigit b ≡ false
 unfolding isDigit
-above-nine b l = rw (lt-leb b 57 l) (last (leb 48 b))
-  where
-    last : (t : Bool) → (t && false) ≡ false
-    last true = refl
-    last false = refl
+above-nine b l = rw (lt-leb b 57 l, and-false)
 
 pub hex-above-nine : (b : ℕ) → isHexDigit b ≡ true → 57 < b → (97 ≤ b) × (b ≤ 102)
 unfolding isHexDigit

@@ -1,6 +1,7 @@
 -- Laws of tests.
+use Prim.Native.Nat.{ℕ, _≤_}
 use mathlib.Core.Path.{_≡_, refl}
-use mathlib.Core.Bool.{Bool, true, false, _&&_, _||_, false≢true, true≢false}
+use mathlib.Core.Bool.{Bool, true, false, cond, _&&_, _||_, false≢true, true≢false}
 use mathlib.Core.Logic.{_⊎_, inl, inr}
 
 pub and-left : (a b : Bool) → (a && b) ≡ true → a ≡ true
@@ -28,3 +29,8 @@ or-neither p q = rw (p, q)
 pub or-cases : (a b : Bool) → (a || b) ≡ true → (a ≡ true) ⊎ (b ≡ true)
 or-cases true b e = inl refl
 or-cases false b e = inr e
+
+-- of two numbers of at most `cap` a test picks one of at most `cap`
+pub cond-capped : (t : Bool) {x y cap : ℕ} → x ≤ cap → y ≤ cap → cond t x y ≤ cap
+cond-capped true h k = h
+cond-capped false h k = k
