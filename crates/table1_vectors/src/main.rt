@@ -2,11 +2,9 @@
 // power with the price that the tariff looks up.
 use libc::STDIN_FILENO;
 use libc::STDOUT_FILENO;
+use tariff::UNITS_PER_EURO_MWH;
 use text::Line;
 use text::Number;
-
-// "One €/MWh is 100 units of price."
-const UNITS_PER_EURO_MWH: u64 = 100;
 
 fn show_error() {
     io::write_all(STDOUT_FILENO, b"error\n");

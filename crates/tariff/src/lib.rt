@@ -129,7 +129,7 @@ pub fn mean_rate(sum: Rate, months: u64) -> Rate
 }
 
 // "One €/MWh is 100 units of price."
-const UNITS_PER_EURO_MWH: u64 = 100;
+pub const UNITS_PER_EURO_MWH: u64 = 100;
 
 // "17 is non-renewable high-efficiency cogeneration."
 const COGENERATION: u8 = 17;
