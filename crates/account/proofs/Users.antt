@@ -17,7 +17,7 @@ use Rattle.calls.specs.Bookings.{findUser}
 use Rattle.bookings.proofs.Numbers.{found}
 use Rattle.statements.specs.declared.Sums.{Sums}
 use Rattle.statements.specs.Walk.{sumsOf}
-use Rattle.history.specs.History.{mostYears}
+use Rattle.units.specs.Limits.{mostYears}
 use Rattle.conservation.specs.Conservation.{Small}
 use Rattle.conservation.proofs.Sizes.{small-sums}
 

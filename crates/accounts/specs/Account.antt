@@ -1,11 +1,11 @@
 -- An account by value, and what an election, an advance and a closing make of it ("Closing", "Election and advances").
-use Prim.Native.Nat.{ℕ, _+_, _-_, _*_, _≤_, _<_}
+use Prim.Native.Nat.{ℕ, _+_, _*_, _≤_, _<_}
 use mathlib.Core.Bool.{cond}
 use lib.IntN.{ℤ}
 use mir.Syntax.{w64}
 use mir.Val.{ofZ}
 use Rattle.units.specs.Units.{ticks}
-use Rattle.units.specs.Limits.{maxYearTicks, maxFlatRate, firstActivation, lastOpenYear}
+use Rattle.units.specs.Limits.{maxYearTicks, maxFlatRate, lastOpenYear, mostYears}
 use Rattle.values.specs.declared.YearValues.{YearValues}
 use Rattle.accounts.specs.declared.Account.{Account}
 use Rattle.accounts.specs.declared.Balance.{Balance}
@@ -105,7 +105,7 @@ pub record SumsInRange (k : ℕ) (v : YearValues) : Type 0 where
   pub value : v .value .0 ≤ maxYearTicks
   pub cost : v .cost .0 ≤ maxYearTicks
   pub flatRate : v .«flat_rate» .0 ≤ maxFlatRate
-  pub credit : k ≤ maxYearTicks * (lastOpenYear - firstActivation)
+  pub credit : k ≤ maxYearTicks * mostYears
 
 -- .. and a year after the open one
 pub record InRange (v : YearValues) (a : Account) : Type 0 where

@@ -9,7 +9,7 @@ use native.Mathlib.Omega.{arith}
 use lib.Dec.{ltb}
 use lib.IntN.{natAbs}
 use lib.ListN.{length}
-use Rattle.units.specs.Limits.{maxYearTicks, maxFlatRate, maxContribution, mostRecords}
+use Rattle.units.specs.Limits.{maxYearTicks, maxFlatRate, maxContribution, mostYears, mostRecords}
 use Rattle.units.proofs.Bools.{and-left}
 use Rattle.layout.specs.Fields.{recordAt, advanceKind, closingKind}
 use Rattle.records.specs.declared.ClosingRecord.{ClosingRecord}
@@ -27,7 +27,7 @@ use Rattle.chains.proofs.Links.{Owned, first-entry}
 use Rattle.chains.proofs.Entries.{entries-only}
 use Rattle.chains.proofs.Order.{chain-ordered}
 use Rattle.chains.proofs.Sums.{sum-at-most, closings-at-most, size-of-sum}
-use Rattle.chains.proofs.Ranges.{mostYears, ClosingRanges, user-years, credit-range, closing-ranges, advance-range}
+use Rattle.chains.proofs.Ranges.{ClosingRanges, user-years, credit-range, closing-ranges, advance-range}
 
 module _ (b : List ℕ) (f : Faultless b) (i : ℕ) (u : isUser b i ≡ true) where
   -- A sum over the closings has at most one term for each closed year.

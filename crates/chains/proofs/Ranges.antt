@@ -10,7 +10,7 @@ use lib.IntN.{natAbs}
 use mir.Syntax.{w64}
 use mir.Val.{toZ}
 use borrow.Author.Tests.{leb-true, lt-ltb, le-ltb}
-use Rattle.units.specs.Limits.{maxYearTicks, maxFlatRate, maxContribution, maxPower, firstActivation, lastActivation, lastOpenYear}
+use Rattle.units.specs.Limits.{maxYearTicks, maxFlatRate, maxContribution, maxPower, firstActivation, lastActivation, lastOpenYear, mostYears}
 use Rattle.units.proofs.Bools.{and-left, and-right, or-cases}
 use Rattle.accounts.specs.declared.Account.{Account}
 use Rattle.layout.specs.Fields.{recordAt}
@@ -20,10 +20,6 @@ use Rattle.book.specs.Book.{within, isUser, isAdvance, isClosing, ownerOf, acco
 use Rattle.book.proofs.Faultless.{Faultless}
 use Rattle.book.proofs.RecordKinds.{closing-entry}
 use Rattle.chains.proofs.Links.{entry-owner}
-
--- the years that can be closed
-abbrev pub mostYears : ℕ
-mostYears = lastOpenYear - firstActivation
 
 pub record YearsFit (a : Account) : Type 0 where
   pub activation : firstActivation ≤ a .details .year

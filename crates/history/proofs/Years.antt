@@ -11,7 +11,7 @@ use Rattle.units.proofs.Bools.{and-left, cond-capped}
 use Rattle.units.specs.declared.RecordIndex.{RecordIndex}
 use Rattle.units.specs.declared.Ticks.{Ticks}
 use Rattle.units.specs.Units.{recordIndex, ticks}
-use Rattle.units.specs.Limits.{maxYearTicks, lastOpenYear}
+use Rattle.units.specs.Limits.{maxYearTicks, mostYears}
 use Rattle.accounts.specs.declared.Outcome.{Outcome}
 use Rattle.accounts.specs.Closing.{creditAfter}
 use Rattle.accounts.specs.Account.{outcomeOf, creditIn}
@@ -23,7 +23,7 @@ use Rattle.book.specs.Book.{lengthFits, sound, isUser, isClosing, rankOf, activ
 use Rattle.book.proofs.Faultless.{sound-faultless}
 use Rattle.chains.specs.Chains.{entriesOf}
 use Rattle.chains.proofs.Ranges.{closing-ranges, user-years}
-use Rattle.history.specs.History.{isClosingOf, closingAmong, closingOf, closingAfter, advancesOf, creditOver, creditAfterYears, yearOf, mostYears}
+use Rattle.history.specs.History.{isClosingOf, closingAmong, closingOf, closingAfter, advancesOf, creditOver, creditAfterYears, yearOf}
 
 -- an activation year leaves room for every year after it
 pub year-room : (b : List ℕ) (i n : ℕ) → lengthFits b ≡ true → sound b ≡ true → isUser b i ≡ true → n ≤ mostYears → activationOf b i + n < 2 ^ 16

@@ -1,10 +1,9 @@
 -- A user's account year by year, from its chain.
-use Prim.Native.Nat.{ℕ, zero, suc, _+_, _-_}
+use Prim.Native.Nat.{ℕ, zero, suc, _+_}
 use mathlib.Core.Bool.{Bool, cond, _&&_}
 use mathlib.Core.List.{List, [], _∷_}
 use lib.Dec.{eqb}
 use Rattle.units.specs.Units.{ticks}
-use Rattle.units.specs.Limits.{firstActivation, lastOpenYear}
 use Rattle.accounts.specs.Closing.{creditAfter}
 use Rattle.layout.specs.Fields.{recordAt}
 use Rattle.records.specs.declared.ClosingRecord.{ClosingRecord}
@@ -41,10 +40,6 @@ unfoldable pub creditAfterYears : List ℕ → ℕ → ℕ → ℕ
 creditAfterYears b i zero = 0
 creditAfterYears b i (suc n) =
     cond (eqb (closingAfter b i n) 0) (creditAfterYears b i n) (creditOver (closingIn (recordAt b (closingAfter b i n))) (creditAfterYears b i n))
-
--- the years from the first activation year to the last open year
-abbrev pub mostYears : ℕ
-mostYears = lastOpenYear - firstActivation
 
 -- the year n years after the activation
 unfoldable pub yearOf : List ℕ → ℕ → ℕ → Year

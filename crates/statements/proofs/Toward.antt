@@ -12,7 +12,7 @@ use mir.Syntax.{w64}
 use mir.Val.{ofZ, toZ}
 use mir.Facts.{ofZ-toZ, fits-ofZ}
 use Rattle.units.specs.Units.{ticks}
-use Rattle.units.specs.Limits.{maxContribution}
+use Rattle.units.specs.Limits.{maxContribution, mostYears}
 use Rattle.accounts.proofs.Balances.{signed-back}
 use Rattle.layout.specs.Fields.{recordAt}
 use Rattle.records.specs.declared.AdvanceRecord.{AdvanceRecord}
@@ -22,7 +22,6 @@ use Rattle.book.specs.Book.{isAdvance, isClosing}
 use Rattle.ledger.specs.Ledger.{Statement}
 use Rattle.chains.specs.Statements.{closingPart, advancePart, balancePart, sumOver, sumOverℤ}
 use Rattle.chains.proofs.Sums.{size-before, size-of-sum}
-use Rattle.chains.proofs.Ranges.{mostYears}
 use Rattle.chains.proofs.Fit.{SumsFit}
 use Rattle.statements.proofs.Joins.{closing-joins, closing-passes, balance-part, advance-joins, advance-passes, advance-keeps-balance}
 use Rattle.statements.specs.declared.Sums.{Sums}

@@ -1,5 +1,5 @@
 -- The limits of document 01 that more than one layer names, each once, with its section and its unit.
-use Prim.Native.Nat.{ℕ}
+use Prim.Native.Nat.{ℕ, _-_}
 
 -- "Year sheet": "kWh are at most 20,000,000; prices and rates 500,000"
 abbrev pub maxKwh : ℕ
@@ -44,6 +44,10 @@ lastActivation = 2099
 
 abbrev pub lastOpenYear : ℕ
 lastOpenYear = 2100
+
+-- the years that can be closed, from the first activation year to the last open year
+abbrev pub mostYears : ℕ
+mostYears = lastOpenYear - firstActivation
 
 -- "Book": "Records of 80 bytes, 2 to 800 of them"
 abbrev pub mostRecords : ℕ

@@ -2,7 +2,7 @@
 use Prim.Native.Nat.{_-_, _≤_}
 use native.Mathlib.Omega.{arith}
 use denote.Ref.{now}
-use Rattle.history.specs.History.{mostYears}
+use Rattle.units.specs.Limits.{mostYears}
 use Rattle.account.proofs.Users.{years-closed}
 use borrow.Author.Needs.{needs}
 use Rattle.account.proofs.show_years.Statement.{statement}
