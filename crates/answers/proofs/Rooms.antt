@@ -4,17 +4,16 @@ use mathlib.Core.Path.{_≡_}
 use mathlib.Core.Bool.{Bool, true, false}
 use mathlib.Core.List.{List}
 use native.Mathlib.Omega.{arith}
-use borrow.Author.Tests.{eqb-false, not-true}
-use lib.Dec.{eqb}
 use lib.ListN.{length}
-use Rattle.layout.specs.Fields.{recordLength, userKind, capacity}
+use Rattle.layout.specs.Fields.{recordLength, userKind}
 use Rattle.accounts.specs.declared.Account.{Account}
 use Rattle.book.specs.Book.{used, usedFits, isUser, accountAt}
-use Rattle.book.proofs.Faults.{used-within, used-whole, used-counted}
+use Rattle.book.proofs.Faults.{used-whole, used-counted}
 use Rattle.book.proofs.RecordKinds.{kind-index}
 use Rattle.book.proofs.Faultless.{sound-faultless}
 use Rattle.soundness.specs.Verdicts.{Accepted}
 use Rattle.calls.specs.Refusals.{refuse, hasRoom}
+use Rattle.bookings.proofs.Good.{room-left}
 use Rattle.answers.specs.Rooms.{EntryFits}
 
 module _ (b : List ℕ) (a : Accepted b) where
@@ -25,11 +24,7 @@ module _ (b : List ℕ) (a : Accepted b) where
   user-stands i u = used-whole b used-fits i (kind-index b userKind i u .1 .0)
 
   pub room-stands : hasRoom b ≡ true → recordLength * used b + recordLength ≤ length b
-  unfolding hasRoom
-  room-stands h =
-      let other = eqb-false (used b) (capacity b) (not-true (eqb (used b) (capacity b)) h) in
-      let least : used b < capacity b = omega (arith, other, used-within b used-fits .1) in
-      omega (arith, least)
+  room-stands h = omega (arith, room-left b used-fits h)
 
   pub used-small : used b + 1 < 2 ^ 32
   used-small = omega (arith, used-counted b used-fits (a .fits))

@@ -9,7 +9,7 @@ use lib.Dec.{eqb}
 use lib.ListN.{length}
 use Rattle.layout.specs.Fields.{recordLength, capacity}
 use Rattle.layout.proofs.ByteRanges.{Bytes}
-use Rattle.book.specs.Book.{lengthFits, used, sound}
+use Rattle.book.specs.Book.{lengthFits, used, usedFits, sound}
 use Rattle.book.proofs.Lengths.{length-least, length-most, length-whole}
 use Rattle.book.proofs.Faults.{used-within}
 use Rattle.book.proofs.Faultless.{Faultless, sound-faultless, faultless-sound}
@@ -41,9 +41,11 @@ pub good-sound : (b : List ℕ) → Good b → sound b ≡ true
 good-sound b g = faultless-sound b (g .faultless)
 
 -- "3 u equals the capacity"
-pub room : (b : List ℕ) → Good b → hasRoom b ≡ true → used b < capacity b
+pub room-left : (b : List ℕ) → usedFits b ≡ true → hasRoom b ≡ true → used b < capacity b
 unfolding hasRoom
-room b g h =
-    let s = sizes b g in
+room-left b u h =
     let other = eqb-false (used b) (capacity b) (not-true (eqb (used b) (capacity b)) h) in
-    omega (arith, s .most)
+    omega (arith, used-within b u .1)
+
+pub room : (b : List ℕ) → Good b → hasRoom b ≡ true → used b < capacity b
+room b g h = room-left b (g .faultless .used-fits) h
