@@ -1,16 +1,11 @@
--- One entry more: which kind it has, and the sums with an advance in them.
-use Prim.Native.Nat.{ℕ, _+_, _≤_, _<_}
+-- One entry more: which kind it has.
+use Prim.Native.Nat.{ℕ}
 use mathlib.Core.Path.{_≡_, sym, _∙_}
 use mathlib.Core.Bool.{true}
 use mathlib.Core.Logic.{⊎-elim}
 use mathlib.Core.List.{List}
-use native.Mathlib.Nat.{add-zero}
 use native.Mathlib.Omega.{arith}
-use borrow.Author.Tests.{lt-ltb, le-ltb}
-use Rattle.units.specs.Units.{ticks}
-use Rattle.units.specs.declared.Ticks.{Ticks}
 use Rattle.layout.specs.Fields.{recordAt, advanceKind, closingKind}
-use Rattle.records.specs.declared.AdvanceRecord.{AdvanceRecord}
 use Rattle.records.specs.Records.{advanceIn, closingIn}
 use Rattle.book.specs.Book.{isAdvance, isClosing, isEntry, kindAt}
 use Rattle.book.proofs.RecordKinds.{has-kind, kind-index, kinds-apart, entry-cases, entry-index}
@@ -33,29 +28,3 @@ closing-entry-added b e s c = rw c
 pub advance-entry-added : (b : List ℕ) (e : ℕ) (s : Sums) → isAdvance b e ≡ true → entryAdded b e s ≡ advanceAdded (advanceIn (recordAt b e)) s
 unfolding entryAdded
 advance-entry-added b e s a = rw (kinds-apart b advanceKind closingKind e (λ p. omega arith) a)
-
--- the advances of closed years, by the test of the year
-module _ (a : AdvanceRecord) (s : Sums) (closed : Ticks) where
-  abbrev counted : Sums
-  counted =
-      record {
-        «open_year» = s .«open_year»;
-        credit = s .credit;
-        value = s .value;
-        cost = s .cost;
-        «flat_rate» = s .«flat_rate»;
-        contribution = s .contribution;
-        liquidation = s .liquidation;
-        lapsed = s .lapsed;
-        balance = s .balance;
-        advances = ticks (s .advances .0 + a .ticks .0);
-        «closed_advances» = closed;
-      }
-
-  pub year-closed : a .year < s .«open_year» → closed ≡ ticks (s .«closed_advances» .0 + a .ticks .0) → counted ≡ advanceAdded a s
-  unfolding advanceAdded
-  year-closed l e = rw (lt-ltb (a .year) (s .«open_year») l, e)
-
-  pub year-open : s .«open_year» ≤ a .year → closed ≡ s .«closed_advances» → counted ≡ advanceAdded a s
-  unfolding advanceAdded
-  year-open l e = rw (le-ltb (a .year) (s .«open_year») l, e, add-zero)

@@ -1,6 +1,8 @@
 -- By the test of the year.
 use mathlib.Core.Logic.{⊎-elim}
-use Rattle.statements.proofs.Steps.{year-closed, year-open}
+use native.Mathlib.Nat.{add-zero}
+use borrow.Author.Tests.{lt-ltb, le-ltb}
+use Rattle.statements.specs.Walk.{advanceAdded}
 use borrow.Author.Needs.{needs}
 use Rattle.statements.proofs.Sums.with_advance.Statement.{statement}
 use Rattle.statements.proofs.Sums.with_advance.Tie as tie
@@ -15,10 +17,11 @@ add-t7 : tie.Need-add-t7
 add-t7 c = search needs
 
 returns : tie.Need-returns
+unfolding advanceAdded
 returns c =
     let a = c .before .before .before .before .before .before .args in
-    ⊎-elim (λ w. year-closed (a .advance) (a .self) (c .if1 .closed) (w .0 .taken) (w .3))
-    (λ w. year-open (a .advance) (a .self) (c .if1 .closed) (w .0 .left) (w .1)) (c .if1 .came)
+    ⊎-elim (λ w. rw (lt-ltb (a .advance .year) (a .self .«open_year») (w .0 .taken), w .3))
+    (λ w. rw (le-ltb (a .advance .year) (a .self .«open_year») (w .0 .left), w .1, add-zero)) (c .if1 .came)
 
 pub with-advance-spec : {M : Type 1} → statement M
 with-advance-spec = tie.close (tie.spec add-if1 cast-if1 add-t7 returns)
