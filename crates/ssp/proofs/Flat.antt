@@ -17,50 +17,8 @@ use Rattle.ssp.specs.declared.Sums.{Sums}
 use Rattle.ssp.specs.Flat.{flatClosed, flatSums}
 
 -- a signed number stands in its field as its bits, and is read back from them
-read-back : {n : ℕ} {z : ℤ} → Fits w64 n → z ≡ toZ w64 n → toZ w64 (ofZ w64 z) ≡ toZ w64 n
+pub read-back : {n : ℕ} {z : ℤ} → Fits w64 n → z ≡ toZ w64 n → toZ w64 (ofZ w64 z) ≡ toZ w64 n
 read-back {n} fits e = ap (λ x. toZ w64 (ofZ w64 x)) e ∙ ap (toZ w64) (ofZ-toZ fits)
-
--- the flat answer, field by field
-module _ (refusal named : ℕ) where
-  abbrev closed-of : ClosingSums → ℤ → Closed
-  closed-of s z =
-      record {
-        refusal = refusal;
-        «record» = named;
-        value = s .value .0;
-        cost = s .cost .0;
-        «flat_rate» = s .«flat_rate» .0;
-        contribution = s .contribution .0;
-        liquidation = s .liquidation .0;
-        lapsed = s .lapsed .0;
-        balance = z;
-      }
-
-  abbrev sums-of : statements.Sums → ℤ → Sums
-  sums-of s z =
-      record {
-        refusal = refusal;
-        «record» = named;
-        «open_year» = s .«open_year»;
-        credit = s .credit .0;
-        value = s .value .0;
-        cost = s .cost .0;
-        «flat_rate» = s .«flat_rate» .0;
-        contribution = s .contribution .0;
-        liquidation = s .liquidation .0;
-        lapsed = s .lapsed .0;
-        balance = z;
-        advances = s .advances .0;
-        «closed_advances» = s .«closed_advances» .0;
-      }
-
-  pub closed-fields : (s : ClosingSums) (z : ℤ) → Fits w64 (s .balance .0) → z ≡ toZ w64 (s .balance .0) → closed-of s (toZ w64 (ofZ w64 z)) ≡ flatClosed refusal named s
-  unfolding flatClosed
-  closed-fields s z fits e = ap (closed-of s) (read-back fits e)
-
-  pub sums-fields : (s : statements.Sums) (z : ℤ) → Fits w64 (s .balance .0) → z ≡ toZ w64 (s .balance .0) → sums-of s (toZ w64 (ofZ w64 z)) ≡ flatSums refusal named s
-  unfolding flatSums
-  sums-fields s z fits e = ap (sums-of s) (read-back fits e)
 
 module _ (b : List ℕ) (refusal named : ℕ) where
   pub closed-flat : (sheet after : List ℕ) (s : ClosingSums) (r : Closed) → r ≡ flatClosed refusal named s

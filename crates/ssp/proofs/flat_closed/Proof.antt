@@ -1,6 +1,9 @@
 -- Each field but the balance is copied; the balance is read as a signed number.
 use borrow.Author.Needs.{needs}
-use Rattle.ssp.proofs.Flat.{closed-fields}
+use mir.Syntax.{w64}
+use mir.Val.{Fits}
+use Rattle.ssp.specs.Flat.{flatClosed}
+use Rattle.ssp.proofs.Flat.{read-back}
 use Rattle.ssp.proofs.flat_closed.Statement.{statement}
 use Rattle.ssp.proofs.flat_closed.Tie as tie
 
@@ -8,7 +11,10 @@ signed-requires : tie.Need-signed-requires
 signed-requires c κs = search needs
 
 returns : tie.Need-returns
-returns c = closed-fields _ _ (c .before .before .args .closed .sums) (c .signed .result) (search needs) (c .signed .ensures)
+unfolding flatClosed
+returns c =
+    let fits : Fits w64 (c .before .before .args .closed .sums .balance .0) = search needs in
+    rw (read-back fits (c .signed .ensures))
 
 pub flat-closed-spec : {M : Type 1} → statement M
 flat-closed-spec = tie.close (tie.spec signed-requires returns)
