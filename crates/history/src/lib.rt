@@ -57,7 +57,7 @@ pub fn closing_of(book: &[u8], user: RecordIndex, year: u16) -> RecordIndex
 fn advance_part(book: &[u8], entry: RecordIndex, year: u16) -> Ticks
     ensures { λ r. ⌜ r .0 ≡ advancePart (λ y. eqb y year) (now (book .entry)) (entry .0) ⌝ }
 {
-    let advance = records::read_advance(layout::record(book, entry));
+    let advance = records::advance_of(layout::record(book, entry));
     if view::is_advance(book, entry) & (advance.year == year) {
         advance.ticks
     } else {
@@ -99,7 +99,7 @@ fn credit_over(book: &[u8], entry: RecordIndex, credit: Ticks) -> Ticks
     requires { ⌜ (isClosing (now book) (entry .0) ≡ true) × (credit .0 ≤ maxYearTicks * mostYears) ⌝ }
     ensures { λ r. ⌜ (r .0 ≡ creditOver (closingIn (recordAt (now (book .entry)) (entry .0))) (credit .0)) × (r .0 ≤ credit .0 + maxYearTicks) ⌝ }
 {
-    let closing = records::read_closing(layout::record(book, entry));
+    let closing = records::closing_of(layout::record(book, entry));
     let outcome = accounts::outcome_of(closing.option, credit, closing.value, closing.cost);
     accounts::credit_after(outcome)
 }
@@ -141,7 +141,7 @@ pub fn year_of(book: &[u8], user: RecordIndex, n: u16) -> Year
     ensures { λ r. ⌜ r ≡ yearOf (now (book .entry)) (user .0) n ⌝ }
 {
     let year = view::activation_of(book, user) + n;
-    let closing = records::read_closing(layout::record(book, closing_after(book, user, n)));
+    let closing = records::closing_of(layout::record(book, closing_after(book, user, n)));
     let advances = advances_of(book, user, year);
     let credit = credit_after_years(book, user, n + 1);
     let value = closing.value;

@@ -1,6 +1,6 @@
 -- The search from the last record down: what is left behind does not bear the number.
-use Prim.Native.Nat.{ℕ, zero, suc, _+_, _-_, _≤_, _<_}
-use mathlib.Core.Path.{_≡_, refl, sym, ap, subst, _∙_}
+use Prim.Native.Nat.{ℕ, suc, _+_, _-_, _≤_, _<_}
+use mathlib.Core.Path.{_≡_, sym, ap, _∙_}
 use mathlib.Core.Bool.{Bool, true, false, cond, _&&_}
 use mathlib.Core.List.{List}
 use native.Mathlib.Omega.{arith}
@@ -12,6 +12,7 @@ use Rattle.units.specs.Units.{recordIndex, userNumber}
 use Rattle.layout.specs.Fields.{recordAt, get, kindField, numberField, userKind}
 use Rattle.book.specs.Book.{used, kindAt, hasKind, isUser, numberOf}
 use Rattle.calls.specs.Bookings.{findBelow, findUser}
+use Rattle.calls.proofs.Search.{found-none}
 
 -- a record in use, by its kind and number
 pub bears : (b : List ℕ) (i n : ℕ) → 0 < i → i < used b → (r : List ℕ) → r ≡ recordAt b i → (k : ℕ) → k ≡ get kindField r → (m : UserNumber)
@@ -42,16 +43,5 @@ module _ (b : List ℕ) (n left : ℕ) (s : Searched b n left) (more : 1 < left)
   pub search-on : t ≡ false → Searched b n (left - 1)
   search-on h = record { below = omega (arith, s .below); same = s .same ∙ by-test ∙ rw h }
 
--- the head is no user
-none-below : (b : List ℕ) (n left : ℕ) → left ≤ 1 → findBelow b n left ≡ 0
-unfolding findBelow
-none-below b n zero l = refl
-none-below b n (suc zero) l = by-value (isUser b 0 && eqb (numberOf b 0) n)
-  where
-    by-value : (t : Bool) → _≡_ {A = ℕ} (cond t 0 0) 0
-    by-value true = refl
-    by-value false = refl
-none-below b n (suc (suc k)) l = let z : ⊥ = omega arith in absurd z
-
 pub found-nowhere : (b : List ℕ) (n left : ℕ) → Searched b n left → left ≤ 1 → recordIndex 0 ≡ recordIndex (findUser b n)
-found-nowhere b n left s l = ap recordIndex (sym (s .same ∙ none-below b n left l))
+found-nowhere b n left s l = ap recordIndex (sym (s .same ∙ found-none b n left l))

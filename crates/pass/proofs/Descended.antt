@@ -2,11 +2,12 @@
 use Prim.Native.Nat.{ℕ, zero, suc, _+_, _-_, _*_, _%_, _≤_, _<_}
 use mathlib.Core.Path.{_≡_, refl, sym, ap, _∙_, subst}
 use mathlib.Core.Logic.{_⊎_, inl, inr}
-use mathlib.Core.Bool.{true, not, _&&_}
+use mathlib.Core.Bool.{Bool, true, false, cond, not, _&&_}
 use mathlib.Core.List.{List}
 use native.Mathlib.Decide.{ℕ-discrete}
+use native.Mathlib.Numerals.{add-one}
 use native.Mathlib.Omega.{arith}
-use borrow.Author.Tests.{ne-eqb, eqb-false, leb-true, not-true}
+use borrow.Author.Tests.{ne-eqb, eqb-true, eqb-false, leb-true, not-true}
 use lib.Dec.{eqb, leb}
 use lib.ListN.{length, getD, set, replicate}
 use lib.Seq.{getD-set-same, getD-set-other}
@@ -21,11 +22,46 @@ use Rattle.pointers.specs.Pointers.{mostRecords}
 use Rattle.descent.specs.Descent.{met, dueUser, dueEntry, dueYear, MetUser, MetEntry}
 use Rattle.descent.proofs.Steps.{met-at, not-both, user-moves, user-keeps-entry, user-keeps-year, entry-keeps-user, entry-moves, entry-moves-year, entry-keeps-other, entry-keeps-year}
 use Rattle.descent.proofs.Sound.{passed-sound}
+use Rattle.calls.specs.Bookings.{findBelow, findUser}
+use Rattle.calls.proofs.Search.{found-none}
 use Rattle.numbers.specs.Held.{Held, Inserted}
-use Rattle.pass.specs.Steps.{entryDue, yearDue, UserFits, AdvanceFits, ClosingFits, EntryFits, StateAfter}
+use Rattle.pass.specs.Steps.{entryDue, yearDue, UserFits, AdvanceFits, ClosingFits, EntryFits, StateAfter, firstMet}
+
+-- the user with a number is found among the records from `left` on, or is still to be looked for below
+pub record Sought (b : List ℕ) (n left found : ℕ) : Type 0 where
+  pub small : found ≤ mostRecords
+  pub same : cond (eqb found 0) (findBelow b n left) found ≡ findUser b n
+
+pub sought-first : (b : List ℕ) (n : ℕ) {left : ℕ} → left ≡ used b → Sought b n left 0
+unfolding findUser
+sought-first b n l = record { small = omega arith; same = ap (findBelow b n) l }
+
+module _ (b : List ℕ) (n : ℕ) {left found : ℕ} (s : Sought b n left found) (index : ℕ) (l : left ≡ index + 1) (most : left ≤ mostRecords) where
+  below : findBelow b n left ≡ cond (isUser b index && eqb (numberOf b index) n) index (findBelow b n index)
+  unfolding findBelow
+  below = ap (findBelow b n) (l ∙ add-one index)
+
+  sought-past : isUser b index ≡ false → Sought b n index found
+  sought-past other =
+      record { small = s .small; same = ap (λ (k : ℕ). cond (eqb found 0) k found) (sym (below ∙ rw other)) ∙ s .same }
+
+  module _ (user : isUser b index ≡ true) (some : 1 ≤ index) {number : ℕ} (is : number ≡ numberOf b index) where
+    by-number : {t : Bool} → eqb number n ≡ t → findBelow b n left ≡ cond t index (findBelow b n index)
+    by-number e = below ∙ rw (user, ← is, e)
+
+    met-with : (t f : Bool) → eqb number n ≡ t → eqb found 0 ≡ f → Sought b n index (cond (t && f) index found)
+    met-with true true e z =
+        record { small = omega (arith, l, most); same = rw (ne-eqb index 0 (λ (q : index ≡ 0). omega (arith, q, some))) (sym (by-number e) ∙ (rw z at (s .same))) }
+    met-with true false e z = record { small = s .small; same = rw z (rw z at (s .same)) }
+    met-with false true e z = record { small = s .small; same = rw z (sym (by-number e) ∙ (rw z at (s .same))) }
+    met-with false false e z = record { small = s .small; same = rw z (rw z at (s .same)) }
+
+    sought-at : Sought b n index (firstMet found index number n)
+    unfolding firstMet
+    sought-at = met-with (eqb number n) (eqb found 0) refl refl
 
 -- the records from `left` on are met
-pub record Descended (b : List ℕ) (left expected : ℕ) (states seen : List ℕ) : Type 0 where
+pub record Descended (b : List ℕ) (n left expected found : ℕ) (states seen : List ℕ) : Type 0 where
   pub gone : ℕ
   pub place : left + gone ≡ used b
   pub some : 1 ≤ left
@@ -34,6 +70,7 @@ pub record Descended (b : List ℕ) (left expected : ℕ) (states seen : List �
   pub year : (o : ℕ) → yearDue (recordAt b o) (getD states o 0) ≡ dueYear b o gone
   pub each : (d : ℕ) → d < gone → MetUser b d ⊎ MetEntry b d
   pub held : (d : ℕ) → d < gone → isUser b (met b d) ≡ true → Held seen (numberOf b (met b d))
+  pub sought : Sought b n left found
 
 -- no state is known at first
 none-known : (n o : ℕ) → _≡_ {A = ℕ} (getD (replicate n 0) o 0) 0
@@ -41,10 +78,10 @@ none-known zero o = refl
 none-known (suc n) zero = refl
 none-known (suc n) (suc o) = none-known n o
 
-pub started : (b : List ℕ) (n : ℕ) (seen : List ℕ) {left expected : ℕ} → left ≡ used b → 1 ≤ used b → expected ≡ firstUser b
-    → Descended b left expected (replicate n 0) seen
+pub started : (b : List ℕ) (wanted n : ℕ) (seen : List ℕ) {left expected : ℕ} → left ≡ used b → 1 ≤ used b → expected ≡ firstUser b
+    → Descended b wanted left expected 0 (replicate n 0) seen
 unfolding dueUser dueEntry dueYear entryDue yearDue firstEntryOf openYearOf
-started b n seen l lo e =
+started b wanted n seen l lo e =
     record {
       gone = 0;
       place = omega arith;
@@ -54,11 +91,12 @@ started b n seen l lo e =
       year = λ o. rw (none-known n o);
       each = λ d h. let z : ⊥ = omega arith in absurd z;
       held = λ d h. let z : ⊥ = omega arith in absurd z;
+      sought = sought-first b wanted l;
     }
 
 -- the record at `index` is met
-module _ (b : List ℕ) {left expected : ℕ} {states seen : List ℕ} (s : Descended b left expected states seen) (index : ℕ) (l : left ≡ index + 1)
-    (lo : 1 ≤ index) (r : List ℕ) (bytes : r ≡ recordAt b index) where
+module _ (b : List ℕ) {wanted left expected found : ℕ} {states seen : List ℕ} (s : Descended b wanted left expected found states seen) (index : ℕ)
+    (l : left ≡ index + 1) (most : left ≤ mostRecords) (lo : 1 ≤ index) (r : List ℕ) (bytes : r ≡ recordAt b index) where
   after : index + suc (s .gone) ≡ used b
   after = let p = s .place in omega arith
 
@@ -114,7 +152,7 @@ module _ (b : List ℕ) {left expected : ℕ} {states seen : List ℕ} (s : Desc
           unlike = λ e h u same. ins .fresh (subst (Held seen) (same ∙ ap (numberOf b) here ∙ sym number-here) (s .held e h u));
         }
 
-    pub user-met : {next : ℕ} → next ≡ get nextField r → Descended b index next states seen'
+    pub user-met : {next : ℕ} → next ≡ get nextField r → Descended b wanted index next (firstMet found index number wanted) states seen'
     unfolding nextOf
     user-met e =
         record {
@@ -129,6 +167,7 @@ module _ (b : List ℕ) {left expected : ℕ} {states seen : List ℕ} (s : Desc
               below-suc (λ d. isUser b (met b d) ≡ true → Held seen' (numberOf b (met b d))) (s .gone)
               (λ d h u. ins .kept (numberOf b (met b d)) (s .held d h u))
               (λ u. subst (Held seen') (number-here ∙ ap (numberOf b) (sym here)) (ins .held));
+          sought = sought-at b wanted (s .sought) index l most user-here lo number-here;
         }
 
   -- an entry
@@ -242,7 +281,14 @@ module _ (b : List ℕ) {left expected : ℕ} {states seen : List ℕ} (s : Desc
         by-owner (no other) =
             rw (getD-set-other states home o state' 0 other) (s .year o ∙ sym (entry-keeps-year b (s .gone) met-entry o (λ e. other (sym e ∙ owner-met))))
 
-    pub entry-met : Descended b index expected (set states home state') seen
+    no-user : isUser b index ≡ false
+    no-user = by-value (isUser b index) refl
+      where
+        by-value : (t : Bool) → isUser b index ≡ t → isUser b index ≡ false
+        by-value true u = absurd (not-both b index u (entered .entry))
+        by-value false u = u
+
+    pub entry-met : Descended b wanted index expected found (set states home state') seen
     entry-met =
         record {
           gone = suc (s .gone);
@@ -255,6 +301,7 @@ module _ (b : List ℕ) {left expected : ℕ} {states seen : List ℕ} (s : Desc
           held =
               below-suc (λ d. isUser b (met b d) ≡ true → Held seen (numberOf b (met b d))) (s .gone) (s .held)
               (λ u. absurd (not-both b (met b (s .gone)) u (met-entry .entry)));
+          sought = sought-past b wanted (s .sought) index l most no-user;
         }
 
 -- a user that fits has a number
@@ -282,10 +329,18 @@ roomy b fits u =
     record { whole = omega arith; counted = omega arith }
 
 -- all records but the head are met
-pub descended : (b : List ℕ) {left expected : ℕ} {states seen : List ℕ} → Descended b left expected states seen → left ≤ 1 → expected ≡ 0
-    → usedFits b ≡ true → zeros 8 72 (recordAt b 0) ≡ true → sound b ≡ true
-descended b {left} s l e fits rest =
-    let p = s .place in
-    let q = s .some in
-    let all : used b - 1 ≡ s .gone = omega arith in
-    passed-sound b record { used-fits = fits; rest = rest; each = λ d h. s .each d (omega arith); end = rw all (sym (s .user) ∙ e) }
+module _ (b : List ℕ) {wanted left expected found : ℕ} {states seen : List ℕ} (s : Descended b wanted left expected found states seen) (l : left ≤ 1) where
+  pub descended : expected ≡ 0 → usedFits b ≡ true → zeros 8 72 (recordAt b 0) ≡ true → sound b ≡ true
+  descended e fits rest =
+      let p = s .place in
+      let q = s .some in
+      let all : used b - 1 ≡ s .gone = omega arith in
+      passed-sound b record { used-fits = fits; rest = rest; each = λ d h. s .each d (omega arith); end = rw all (sym (s .user) ∙ e) }
+
+  -- the head is no user
+  pub searched : found ≡ findUser b wanted
+  searched = by-value (eqb found 0) refl
+    where
+      by-value : (t : Bool) → eqb found 0 ≡ t → found ≡ findUser b wanted
+      by-value true z = eqb-true found 0 z ∙ sym (found-none b wanted left l) ∙ (rw z at (s .sought .same))
+      by-value false z = rw z at (s .sought .same)

@@ -7,7 +7,10 @@ use mathlib.Core.List.{List}
 use lib.Dec.{eqb}
 use Rattle.layout.specs.Fields.{get, zeros, kindField, nextField, firstEntryField, activationYearField, openYearField, yearField, userKind, advanceKind, closingKind}
 use Rattle.records.specs.Records.{accountIn, advanceIn, closingIn}
-use Rattle.book.specs.Book.{accountFits, advanceFits, closingFits}
+use Rattle.units.specs.Units.{recordIndex}
+use Rattle.book.specs.Book.{accountFits, advanceFits, closingFits, sound}
+use Rattle.calls.specs.Bookings.{findUser}
+use Rattle.pass.specs.declared.Passed.{Passed}
 
 -- The state of a user is 0 until an entry of it is met; then it is the next of that entry times 65,536, which no year reaches,
 -- and its year. With the user's record it tells the entry and the year that are due.
@@ -50,3 +53,12 @@ pub record EntryFits (r owner : List ℕ) (index state : ℕ) : Type 0 where
 pub record StateAfter (r : List ℕ) (state : ℕ) : Type 0 where
   pub next : state / years ≡ get nextField r
   pub year : state % years ≡ get yearField r
+
+-- the record of the user that is looked for, once the record at `index` is met
+unfoldable pub firstMet : ℕ → ℕ → ℕ → ℕ → ℕ
+firstMet found index number wanted = cond (eqb number wanted && eqb found 0) index found
+
+-- where the pass is unsure it says nothing of the book
+abbrev pub PassedOver : List ℕ → ℕ → Passed → Type 0
+PassedOver b n Passed.Unsure = Unit {0}
+PassedOver b n (Passed.Sound i) = (sound b ≡ true) × (i ≡ recordIndex (findUser b n))

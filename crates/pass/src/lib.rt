@@ -5,8 +5,8 @@ ghost use mathlib.Core.Bool.{true};
 ghost use Prim.Native.Nat.{_<_};
 ghost use lib.ListN.{length};
 ghost use Rattle.layout.specs.Fields.{recordLength, get, nextField};
-ghost use Rattle.book.specs.Book.{lengthFits, sound};
-ghost use Rattle.pass.specs.Steps.{years, entryDue, yearDue, UserFits, EntryFits, StateAfter};
+ghost use Rattle.book.specs.Book.{lengthFits};
+ghost use Rattle.pass.specs.Steps.{years, entryDue, yearDue, UserFits, EntryFits, StateAfter, firstMet, PassedOver};
 use layout::kind::ADVANCE;
 use layout::kind::CLOSING;
 use layout::kind::USER;
@@ -14,6 +14,13 @@ use layout::whole_record;
 use numbers::PLACES;
 use pointers::MOST_RECORDS;
 use units::RecordIndex;
+use units::UserNumber;
+
+// What the pass says of a book: nothing, or that it is sound, with the user that was looked for, 0 for none.
+pub enum Passed {
+    Unsure,
+    Sound(RecordIndex),
+}
 
 // No year reaches this.
 const YEARS: u32 = 65_536;
@@ -80,17 +87,29 @@ fn entry_fits(r: &[u8], owner: &[u8], index: usize, state: u32) -> bool
     }
 }
 
-// Of each user the pass keeps its state, and of all the numbers that it has seen.
-pub fn accepts(book: &[u8]) -> bool
+// The record of the user that is looked for: the first that is met with the number, as long as none was.
+fn first_met(found: usize, index: usize, number: u32, wanted: u32) -> usize
+    ensures { λ r. ⌜ r ≡ firstMet found index number wanted ⌝ }
+{
+    if (number == wanted) & (found == 0) {
+        index
+    } else {
+        found
+    }
+}
+
+// Of each user the pass keeps its state, and of all the numbers that it has seen. On the way it finds the user with a number.
+pub fn find(book: &[u8], wanted: UserNumber) -> Passed
     requires { ⌜ lengthFits (now book) ≡ true ⌝ }
-    ensures { λ r. ⌜ (r ≡ true → sound (now (book .entry)) ≡ true) ⌝ }
+    ensures { λ r. ⌜ PassedOver (now (book .entry)) (wanted .0) r ⌝ }
 {
     let head = layout::record(book, RecordIndex(0));
     if !(view::used_fits(book) & layout::zeros(head, 8, 72)) {
-        return false;
+        return Passed::Unsure;
     }
     let mut states = [0u32; MOST_RECORDS];
     let mut seen = [0u32; PLACES];
+    let mut found = 0;
     let mut expected = view::first_user(book).0;
     let mut left = view::used(book) as usize;
     while 1 < left {
@@ -98,24 +117,30 @@ pub fn accepts(book: &[u8]) -> bool
         let r = whole_record(book, index);
         if layout::kind_of(r) == USER {
             if !user_fits(r, index, expected, states[index]) {
-                return false;
+                return Passed::Unsure;
             }
-            if !numbers::insert(&mut seen, layout::number_of(r).0) {
-                return false;
+            let number = layout::number_of(r);
+            if !numbers::insert(&mut seen, number.0) {
+                return Passed::Unsure;
             }
+            found = first_met(found, index, number.0, wanted.0);
             expected = layout::next_of(r).0;
         } else {
             let home = layout::owner_of(r).0 as usize;
             if (home == 0) | (index <= home) {
-                return false;
+                return Passed::Unsure;
             }
             let owner = whole_record(book, home);
             if !entry_fits(r, owner, index, states[home]) {
-                return false;
+                return Passed::Unsure;
             }
             states[home] = state_after(r);
         }
         left = index;
     }
-    expected == 0
+    if expected == 0 {
+        Passed::Sound(RecordIndex(found as u32))
+    } else {
+        Passed::Unsure
+    }
 }

@@ -47,6 +47,8 @@ pub struct ClosingRecord {
     pub owner: RecordIndex,
 }
 
+// RECORDS OF ANY BYTES
+
 fn read_details(r: &[u8]) -> Details
     ensures { λ d. ⌜ d ≡ accountIn (now (r .entry)) .details ⌝ }
 {
@@ -60,7 +62,7 @@ fn read_details(r: &[u8]) -> Details
     }
 }
 
-fn account_of(r: &[u8]) -> Account
+pub fn account_of(r: &[u8]) -> Account
     ensures { λ a. ⌜ a ≡ accountIn (now (r .entry)) ⌝ }
 {
     Account {
@@ -76,7 +78,7 @@ fn account_of(r: &[u8]) -> Account
     }
 }
 
-fn advance_of(r: &[u8]) -> AdvanceRecord
+pub fn advance_of(r: &[u8]) -> AdvanceRecord
     ensures { λ a. ⌜ a ≡ advanceIn (now (r .entry)) ⌝ }
 {
     AdvanceRecord {
@@ -88,7 +90,7 @@ fn advance_of(r: &[u8]) -> AdvanceRecord
     }
 }
 
-fn closing_of(r: &[u8]) -> ClosingRecord
+pub fn closing_of(r: &[u8]) -> ClosingRecord
     ensures { λ c. ⌜ c ≡ closingIn (now (r .entry)) ⌝ }
 {
     ClosingRecord {

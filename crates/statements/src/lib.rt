@@ -1,11 +1,13 @@
 // A user's statement: a walk over its chain that sums the entries (document 01, "Election and advances").
 ghost use mathlib.Core.Path.{_≡_};
 ghost use mathlib.Core.Bool.{true};
-ghost use Prim.Native.Nat.{_<_, _^_};
+ghost use Prim.Native.Nat.{_+_, _*_, _≤_, _<_, _^_};
+ghost use lib.ListN.{length};
 ghost use lib.IntN.{_+ℤ_};
 ghost use lib.Signed.{mag};
 ghost use mir.Syntax.{w64};
 ghost use mir.Val.{toZ};
+ghost use Rattle.layout.specs.Fields.{recordLength};
 ghost use Rattle.accounts.specs.Account.{balanceBits};
 ghost use Rattle.book.specs.Book.{lengthFits, sound, isUser, isEntry, kindAt};
 ghost use Rattle.chains.specs.Statements.{statementAt};
@@ -84,6 +86,7 @@ fn with_entry(book: &[u8], at: RecordIndex, kind: u8, sums: Sums) -> Sums
     requires { ⌜ isEntry (now book) (at .0) ≡ true ⌝ }
     requires { ⌜ kind ≡ kindAt (now book) (at .0) ⌝ }
     requires { ⌜ EntryRoom (now book) (at .0) sums ⌝ }
+    requires { ⌜ recordLength * at .0 + recordLength ≤ length (now book) ⌝ }
     ensures { λ r. ⌜ r ≡ entryAdded (now (book .entry)) (at .0) sums ⌝ }
 {
     let r = layout::record(book, at);

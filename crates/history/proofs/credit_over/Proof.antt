@@ -9,14 +9,14 @@ use Rattle.history.proofs.credit_over.Tie as tie
 record-requires : tie.Need-record-requires
 record-requires c κs = search needs
 
-read-closing-requires : tie.Need-read-closing-requires
-read-closing-requires c κs = search needs
+closing-of-requires : tie.Need-closing-of-requires
+closing-of-requires c κs = search needs
 
 outcome-of-requires : tie.Need-outcome-of-requires
 outcome-of-requires c κs =
     let s = c .before .before .before in
     let a = s .args in
-    credit-room (now (a .book)) (s .pre .0) (s .pre .1 .0) (a .entry .0) (a .credit .0) (s .pre .1 .1 .0) (c .read-closing .result) (now (c .before .«record» .result)) (c .before .«record» .ensures) (c .read-closing .ensures) (s .pre .1 .1 .1)
+    credit-room (now (a .book)) (s .pre .0) (s .pre .1 .0) (a .entry .0) (a .credit .0) (s .pre .1 .1 .0) (c .closing-of .result) (now (c .before .«record» .result)) (c .before .«record» .ensures) (c .closing-of .ensures) (s .pre .1 .1 .1)
 
 credit-after-requires : tie.Need-credit-after-requires
 credit-after-requires c κs = search needs
@@ -25,14 +25,14 @@ returns : tie.Need-returns
 returns c =
     let s = c .before .before .before .before .before in
     let a = s .args in
-    credited (now (a .book)) (s .pre .0) (s .pre .1 .0) (a .entry .0) (a .credit .0) (s .pre .1 .1 .0) (c .before .before .read-closing .result) (now (c .before .before .before .«record» .result)) (c .before .before .before .«record» .ensures) (c .before .before .read-closing .ensures) (c .before .outcome-of .result) (c .before .outcome-of .ensures) (c .credit-after .result .0) (c .credit-after .ensures)
+    credited (now (a .book)) (s .pre .0) (s .pre .1 .0) (a .entry .0) (a .credit .0) (s .pre .1 .1 .0) (c .before .before .closing-of .result) (now (c .before .before .before .«record» .result)) (c .before .before .before .«record» .ensures) (c .before .before .closing-of .ensures) (c .before .outcome-of .result) (c .before .outcome-of .ensures) (c .credit-after .result .0) (c .credit-after .ensures)
 
 pub credit-over-spec : {M : Type 1} → statement M
 credit-over-spec =
     tie.close
     (tie.spec
     record-requires
-    read-closing-requires
+    closing-of-requires
     outcome-of-requires
     credit-after-requires
     returns)

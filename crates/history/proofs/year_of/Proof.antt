@@ -26,8 +26,8 @@ closing-after-requires c κs =
 record-requires : tie.Need-record-requires
 record-requires c κs = search needs
 
-read-closing-requires : tie.Need-read-closing-requires
-read-closing-requires c κs = search needs
+closing-of-requires : tie.Need-closing-of-requires
+closing-of-requires c κs = search needs
 
 advances-of-requires : tie.Need-advances-of-requires
 advances-of-requires c κs =
@@ -48,7 +48,7 @@ returns c =
     let b = now (a .book) in
     let entry = c .before .before .before .before .before .before .before .before .before .before .before .closing-after in
     let bytes = c .before .before .before .before .before .before .before .before .before .before .«record» in
-    let closing = c .before .before .before .before .before .before .before .before .before .read-closing in
+    let closing = c .before .before .before .before .before .before .before .before .before .closing-of in
     let year = ap (λ y. y + a .n) (c .before .before .before .before .before .before .before .before .before .before .before .before .activation-of .ensures) in
     year-is b (a .user .0) (a .n) (c .before .before .before .before .before .before .before .before .before .before .before .before .activation-of .result + a .n) year (entry .result) (entry .ensures) (now (bytes .result)) (bytes .ensures) (closing .result) (closing .ensures) (c .before .before .before .before .before .before .before .before .advances-of .result) (c .before .before .before .before .before .before .before .credit-after-years .result) (c .before .before .before .before .before .before .before .before .advances-of .ensures) (c .before .before .before .before .before .before .before .credit-after-years .ensures)
 
@@ -60,7 +60,7 @@ year-of-spec =
     add-year
     closing-after-requires
     record-requires
-    read-closing-requires
+    closing-of-requires
     advances-of-requires
     add-credit-after-years
     credit-after-years-requires

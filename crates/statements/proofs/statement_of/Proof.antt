@@ -3,12 +3,14 @@ use Prim.Native.Nat.{ℕ, _<_}
 use mathlib.Core.Path.{_≡_, ap, sym, subst, subst₂, _∙_}
 use mathlib.Core.List.{List}
 use denote.Ref.{now}
+use lib.ListN.{length}
+use Rattle.layout.proofs.Places.{length-record}
 use Rattle.layout.specs.Fields.{get, firstEntryField}
 use Rattle.records.specs.Records.{accountIn}
 use Rattle.book.specs.Book.{accountAt, firstEntryOf}
 use Rattle.chain_reader.specs.Link.{linkAt}
 use Rattle.statements.specs.Walk.{sumsBefore}
-use Rattle.chains.proofs.Walks.{entry-here, next-falls}
+use Rattle.chains.proofs.Walks.{user-whole, entry-here, entry-whole, next-falls}
 use Rattle.statements.proofs.Walk.{Walking, starts, entry-room, turned, ends}
 use borrow.Author.Needs.{needs}
 use Rattle.statements.proofs.statement_of.Statement.{statement}
@@ -24,7 +26,11 @@ record-requires : tie.Need-record-requires Inv-loop μ-loop
 record-requires c κs = search needs
 
 read-account-requires : tie.Need-read-account-requires Inv-loop μ-loop
-read-account-requires c κs = search needs
+read-account-requires c κs =
+    let s = c .before .before in
+    let b = now (s .args .book) in
+    let i = s .args .user .0 in
+    ap length (c .record .ensures) ∙ length-record b i (user-whole b i (s .pre .0) (s .pre .1 .0) (s .pre .1 .1))
 
 sums-before-requires : tie.Need-sums-before-requires Inv-loop μ-loop
 sums-before-requires c κs = search needs
@@ -72,7 +78,7 @@ with-entry-requires c κs =
       entry-here b (l .at .0) (l .inv .ahead) (c .before .if1 .taken),
       (
         ap (λ k. k .kind) (c .follow .ensures),
-        entry-room b s f (l .sums) (l .at .0) (l .inv) (c .before .if1 .taken),
+        (entry-room b s f (l .sums) (l .at .0) (l .inv) (c .before .if1 .taken), entry-whole b (l .at .0) (l .inv .ahead) (c .before .if1 .taken)),
       ),
     )
 

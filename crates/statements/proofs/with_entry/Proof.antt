@@ -1,6 +1,8 @@
 -- The kind says how the entry is read and where it is added.
 use mathlib.Core.Path.{ap, sym, subst, _∙_}
 use denote.Ref.{now}
+use lib.ListN.{length}
+use Rattle.layout.proofs.Places.{length-record}
 use Rattle.records.specs.Records.{advanceIn, closingIn}
 use Rattle.statements.specs.Walk.{closingAdded, advanceAdded, ClosingRoom, AdvanceRoom}
 use Rattle.statements.proofs.Steps.{closing-shown, advance-shown, closing-entry-added, advance-entry-added}
@@ -12,7 +14,9 @@ record-requires : tie.Need-record-requires
 record-requires c κs = search needs
 
 read-closing-requires : tie.Need-read-closing-requires
-read-closing-requires c κs = search needs
+read-closing-requires c κs =
+    let s = c .before .before .before in
+    ap length (c .before .record .ensures) ∙ length-record (now (s .args .book)) (s .args .at .0) (s .pre .1 .1 .1)
 
 with-closing-requires : tie.Need-with-closing-requires
 with-closing-requires c κs =
@@ -20,10 +24,12 @@ with-closing-requires c κs =
     let a = s .args in
     let read = c .read-closing .ensures ∙ ap closingIn (c .before .before .record .ensures) in
     subst (λ x. ClosingRoom x (a .sums)) (sym read)
-    (s .pre .1 .1 .closing (closing-shown (now (a .book)) (a .at .0) (a .kind) (s .pre .0) (s .pre .1 .0) (c .before .if1 .taken)))
+    (s .pre .1 .1 .0 .closing (closing-shown (now (a .book)) (a .at .0) (a .kind) (s .pre .0) (s .pre .1 .0) (c .before .if1 .taken)))
 
 read-advance-requires : tie.Need-read-advance-requires
-read-advance-requires c κs = search needs
+read-advance-requires c κs =
+    let s = c .before .before .before in
+    ap length (c .before .record .ensures) ∙ length-record (now (s .args .book)) (s .args .at .0) (s .pre .1 .1 .1)
 
 with-advance-requires : tie.Need-with-advance-requires
 with-advance-requires c κs =
@@ -31,7 +37,7 @@ with-advance-requires c κs =
     let a = s .args in
     let read = c .read-advance .ensures ∙ ap advanceIn (c .before .before .record .ensures) in
     subst (λ x. AdvanceRoom x (a .sums)) (sym read)
-    (s .pre .1 .1 .advance (advance-shown (now (a .book)) (a .at .0) (a .kind) (s .pre .0) (s .pre .1 .0) (c .before .if1 .left)))
+    (s .pre .1 .1 .0 .advance (advance-shown (now (a .book)) (a .at .0) (a .kind) (s .pre .0) (s .pre .1 .0) (c .before .if1 .left)))
 
 returns : tie.Need-returns
 returns c =

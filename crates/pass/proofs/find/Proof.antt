@@ -1,7 +1,7 @@
 -- From the last record down.
 use Prim.Native.Nat.{ℕ, _-_, _≤_, _<_}
 use mathlib.Core.Path.{_≡_, refl, sym, ap, _∙_}
-use mathlib.Core.Bool.{Bool, true, false, not, _&&_, _||_, false≢true}
+use mathlib.Core.Bool.{Bool, true, false, not, _&&_, _||_}
 use mathlib.Core.List.{List}
 use native.Mathlib.Omega.{arith}
 use borrow.Author.Tests.{eqb-true, eqb-false, leb-false, not-false}
@@ -10,6 +10,7 @@ use lib.Dec.{eqb, leb}
 use lib.ListN.{length, replicate, length-set}
 use Rattle.units.specs.declared.RecordIndex.{RecordIndex}
 use Rattle.units.specs.declared.UserNumber.{UserNumber}
+use Rattle.units.specs.Units.{recordIndex}
 use Rattle.units.proofs.Bools.{and-left, and-right, or-left, or-right}
 use Rattle.layout.specs.Fields.{recordLength, zeros, recordAt}
 use Rattle.layout.proofs.Places.{length-record}
@@ -17,10 +18,10 @@ use Rattle.book.specs.Book.{usedFits, firstUser}
 use Rattle.book.proofs.Faultless.{used-within}
 use Rattle.pointers.specs.Pointers.{mostRecords}
 use Rattle.numbers.specs.Held.{places}
-use Rattle.pass.proofs.Descended.{Descended, Roomy, roomy, started, number-some, user-met, entry-met, descended}
+use Rattle.pass.proofs.Descended.{Descended, Roomy, roomy, started, number-some, user-met, entry-met, descended, searched}
 use borrow.Author.Needs.{needs}
-use Rattle.pass.proofs.accepts.Statement.{statement}
-use Rattle.pass.proofs.accepts.Tie as tie
+use Rattle.pass.proofs.find.Statement.{statement}
+use Rattle.pass.proofs.find.Tie as tie
 
 -- the tests of the head
 head-fits : (b : List ℕ) {head : List ℕ} {within rest : Bool} → head ≡ recordAt b 0 → within ≡ usedFits b → rest ≡ zeros 8 72 head
@@ -42,10 +43,11 @@ below home index e =
     (omega (arith, some), leb-false index home (or-right (eqb home 0) (leb index home) e))
 
 abbrev Inv-loop : tie.InvT-loop
-Inv-loop book states₀ seen₀ expected₀ left₀ states seen expected left = ((length states ≡ mostRecords) × (length seen ≡ places)) × (Roomy book left × Descended book left expected states seen)
+Inv-loop book wanted states₀ seen₀ found₀ expected₀ left₀ states seen found expected left =
+    ((length states ≡ mostRecords) × (length seen ≡ places)) × (Roomy book left × Descended book (wanted .0) left expected found states seen)
 
 abbrev μ-loop : tie.MeasureT-loop
-μ-loop book states₀ seen₀ expected₀ left₀ states seen expected left = left
+μ-loop book wanted states₀ seen₀ found₀ expected₀ left₀ states seen found expected left = left
 
 record-requires : tie.Need-record-requires Inv-loop μ-loop
 record-requires c κs = search needs
@@ -57,7 +59,7 @@ zeros-requires : tie.Need-zeros-requires Inv-loop μ-loop
 zeros-requires c κs = search needs
 
 returns : tie.Need-returns Inv-loop μ-loop
-returns c e = absurd (false≢true e)
+returns c = tt
 
 first-user-requires : tie.Need-first-user-requires Inv-loop μ-loop
 first-user-requires c κs = search needs
@@ -70,11 +72,12 @@ cast-left c = search needs
 
 loop-holds : tie.Need-loop-holds Inv-loop μ-loop
 loop-holds c =
-    let b : List ℕ = now (c .before .before .before .before .before .before .before .args .book) in
+    let start = c .before .before .before .before .before .before .before in
+    let b : List ℕ = now (start .args .book) in
     let fits : usedFits b ≡ true = head-fits b (c .before .before .before .before .before .«record» .ensures) (c .before .before .before .before .used-fits .ensures) (c .before .before .before .zeros .ensures) (c .before .before .if1 .left) .0 in
     let room : Roomy b (c .used .result) = rw (c .used .ensures) (roomy b (c .before .before .before .before .before .before .before .pre) fits) in
     let first : c .before .first-user .result .0 ≡ firstUser b = ap (λ (i : RecordIndex). i .0) (c .before .first-user .ensures) in
-    ((refl, refl), (room, started b mostRecords (replicate places 0) (c .used .ensures) (used-within b fits .0) first))
+    ((refl, refl), (room, started b (start .args .wanted .0) mostRecords (replicate places 0) (c .used .ensures) (used-within b fits .0) first))
 
 sub-index : tie.Need-sub-index Inv-loop μ-loop
 sub-index c = search needs
@@ -97,7 +100,7 @@ user-fits-requires c κs =
     whole-size (now (c .before .before .before .before .before .before .before .before .before .before .before .before .args .book)) (l .left) (l .inv .1 .0) (omega arith) (c .before .before .whole-record .ensures)
 
 returns-2 : tie.Need-returns-2 Inv-loop μ-loop
-returns-2 c e = absurd (false≢true e)
+returns-2 c = tt
 
 number-of-requires : tie.Need-number-of-requires Inv-loop μ-loop
 number-of-requires c κs = search needs
@@ -106,10 +109,13 @@ insert-requires : tie.Need-insert-requires Inv-loop μ-loop
 insert-requires c κs =
     let f = c .before .before .before .user-fits .ensures (not-false (c .before .before .before .user-fits .result) (c .before .before .if3 .left)) in
     let n = number-some f in
-    (c .before .before .before .before .before .before .before .before .loop .inv .0 .1, omega (arith, ap (λ (i : UserNumber). i .0) (c .number-of .ensures)))
+    (c .before .before .before .before .before .before .before .before .loop .inv .0 .1, omega (arith, ap (λ (i : UserNumber). i .0) (c .before .number-of .ensures)))
 
 returns-3 : tie.Need-returns-3 Inv-loop μ-loop
-returns-3 c e = absurd (false≢true e)
+returns-3 c = tt
+
+first-met-requires : tie.Need-first-met-requires Inv-loop μ-loop
+first-met-requires c κs = search needs
 
 next-of-requires : tie.Need-next-of-requires Inv-loop μ-loop
 next-of-requires c κs = search needs
@@ -121,7 +127,7 @@ cast-home : tie.Need-cast-home Inv-loop μ-loop
 cast-home c = search needs
 
 returns-4 : tie.Need-returns-4 Inv-loop μ-loop
-returns-4 c e = absurd (false≢true e)
+returns-4 c = tt
 
 whole-record-requires-2 : tie.Need-whole-record-requires-2 Inv-loop μ-loop
 whole-record-requires-2 c κs = let h = below (c .before .before .owner-of .result .0) (c .before .before .before .before .before .before .before .loop .left - 1) (c .if5 .left) in omega arith
@@ -138,7 +144,7 @@ entry-fits-requires c κs =
     whole-size (now (c .before .before .before .before .before .before .before .before .before .before .before .before .before .before .before .before .args .book)) (l .left) (l .inv .1 .0) (omega arith) (c .before .before .before .before .before .before .whole-record .ensures)
 
 returns-5 : tie.Need-returns-5 Inv-loop μ-loop
-returns-5 c e = absurd (false≢true e)
+returns-5 c = tt
 
 state-after-requires : tie.Need-state-after-requires Inv-loop μ-loop
 state-after-requires c κs =
@@ -157,19 +163,17 @@ loop-less c = search needs
 
 loop-again : tie.Need-loop-again Inv-loop μ-loop
 loop-again c =
-    let l = c .before .before .before .before .before .before .before .before .before .before .before .loop in
-    let b : List ℕ = now (c .before .before .before .before .before .before .before .before .before .before .before .before .before .before .before .before .before .before .before .args .book) in
+    let l = c .before .before .before .before .before .before .before .before .before .before .before .before .loop in
+    let b : List ℕ = now (c .before .before .before .before .before .before .before .before .before .before .before .before .before .before .before .before .before .before .before .before .args .book) in
     let index : ℕ = l .left - 1 in
-    let r : List ℕ = now (c .before .before .before .before .before .before .before .before .before .whole-record .result) in
-    let known = c .before .before .before .before .before .before .user-fits .ensures (not-false (c .before .before .before .before .before .before .user-fits .result) (c .before .before .before .before .before .if3 .left)) in
-    let new = c .before .before .insert .ensures .1 (not-false (c .before .before .insert .result) (c .before .if4 .left)) in
-    let number = ap (λ (i : UserNumber). i .0) (c .before .before .before .number-of .ensures) in
-    let next = ap (λ (i : RecordIndex). i .0) (c .next-of .ensures) in (
-      (l .inv .0 .0, c .before .before .insert .ensures .0),
-      (
-        less-room b (l .left) (l .inv .1 .0),
-        user-met b (l .inv .1 .1) index (omega arith) (omega arith) r (c .before .before .before .before .before .before .before .before .before .whole-record .ensures) (sym (c .before .before .before .before .before .before .before .before .kind-of .ensures) ∙ c .before .before .before .before .before .before .before .if2 .taken) refl known number new next,
-      ),
+    let r : List ℕ = now (c .before .before .before .before .before .before .before .before .before .before .whole-record .result) in
+    let known = c .before .before .before .before .before .before .before .user-fits .ensures (not-false (c .before .before .before .before .before .before .before .user-fits .result) (c .before .before .before .before .before .before .if3 .left)) in
+    let new = c .before .before .before .insert .ensures .1 (not-false (c .before .before .before .insert .result) (c .before .before .if4 .left)) in
+    let number = ap (λ (i : UserNumber). i .0) (c .before .before .before .before .before .number-of .ensures) in
+    let next = ap (λ (i : RecordIndex). i .0) (c .next-of .ensures) in
+    let met = user-met b (l .inv .1 .1) index (omega arith) (l .inv .1 .0 .counted) (omega arith) r (c .before .before .before .before .before .before .before .before .before .before .whole-record .ensures) (sym (c .before .before .before .before .before .before .before .before .before .kind-of .ensures) ∙ c .before .before .before .before .before .before .before .before .if2 .taken) refl known number new next in (
+      (l .inv .0 .0, c .before .before .before .insert .ensures .0),
+      (less-room b (l .left) (l .inv .1 .0), rw (c .before .first-met .ensures) met),
     )
 
 loop-less-2 : tie.Need-loop-less-2 Inv-loop μ-loop
@@ -190,20 +194,26 @@ loop-again-2 c =
       (simp length-set (l .inv .0 .0), l .inv .0 .1),
       (
         less-room b (l .left) (l .inv .1 .0),
-        entry-met b (l .inv .1 .1) index (omega arith) (omega arith) r (c .before .before .before .before .before .before .before .before .before .whole-record .ensures) named (place .0) (place .1) owner (c .before .before .before .whole-record2 .ensures) refl known
+        entry-met b (l .inv .1 .1) index (omega arith) (l .inv .1 .0 .counted) (omega arith) r (c .before .before .before .before .before .before .before .before .before .whole-record .ensures) named (place .0) (place .1) owner (c .before .before .before .whole-record2 .ensures) refl known
             (c .state-after .ensures) room,
       ),
     )
 
-returns-6 : tie.Need-returns-6 Inv-loop μ-loop
-returns-6 c e =
-    let l = c .before .loop in
-    let b : List ℕ = now (c .before .before .before .before .before .before .before .before .before .args .book) in
-    let head = head-fits b (c .before .before .before .before .before .before .before .«record» .ensures) (c .before .before .before .before .before .before .used-fits .ensures) (c .before .before .before .before .before .zeros .ensures) (c .before .before .before .before .if1 .left) in
-    descended b (l .inv .1 .1) (omega arith) (eqb-true (l .expected) 0 e) (head .0) (head .1)
+cast-t41 : tie.Need-cast-t41 Inv-loop μ-loop
+cast-t41 c = let small = c .before .before .loop .inv .1 .1 .sought .small in omega arith
 
-pub accepts-spec : {M : Type 1} → statement M
-accepts-spec =
+returns-6 : tie.Need-returns-6 Inv-loop μ-loop
+returns-6 c =
+    let l = c .before .before .loop in
+    let b : List ℕ = now (c .before .before .before .before .before .before .before .before .before .before .args .book) in
+    let head = head-fits b (c .before .before .before .before .before .before .before .before .«record» .ensures) (c .before .before .before .before .before .before .before .used-fits .ensures) (c .before .before .before .before .before .before .zeros .ensures) (c .before .before .before .before .before .if1 .left) in
+    (descended b (l .inv .1 .1) (omega arith) (c .if7 .taken) (head .0) (head .1), ap recordIndex (searched b (l .inv .1 .1) (omega arith)))
+
+returns-7 : tie.Need-returns-7 Inv-loop μ-loop
+returns-7 c = tt
+
+pub find-spec : {M : Type 1} → statement M
+find-spec =
     tie.close
     (tie.spec
     Inv-loop
@@ -226,6 +236,7 @@ accepts-spec =
     number-of-requires
     insert-requires
     returns-3
+    first-met-requires
     next-of-requires
     owner-of-requires
     cast-home
@@ -242,4 +253,6 @@ accepts-spec =
     loop-again
     loop-less-2
     loop-again-2
-    returns-6)
+    cast-t41
+    returns-6
+    returns-7)
