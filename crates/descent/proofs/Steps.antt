@@ -4,10 +4,11 @@ use mathlib.Core.Path.{_≡_, refl}
 use mathlib.Core.Bool.{Bool, true, false}
 use mathlib.Core.List.{List}
 use native.Mathlib.Omega.{arith}
-use borrow.Author.Tests.{eq-eqb, ne-eqb}
 use Rattle.book.specs.Book.{used, isUser, isEntry, ownerOf, nextOf, rankOf}
 pub use Rattle.book.proofs.RecordKinds.{not-both}
-use Rattle.descent.specs.Descent.{met, owns, dueUser, dueEntry, dueYear, MetUser, MetEntry}
+use Rattle.owners.specs.Owners.{owns}
+use Rattle.owners.proofs.Last.{owns-own, owns-no-other}
+use Rattle.descent.specs.Descent.{met, dueUser, dueEntry, dueYear, MetUser, MetEntry}
 
 -- the record i is met after all above it
 pub met-at : (b : List ℕ) (i d : ℕ) → i + suc d ≡ used b → met b d ≡ i
@@ -39,12 +40,10 @@ module _ (b : List ℕ) (d : ℕ) (m : MetUser b d) where
 -- an entry is met
 module _ (b : List ℕ) (d : ℕ) (m : MetEntry b d) where
   owned : owns b (ownerOf b (met b d)) (met b d) ≡ true
-  unfolding owns
-  owned = rw (m .entry, eq-eqb (ownerOf b (met b d)) (ownerOf b (met b d)) refl)
+  owned = owns-own b (ownerOf b (met b d)) (met b d) (m .entry) refl
 
   owned-by-no-other : (o : ℕ) → (ownerOf b (met b d) ≡ o → ⊥) → owns b o (met b d) ≡ false
-  unfolding owns
-  owned-by-no-other o n = rw (m .entry, ne-eqb (ownerOf b (met b d)) o n)
+  owned-by-no-other o n = owns-no-other b o (met b d) n
 
   pub entry-keeps-user : dueUser b (suc d) ≡ dueUser b d
   unfolding dueUser

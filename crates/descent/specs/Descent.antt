@@ -4,11 +4,11 @@
 use Prim.Native.Nat.{ℕ, zero, suc, _+_, _-_, _<_}
 use mathlib.Core.Path.{_≡_}
 use mathlib.Core.Logic.{_⊎_}
-use mathlib.Core.Bool.{Bool, true, cond, _&&_}
+use mathlib.Core.Bool.{true, cond}
 use mathlib.Core.List.{List}
-use lib.Dec.{eqb}
 use Rattle.layout.specs.Fields.{recordAt, zeros}
 use Rattle.book.specs.Book.{used, usedFits, firstUser, isUser, isAdvance, isClosing, isEntry, ownerOf, rangesFit, zeroBytesFit, nextOf, firstEntryOf, numberOf, rankOf, activationOf, openYearOf}
+use Rattle.owners.specs.Owners.{owns}
 
 abbrev pub met : List ℕ → ℕ → ℕ
 met b d = used b - suc d
@@ -19,9 +19,6 @@ dueUser b zero = firstUser b
 dueUser b (suc d) = cond (isUser b (met b d)) (nextOf b (met b d)) (dueUser b d)
 
 -- the entry that the chain of the user o leads to, and the year of what leads to it
-unfoldable pub owns : List ℕ → ℕ → ℕ → Bool
-owns b o i = isEntry b i && eqb (ownerOf b i) o
-
 unfoldable pub dueEntry : List ℕ → ℕ → ℕ → ℕ
 dueEntry b o zero = firstEntryOf b o
 dueEntry b o (suc d) = cond (owns b o (met b d)) (nextOf b (met b d)) (dueEntry b o d)
