@@ -5,8 +5,8 @@ ghost use mathlib.Core.Bool.{_&&_};
 ghost use Prim.Native.Nat.{_+_, _*_, _≤_};
 ghost use lib.Dec.{eqb};
 ghost use lib.ListN.{length};
-ghost use Rattle.layout.specs.Fields.{recordLength};
-ghost use Rattle.book.specs.Book.{isUser, numberOf, rangesFit, zeroBytesFit, userNextFits, numberIsNew, firstEntryFits, entryNextFits, ownerFits, pointersTo, inOrder, firstInOrder, nextInOrder, linksFit, goodRecord, goodHead};
+ghost use Rattle.layout.specs.Fields.{recordLength, userKind};
+ghost use Rattle.book.specs.Book.{kindAt, isUser, numberOf, rangesFit, zeroBytesFit, userNextFits, numberIsNew, firstEntryFits, entryNextFits, ownerFits, pointersTo, inOrder, firstInOrder, nextInOrder, linksFit, goodRecord, goodHead};
 use layout::kind::ADVANCE;
 use layout::kind::CLOSING;
 use layout::kind::USER;
@@ -137,24 +137,28 @@ pub fn next_in_order(book: &[u8], index: RecordIndex) -> bool
 
 // FAULTS
 
-pub fn links_fit(book: &[u8], index: RecordIndex) -> bool
+// Whether a user's number is new is known from elsewhere.
+pub fn links_fit(book: &[u8], index: RecordIndex, new: bool) -> bool
+    requires { ⌜ (kindAt (now book) (index .0) ≡ userKind → new ≡ numberIsNew (now book) (index .0)) ⌝ }
     ensures { λ r. ⌜ r ≡ linksFit (now (book .entry)) (index .0) ⌝ }
 {
     if kind_at(book, index) == USER {
-        let user = user_next_fits(book, index) & number_is_new(book, index);
+        let user = user_next_fits(book, index) & new;
         user & (first_entry_fits(book, index) & first_in_order(book, index))
     } else {
         (owner_fits(book, index) & entry_next_fits(book, index)) & next_in_order(book, index)
     }
 }
 
-// A record that the book has whole is judged with the number of pointers that lead to it.
-pub fn good_record(book: &[u8], index: RecordIndex, pointers: u16) -> bool
+// A record that the book has whole is judged with the number of pointers that lead to it and, if it is a user, with whether its
+// number is new: both are known of all records together at less cost than of each by itself.
+pub fn good_record(book: &[u8], index: RecordIndex, pointers: u16, new: bool) -> bool
     requires { ⌜ pointers ≡ pointersTo (now book) (index .0) ⌝ }
+    requires { ⌜ (kindAt (now book) (index .0) ≡ userKind → new ≡ numberIsNew (now book) (index .0)) ⌝ }
     requires { ⌜ recordLength * index .0 + recordLength ≤ length (now book) ⌝ }
     ensures { λ r. ⌜ r ≡ goodRecord (now (book .entry)) (index .0) ⌝ }
 {
-    (own_rules_fit(book, index) & links_fit(book, index)) & (pointers == 1)
+    (own_rules_fit(book, index) & links_fit(book, index, new)) & (pointers == 1)
 }
 
 pub fn good_head(book: &[u8]) -> bool

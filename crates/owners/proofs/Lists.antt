@@ -11,7 +11,7 @@ use lib.Dec.{ltb}
 use lib.ListN.{length, getD, set, replicate, getD-replicate}
 use lib.Seq.{getD-set-same, getD-set-other}
 use Rattle.book.specs.Book.{used, isEntry, ownerOf}
-use Rattle.view.proofs.RecordKinds.{entry-below}
+use Rattle.book.proofs.RecordKinds.{entry-index}
 use Rattle.pointers.specs.Pointers.{mostRecords}
 use Rattle.owners.specs.declared.Entries.{Entries}
 use Rattle.owners.specs.Owners.{owns, lastOwned, Linked}
@@ -82,5 +82,5 @@ pub linked-all : (b : List ℕ) (n : ℕ) (entries : Entries) → n ≡ used b �
 linked-all b n entries end linked =
     record {
       last = λ o h. linked .last o h ∙ ap (lastOwned b o) end;
-      earlier = λ o e h q. linked .earlier e (let l = entry-below b e (owns-entry b o e q) in omega arith) o h q;
+      earlier = λ o e h q. linked .earlier e (let l = entry-index b e (owns-entry b o e q) .1 in omega arith) o h q;
     }

@@ -17,7 +17,7 @@ use Rattle.layout.specs.Fields.{recordLength, get, zeros, recordAt, kindField, 
 use Rattle.records.specs.Records.{accountIn, advanceIn, closingIn}
 use Rattle.book.specs.Book.{used, usedFits, firstUser, kindAt, isUser, isEntry, isAdvance, isClosing, ownerOf, nextOf, firstEntryOf, openYearOf, activationOf, numberOf, rankOf, accountFits, advanceFits, closingFits, rangesFit, zeroBytesFit, lengthFits, detailsFit, openYearFits, runsFit, advancesFit, creditFits, halvesFit, sound}
 use Rattle.book.proofs.Faultless.{used-within}
-use Rattle.view.proofs.RecordKinds.{has-kind, kind-is, advance-entry, closing-entry}
+use Rattle.book.proofs.RecordKinds.{has-kind, kind-is, advance-entry, closing-entry}
 use Rattle.pointers.specs.Pointers.{mostRecords}
 use Rattle.descent.specs.Descent.{met, dueUser, dueEntry, dueYear, MetUser, MetEntry}
 use Rattle.descent.proofs.Steps.{met-at, not-both, user-moves, user-keeps-entry, user-keeps-year, entry-keeps-user, entry-moves, entry-moves-year, entry-keeps-other, entry-keeps-year}

@@ -4,29 +4,27 @@ use Prim.Native.Nat.{ℕ, _+_, _≤_, _<_}
 use mathlib.Core.Path.{_≡_, refl, sym, ap, _∙_}
 use mathlib.Core.Bool.{Bool, true, false, not, _&&_, and-false, true≢false}
 use mathlib.Core.List.{List}
+use native.Mathlib.Decide.{decLt}
 use native.Mathlib.Omega.{arith}
 use borrow.Author.Count.{below-more}
-use borrow.Author.Tests.{eq-eqb, ne-eqb}
-use lib.Dec.{eqb}
-use Rattle.units.proofs.Bools.{and-left, and-right, and-both}
+use borrow.Author.Tests.{ne-eqb}
+use Rattle.units.proofs.Bools.{and-left, and-right}
 use Rattle.layout.specs.Fields.{userKind, advanceKind, closingKind}
 use Rattle.book.specs.Book.{used, usedFits, kindAt, isUser, isEntry, ownerOf, ownerFits, rangesFit, zeroBytesFit, linksFit, goodRecord, faulty}
 use Rattle.book.proofs.Faults.{faulty-record}
 use Rattle.book.proofs.Faultless.{owner-before}
-use Rattle.book.proofs.RecordKinds.{kind-from-one, kind-below, no-user, no-advance, no-closing}
-
--- an entry of a user
-abbrev pub belongs : List ℕ → ℕ → ℕ → Bool
-belongs b user e = isEntry b e && eqb (ownerOf b e) user
+use Rattle.book.proofs.RecordKinds.{kind-from-one, kind-below, entry-index, entry-no-user, no-user, no-advance, no-closing}
+use Rattle.owners.specs.Owners.{owns, lastOwned}
+use Rattle.owners.proofs.Last.{owns-entry, owns-own, last-below, last-owned, none-above}
 
 -- what the turn of index j has seen
 pub record Home (b : List ℕ) (j : ℕ) : Type 0 where
   pub user : isUser b j ≡ true → goodRecord b j ≡ true
-  pub entries : isUser b j ≡ true → (e : ℕ) → j < e → e < used b → belongs b j e ≡ true → goodRecord b e ≡ true
+  pub entries : isUser b j ≡ true → (e : ℕ) → j < e → e < used b → owns b j e ≡ true → goodRecord b e ≡ true
   pub owned : isUser b j ≡ false → (isEntry b j && ownerFits b j) ≡ true
 
 pub home-user : (b : List ℕ) (j : ℕ) → isUser b j ≡ true → goodRecord b j ≡ true
-    → ((e : ℕ) → j < e → e < used b → belongs b j e ≡ true → goodRecord b e ≡ true) → Home b j
+    → ((e : ℕ) → j < e → e < used b → owns b j e ≡ true → goodRecord b e ≡ true) → Home b j
 home-user b j u g es = record { user = λ _. g; entries = λ _. es; owned = λ n. absurd (true≢false (sym u ∙ n)) }
 
 pub home-other : (b : List ℕ) (j : ℕ) → isUser b j ≡ false → (isEntry b j && ownerFits b j) ≡ true → Home b j
@@ -40,7 +38,7 @@ homes-good b homes i p h = by-user (isUser b i) refl
     at-owner : isEntry b i ≡ true → isUser b (ownerOf b i) ≡ true → ownerOf b i < i → goodRecord b i ≡ true
     at-owner e u l =
         homes (ownerOf b i) (kind-from-one b userKind (ownerOf b i) u) (kind-below b userKind (ownerOf b i) u)
-        .entries u i l h (and-both e (eq-eqb (ownerOf b i) (ownerOf b i) refl))
+        .entries u i l h (owns-own b (ownerOf b i) i e refl)
 
     by-user : (t : Bool) → isUser b i ≡ t → goodRecord b i ≡ true
     by-user true u = homes i p h .user u
@@ -77,13 +75,41 @@ stray-bad b i p h n o = by-tests (isEntry b i) (ownerFits b i) refl refl o
     by-tests true false q r z = ownerless-bad b i (no-user b i p h n) r
     by-tests false f q r z = unknown-bad b i (no-user b i p h n) (no-advance b i p h q) (no-closing b i p h q)
 
--- one entry more, and one index more
-pub entries-next : (b : List ℕ) (user e : ℕ) → ((k : ℕ) → user < k → k < e → belongs b user k ≡ true → goodRecord b k ≡ true)
-    → (belongs b user e ≡ true → goodRecord b e ≡ true)
-    → (k : ℕ) → user < k → k < e + 1 → belongs b user k ≡ true → goodRecord b k ≡ true
-entries-next b user e before here k p h =
-    below-more (λ m. user < m → belongs b user m ≡ true → goodRecord b m ≡ true) e (λ m l q. before m q l) (λ _. here) k h p
+-- The entries of a user are met from the last one down: those above e are good, and e is one of them, or 0 after the first.
+pub record EntriesMet (b : List ℕ) (user e : ℕ) : Type 0 where
+  pub good : (k : ℕ) → e < k → k < used b → owns b user k ≡ true → goodRecord b k ≡ true
+  pub here : (e ≡ 0 → ⊥) → owns b user e ≡ true
 
+pub entries-none : (b : List ℕ) (user e : ℕ) → e ≡ lastOwned b user (used b) → EntriesMet b user e
+entries-none b user e last =
+    record {
+      good = λ k l h q. absurd (true≢false (sym q ∙ none-above b user (used b) k (omega arith) h));
+      here = λ some. rw last (last-owned b user (used b) (λ z. some (last ∙ z)));
+    }
+
+module _ (b : List ℕ) (user e : ℕ) (met : EntriesMet b user e) (some : e ≡ 0 → ⊥) where
+  pub entry-here : isEntry b e ≡ true
+  entry-here = owns-entry b user e (met .here some)
+
+  pub entry-place : (1 ≤ e) × (e < used b)
+  entry-place = entry-index b e entry-here
+
+  pub entry-kind : kindAt b e ≡ userKind → ⊥
+  entry-kind = entry-no-user b e entry-here
+
+  module _ (next : ℕ) (last : next ≡ lastOwned b user e) where
+    pub entry-down : next < e
+    entry-down = omega (arith, last-below b user e (entry-place .0))
+
+    pub entries-next : goodRecord b e ≡ true → EntriesMet b user next
+    entries-next g = record { good = λ k l h q. by-place k l h q (decLt k e) (decLt e k); here = λ s. rw last (last-owned b user e (λ z. s (last ∙ z))) }
+      where
+        by-place : (k : ℕ) → next < k → k < used b → owns b user k ≡ true → Dec (k < e) → Dec (e < k) → goodRecord b k ≡ true
+        by-place k l h q (yes under) d = absurd (true≢false (sym q ∙ none-above b user e k (omega arith) under))
+        by-place k l h q (no n) (yes over) = met .good k over h q
+        by-place k l h q (no n) (no m) = let same : k ≡ e = omega (arith, n, m) in rw same g
+
+-- one index more
 pub homes-next : (b : List ℕ) (i : ℕ) → ((j : ℕ) → 1 ≤ j → j < i → Home b j) → Home b i → (j : ℕ) → 1 ≤ j → j < i + 1 → Home b j
 homes-next b i before here j p h = below-more (λ m. 1 ≤ m → Home b m) i (λ m l q. before m q l) (λ _. here) j h p
 

@@ -1,3 +1,4 @@
 pub mod Contract
 pub mod FreshBooks
 pub mod Homes
+pub mod SeenNumbers

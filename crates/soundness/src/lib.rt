@@ -2,13 +2,16 @@
 // unknown kinds are ordinary input.
 ghost use mathlib.Core.Path.{_≡_};
 ghost use mathlib.Core.Bool.{true, _&&_};
-ghost use lib.Dec.{eqb};
-ghost use Rattle.book.specs.Book.{lengthFits, usedFits, isEntry, ownerOf, ownerFits};
+ghost use lib.ListN.{length};
+ghost use Rattle.book.specs.Book.{lengthFits, usedFits, isEntry, ownerFits, numberIsNew};
+ghost use Rattle.numbers.specs.Held.{places, Inserted};
 ghost use Rattle.soundness.specs.Verdicts.{RecordsJudged, Judged, BookChecked, freshAnswer, freshAfter};
+use numbers::PLACES;
 use units::RecordIndex;
+use units::UserNumber;
 use view::is_entry;
 use view::is_user;
-use view::owner_of;
+use view::number_of;
 use view::used;
 
 // What is said of a book whose length fits: sound, or the index of a faulty record.
@@ -30,43 +33,60 @@ fn owned(book: &[u8], index: RecordIndex) -> bool
     is_entry(book, index) & links::owner_fits(book, index)
 }
 
-// An entry of the user. Most records have another owner, or none.
-fn belongs(book: &[u8], entry: RecordIndex, user: RecordIndex) -> bool
-    ensures { λ r. ⌜ r ≡ (isEntry (now (book .entry)) (entry .0) && eqb (ownerOf (now (book .entry)) (entry .0)) (user .0)) ⌝ }
+// Puts a user's number into the table of those that were seen. True where the table did not hold it before and does now.
+fn put(seen: &mut [u32; PLACES], number: UserNumber) -> bool
+    requires { ⌜ length (now seen) ≡ places ⌝ }
+    ensures { λ r. ⌜ length (now (seen .exit)) ≡ places ⌝ }
+    ensures { λ r. ⌜ (r ≡ true → Inserted (now (seen .entry)) (number .0) (now (seen .exit))) ⌝ }
 {
-    let owner = owner_of(book, entry);
-    if owner.0 == user.0 {
-        is_entry(book, entry)
+    if number.0 == 0 {
+        return false;
+    }
+    numbers::insert(seen, number.0)
+}
+
+// "no user with a smaller index has its number". Where that is not known, the users before are asked one by one.
+fn is_new(book: &[u8], user: RecordIndex, known: bool) -> bool
+    requires { ⌜ (known ≡ true → numberIsNew (now book) (user .0) ≡ true) ⌝ }
+    ensures { λ r. ⌜ r ≡ numberIsNew (now (book .entry)) (user .0) ⌝ }
+{
+    if known {
+        true
     } else {
-        false
+        links::number_is_new(book, user)
     }
 }
 
 // "A book is sound if no record is faulty": each user, then the entries that it owns. A record that is neither a user nor owned
-// by a user before it is faulty by itself.
+// by a user before it is faulty by itself. Each record is looked at once: the entries of a user are linked beforehand, and its
+// number is new where a table of the numbers of all users before it takes it in.
 fn judge_records(book: &[u8]) -> Verdict
     requires { ⌜ lengthFits (now book) ≡ true ⌝ }
     requires { ⌜ usedFits (now book) ≡ true ⌝ }
     ensures { λ r. ⌜ RecordsJudged (now (book .entry)) r ⌝ }
 {
     let counts = pointers::counts(book);
+    let entries = owners::by_owner(book);
     let records = used(book);
+    let mut seen = [0u32; PLACES];
+    let mut all_seen = true;
     let mut bad: u32 = 0;
     'users: for i in 1..records {
         let home = RecordIndex(i);
         if is_user(book, home) {
-            if !links::good_record(book, home, counts[i as usize]) {
+            all_seen = all_seen & put(&mut seen, number_of(book, home));
+            let new = is_new(book, home, all_seen);
+            if !links::good_record(book, home, counts[i as usize], new) {
                 bad = i;
                 break 'users;
             }
-            for e in i + 1..records {
-                let entry = RecordIndex(e);
-                if belongs(book, entry, home) {
-                    if !links::good_record(book, entry, counts[e as usize]) {
-                        bad = e;
-                        break 'users;
-                    }
+            let mut e = entries.last[i as usize];
+            while e != 0 {
+                if !links::good_record(book, RecordIndex(e), counts[e as usize], true) {
+                    bad = e;
+                    break 'users;
                 }
+                e = entries.earlier[e as usize];
             }
         } else {
             if !owned(book, home) {

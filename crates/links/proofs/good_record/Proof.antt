@@ -6,7 +6,6 @@ use mathlib.Core.List.{List}
 use denote.Ref.{now}
 use lib.Dec.{eqb}
 use Rattle.book.specs.Book.{rangesFit, zeroBytesFit, linksFit, pointersTo, pointedOnce, goodRecord}
-use borrow.Author.Needs.{needs}
 use Rattle.links.proofs.good_record.Statement.{statement}
 use Rattle.links.proofs.good_record.Tie as tie
 
@@ -16,10 +15,10 @@ unfolding goodRecord pointedOnce
 of-tests b i o l p = rw (o, l, p)
 
 own-rules-fit-requires : tie.Need-own-rules-fit-requires
-own-rules-fit-requires c κs = c .before .pre .1
+own-rules-fit-requires c κs = c .before .pre .1 .1
 
 links-fit-requires : tie.Need-links-fit-requires
-links-fit-requires c κs = search needs
+links-fit-requires c κs = c .before .before .pre .1 .0
 
 returns : tie.Need-returns
 returns c =

@@ -28,9 +28,6 @@ kind-at-requires c κs = search needs
 user-next-fits-requires : tie.Need-user-next-fits-requires
 user-next-fits-requires c κs = search needs
 
-number-is-new-requires : tie.Need-number-is-new-requires
-number-is-new-requires c κs = search needs
-
 first-entry-fits-requires : tie.Need-first-entry-fits-requires
 first-entry-fits-requires c κs = search needs
 
@@ -48,9 +45,11 @@ next-in-order-requires c κs = search needs
 
 returns : tie.Need-returns
 returns c =
-    let s = c .before .before .before .before in
-    let a = s .before .before .before .args in
-    of-user (now (a .book)) (a .index .0) (s .before .kind-at .ensures) (s .if1 .taken) (c .before .before .before .user-next-fits .ensures) (c .before .before .number-is-new .ensures) (c .before .first-entry-fits .ensures) (c .first-in-order .ensures)
+    let s = c .before .before .before in
+    let start = s .before .before .before in
+    let a = start .args in
+    let kind = s .before .kind-at .ensures in
+    of-user (now (a .book)) (a .index .0) kind (s .if1 .taken) (c .before .before .user-next-fits .ensures) (start .pre (sym kind ∙ s .if1 .taken)) (c .before .first-entry-fits .ensures) (c .first-in-order .ensures)
 
 returns-2 : tie.Need-returns-2
 returns-2 c =
@@ -64,7 +63,6 @@ links-fit-spec =
     (tie.spec
     kind-at-requires
     user-next-fits-requires
-    number-is-new-requires
     first-entry-fits-requires
     first-in-order-requires
     owner-fits-requires

@@ -1,44 +1,79 @@
--- Every index before this one has had its turn, and in it every entry before this one: each was good.
+-- Every index before this one has had its turn, and in it the entries above this one: each was good.
 use borrow.Author.Needs.{needs}
-use Prim.Native.Nat.{ℕ, _-_, _≤_, _<_}
-use mathlib.Core.Path.{_≡_, refl, sym, _∙_}
-use mathlib.Core.Bool.{true, true≢false}
+use Prim.Native.Nat.{ℕ, _+_, _-_, _≤_, _<_}
+use mathlib.Core.Path.{_≡_, refl, sym, ap, _∙_}
+use mathlib.Core.Bool.{true}
 use denote.Ref.{now}
-use Rattle.book.specs.Book.{used, goodRecord}
+use Rattle.book.specs.Book.{used}
 use native.Mathlib.Omega.{arith}
 use mathlib.Core.Logic.{⊎-elim}
 use borrow.Author.Tests.{not-true, not-false}
+use lib.ListN.{length, getD}
+use Rattle.units.specs.declared.UserNumber.{UserNumber}
+use Rattle.pointers.specs.Pointers.{mostRecords}
+use Rattle.owners.specs.Owners.{lastOwned}
+use Rattle.numbers.specs.Held.{places}
 use Rattle.book.proofs.Faults.{used-counted, used-whole}
-use Rattle.soundness.proofs.Homes.{belongs, Home, home-user, home-other, homes-next, entries-next, Outcome, outcome-none, outcome-some, stray-bad}
+use Rattle.soundness.proofs.Homes.{Home, home-user, home-other, homes-next, EntriesMet, entries-none, entry-place, entry-kind, entry-down, entries-next, Outcome, outcome-none, outcome-some, stray-bad}
+use Rattle.soundness.proofs.SeenNumbers.{Seen, seen-none, seen-other, seen-new, seen-next}
 use Rattle.soundness.proofs.judge_records.Statement.{statement}
 use Rattle.soundness.proofs.judge_records.Tie as tie
 
 abbrev Inv-loop : tie.InvT-loop
-Inv-loop book counts records bad₀ i home e₀ bad e =
-    (i < e) × ((bad ≡ 0) × ((k : ℕ) → i < k → k < e → belongs book i k ≡ true → goodRecord book k ≡ true))
+Inv-loop book counts entries records seen all-seen bad₀ i new e₀ bad e = (bad ≡ 0) × EntriesMet book i e
 
 abbrev μ-loop : tie.MeasureT-loop
-μ-loop book counts records bad₀ i home e₀ bad e = records - e
+μ-loop book counts entries records seen all-seen bad₀ i new e₀ bad e = e
 
 abbrev Inv-users : tie.InvT-users
-Inv-users book counts records bad₀ i₀ bad i = (1 ≤ i) × ((bad ≡ 0) × ((j : ℕ) → 1 ≤ j → j < i → Home book j))
+Inv-users book counts entries records seen₀ all-seen₀ bad₀ i₀ seen all-seen bad i =
+    (1 ≤ i) × ((bad ≡ 0) × (((length seen ≡ places) × (all-seen ≡ true → Seen book i seen)) × ((j : ℕ) → 1 ≤ j → j < i → Home book j)))
 
 abbrev μ-users : tie.MeasureT-users
-μ-users book counts records bad₀ i₀ bad i = records - i
+μ-users book counts entries records seen₀ all-seen₀ bad₀ i₀ seen all-seen bad i = records - i
 
 counts-requires : tie.Need-counts-requires Inv-loop μ-loop Inv-users μ-users
 counts-requires c κs =
-    let b = now (c .before .args .book) in
-    used-counted b (c .before .pre .1) (c .before .pre .0)
+    let s = c .before in
+    used-counted (now (s .args .book)) (s .pre .1) (s .pre .0)
+
+by-owner-requires : tie.Need-by-owner-requires Inv-loop μ-loop Inv-users μ-users
+by-owner-requires c κs =
+    let s = c .before .before in
+    used-counted (now (s .args .book)) (s .pre .1) (s .pre .0)
 
 used-requires : tie.Need-used-requires Inv-loop μ-loop Inv-users μ-users
 used-requires c κs = search needs
 
 users-holds : tie.Need-users-holds Inv-loop μ-loop Inv-users μ-users
-users-holds c = (search needs, (refl, λ j p h. let z : ⊥ = omega arith in absurd z))
+users-holds c =
+    let b = now (c .before .before .before .before .args .book) in
+    (search needs, (refl, ((refl, λ _. seen-none b _), λ j p h. let z : ⊥ = omega arith in absurd z)))
 
 is-user-requires : tie.Need-is-user-requires Inv-loop μ-loop Inv-users μ-users
 is-user-requires c κs = search needs
+
+number-of-requires : tie.Need-number-of-requires Inv-loop μ-loop Inv-users μ-users
+number-of-requires c κs = search needs
+
+put-requires : tie.Need-put-requires Inv-loop μ-loop Inv-users μ-users
+put-requires c κs = c .before .before .before .before .before .users .inv .1 .1 .0 .0
+
+is-new-requires : tie.Need-is-new-requires Inv-loop μ-loop Inv-users μ-users
+is-new-requires c κs =
+    let a = c .before .before .before .before .before .before in
+    let b = now (a .before .before .before .before .before .args .book) in
+    let number = ap (λ (n : UserNumber). n .0) (c .before .number-of .ensures) in
+    seen-new b (a .users .i) (a .users .all-seen) (c .put .result) (a .users .inv .1 .1 .0 .1) number (c .put .ensures .1)
+
+-- the user has its places in the book and in the arrays
+user-place : (c : tie.In-users Inv-loop μ-loop Inv-users μ-users)
+    → (c .before .users .i < used (now (c .before .before .before .before .before .before .args .book))) × (c .before .users .i < mostRecords)
+user-place c =
+    let a = c .before in
+    let s = a .before .before .before .before .before in
+    let most = used-counted (now (s .args .book)) (s .pre .1) (s .pre .0) in
+    (omega arith, omega arith)
 
 cast-good-record : tie.Need-cast-good-record Inv-loop μ-loop Inv-users μ-users
 cast-good-record c = search needs
@@ -47,70 +82,100 @@ mul-good-record : tie.Need-mul-good-record Inv-loop μ-loop Inv-users μ-users
 mul-good-record c = search needs
 
 array-read-good-record : tie.Need-array-read-good-record Inv-loop μ-loop Inv-users μ-users
-array-read-good-record c =
-    let s = c .before .before .before .before .before .before .before in
-    let b = now (s .args .book) in
-    omega (arith, used-counted b (s .pre .1) (s .pre .0))
+array-read-good-record c = user-place (c .before .before .before .before .before .before) .1
 
 good-record-requires : tie.Need-good-record-requires Inv-loop μ-loop Inv-users μ-users
 good-record-requires c κs =
-    let a = c .before .before .before in
-    let s = a .before .before .before .before in
-    let b = now (s .args .book) in (
-      a .before .before .counts .ensures (a .users .i) (a .users .inv .0) (omega (arith, used-counted b (s .pre .1) (s .pre .0))),
-      used-whole b (s .pre .1) (a .users .i) (omega (arith, a .before .used .ensures)),
+    let a = c .before .before .before .before .before .before .before in
+    let s = a .before .before .before .before .before in
+    let place = user-place (c .before .before .before .before .before .before) in (
+      a .before .before .before .counts .ensures (a .users .i) (a .users .inv .0) (place .1),
+      (λ _. c .is-new .ensures, used-whole (now (s .args .book)) (s .pre .1) (a .users .i) (place .0)),
     )
 
-add-e : tie.Need-add-e Inv-loop μ-loop Inv-users μ-users
-add-e c = search needs
+cast-e : tie.Need-cast-e Inv-loop μ-loop Inv-users μ-users
+cast-e c = search needs
+
+mul-e : tie.Need-mul-e Inv-loop μ-loop Inv-users μ-users
+mul-e c = let place = user-place (c .before .before .before .before .before .before .before .before) in search needs
+
+element-copy-out-e : tie.Need-element-copy-out-e Inv-loop μ-loop Inv-users μ-users
+element-copy-out-e c = user-place (c .before .before .before .before .before .before .before .before) .1
 
 loop-holds : tie.Need-loop-holds Inv-loop μ-loop Inv-users μ-users
 loop-holds c =
-    (search needs, (c .before .before .before .before .before .users .inv .1 .0, λ k p h. let z : ⊥ = omega arith in absurd z))
+    let a = c .before .before .before .before .before .before .before .before .before .before in
+    let b = now (a .before .before .before .before .before .args .book) in
+    let place = user-place (c .before .before .before .before .before .before .before .before .before) in
+    (a .users .inv .1 .0, entries-none b (a .users .i) _ (a .before .before .by-owner .ensures .last (a .users .i) (place .0)))
 
-belongs-requires : tie.Need-belongs-requires Inv-loop μ-loop Inv-users μ-users
-belongs-requires c κs = search needs
+-- so has its entry
+entry-there : (c : tie.In-loop Inv-loop μ-loop Inv-users μ-users)
+    → ((1 ≤ c .before .loop .e) × (c .before .loop .e < used (now (c .before .before .before .before .before .before .before .before .before .before .before .before .before .before .before .before .before .args .book)))) × (c .before .loop .e < mostRecords)
+entry-there c =
+    let a = c .before .before .before .before .before .before .before .before .before .before .before .before in
+    let s = a .before .before .before .before .before in
+    let b = now (s .args .book) in
+    let place = entry-place b (a .users .i) (c .before .loop .e) (c .before .loop .inv .1) (c .loop-test .taken) in
+    let most = used-counted b (s .pre .1) (s .pre .0) in
+    (place, omega arith)
 
 cast-good-record-2 : tie.Need-cast-good-record-2 Inv-loop μ-loop Inv-users μ-users
-cast-good-record-2 c = search needs
+cast-good-record-2 c = let place = entry-there c in search needs
 
 mul-good-record-2 : tie.Need-mul-good-record-2 Inv-loop μ-loop Inv-users μ-users
-mul-good-record-2 c = search needs
+mul-good-record-2 c = let place = entry-there c in search needs
 
 array-read-good-record-2 : tie.Need-array-read-good-record-2 Inv-loop μ-loop Inv-users μ-users
-array-read-good-record-2 c =
-    let s = c .before .before .before .before .before .before .before .before .before .before .before .before .before in
-    let b = now (s .args .book) in
-    omega (arith, used-counted b (s .pre .1) (s .pre .0))
+array-read-good-record-2 c = entry-there c .1
 
 good-record-requires-2 : tie.Need-good-record-requires-2 Inv-loop μ-loop Inv-users μ-users
 good-record-requires-2 c κs =
-    let l = c .before .before .before in
-    let a = l .before .before .before .before .before .before in
-    let s = a .before .before .before .before in
-    let b = now (s .args .book) in (
-      a .before .before .counts .ensures (l .loop .e) (omega arith) (omega (arith, used-counted b (s .pre .1) (s .pre .0))),
-      used-whole b (s .pre .1) (l .loop .e) (omega (arith, a .before .used .ensures)),
+    let l = c .before in
+    let a = l .before .before .before .before .before .before .before .before .before .before .before in
+    let s = a .before .before .before .before .before in
+    let b = now (s .args .book) in
+    let place = entry-there c in (
+      a .before .before .before .counts .ensures (l .loop .e) (place .0 .0) (place .1),
+      (
+        λ k. absurd (entry-kind b (a .users .i) (l .loop .e) (l .loop .inv .1) (c .loop-test .taken) k),
+        used-whole b (s .pre .1) (l .loop .e) (place .0 .1),
+      ),
     )
 
-add-e-2 : tie.Need-add-e-2 Inv-loop μ-loop Inv-users μ-users
-add-e-2 c = search needs
+cast-e-2 : tie.Need-cast-e-2 Inv-loop μ-loop Inv-users μ-users
+cast-e-2 c = let place = entry-there (c .before .before) in search needs
+
+mul-e-2 : tie.Need-mul-e-2 Inv-loop μ-loop Inv-users μ-users
+mul-e-2 c = let place = entry-there (c .before .before) in search needs
+
+element-copy-out-e-2 : tie.Need-element-copy-out-e-2 Inv-loop μ-loop Inv-users μ-users
+element-copy-out-e-2 c = entry-there (c .before .before) .1
+
+-- the next one is that before it of the same user
+entry-next : (c : tie.In-loop Inv-loop μ-loop Inv-users μ-users)
+    → getD (c .before .before .before .before .before .before .before .before .before .before .before .before .before .before .by-owner .result .earlier) (c .before .loop .e) 0
+    ≡ lastOwned (now (c .before .before .before .before .before .before .before .before .before .before .before .before .before .before .before .before .before .args .book)) (c .before .before .before .before .before .before .before .before .before .before .before .before .users .i) (c .before .loop .e)
+entry-next c =
+    let a = c .before .before .before .before .before .before .before .before .before .before .before .before in
+    a .before .before .by-owner .ensures .earlier (a .users .i) (c .before .loop .e) (user-place (c .before .before .before .before .before .before .before .before .before .before .before) .0)
+    (c .before .loop .inv .1 .here (c .loop-test .taken))
 
 loop-less : tie.Need-loop-less Inv-loop μ-loop Inv-users μ-users
-loop-less c = search needs
+loop-less c =
+    let t = c .before .before .before in
+    let l = t .before in
+    let a = l .before .before .before .before .before .before .before .before .before .before .before in
+    entry-down (now (a .before .before .before .before .before .args .book)) (a .users .i) (l .loop .e) (l .loop .inv .1) (t .loop-test .taken) _ (entry-next t)
 
 loop-again : tie.Need-loop-again Inv-loop μ-loop Inv-users μ-users
 loop-again c =
-    let l = c .before .before .before in
-    let a = l .before .before .before .before .before .before in
-    let b = now (a .before .before .before .before .args .book) in
-    let told = sym (c .before .belongs .ensures) in (
-      search needs,
-      (
-        l .loop .inv .1 .0,
-        entries-next b (a .users .i) (l .loop .e) (l .loop .inv .1 .1)
-            (⊎-elim (λ w. λ _. sym (w .1 .ensures) ∙ not-false _ (w .2 .left)) (λ w. λ t. absurd (true≢false (sym t ∙ told ∙ w .left))) (c .if3 .came)),
-      ),
+    let t = c .before .before .before in
+    let l = t .before in
+    let a = l .before .before .before .before .before .before .before .before .before .before .before in
+    let good = sym (c .before .before .good-record2 .ensures) ∙ not-false _ (c .before .if3 .left) in (
+      l .loop .inv .0,
+      entries-next (now (a .before .before .before .before .before .args .book)) (a .users .i) (l .loop .e) (l .loop .inv .1) (t .loop-test .taken) _ (entry-next t) good,
     )
 
 owned-requires : tie.Need-owned-requires Inv-loop μ-loop Inv-users μ-users
@@ -125,51 +190,62 @@ users-less c = search needs
 users-again : tie.Need-users-again Inv-loop μ-loop Inv-users μ-users
 users-again c =
     let a = c .before .before .before in
-    let b = now (a .before .before .before .before .args .book) in
-    let records = a .before .used .ensures in
+    let i = a .users .i in
+    let b = now (a .before .before .before .before .before .args .book) in
     let user = sym (c .before .is-user .ensures) in
-    let home : (c .if1 .bad ≡ 0) × Home b (a .users .i) =
+    let before = a .users .inv .1 .1 .0 in
+    let turn : (c .if1 .bad ≡ 0) × (((length (c .if1 .seen) ≡ places) × (c .if1 .all-seen ≡ true → Seen b (i + 1) (c .if1 .seen))) × Home b i) =
     ⊎-elim
-    (λ w. (
-      w .5 ∙ w .3 .inv .1 .0,
-      home-user b (a .users .i) (user ∙ w .0 .taken) (sym (w .1 .ensures) ∙ not-false _ (w .2 .left))
-          (λ e p h. w .3 .inv .1 .1 e p (omega (arith, w .4 .left, records))),
+    (λ w.
+    let number = ap (λ (n : UserNumber). n .0) (w .2 .ensures) in (
+      w .12 ∙ w .8 .inv .0,
+      (
+        rw (w .10, w .11) (w .3 .ensures .0, seen-next b i (a .users .all-seen) (w .3 .result) (before .1) number (w .3 .ensures .1)),
+        home-user b i (user ∙ w .0 .taken) (sym (w .5 .ensures) ∙ not-false _ (w .6 .left)) (λ e p. w .8 .inv .1 .good e (omega (arith, w .9 .left))),
+      ),
     ))
-    (λ w. (w .3 ∙ a .users .inv .1 .0, home-other b (a .users .i) (user ∙ w .0 .left) (sym (w .1 .ensures) ∙ not-false _ (w .2 .left))))
+    (λ w. (
+      w .5 ∙ a .users .inv .1 .0,
+      (
+        rw (w .3, w .4) (before .0, λ all. seen-other b i (user ∙ w .0 .left) (before .1 all)),
+        home-other b i (user ∙ w .0 .left) (sym (w .1 .ensures) ∙ not-false _ (w .2 .left)),
+      ),
+    ))
     (c .if1 .came)
     in
-    (search needs, (home .0, homes-next b (a .users .i) (a .users .inv .1 .1) (home .1)))
+    (search needs, (turn .0, (turn .1 .0, homes-next b i (a .users .inv .1 .1 .1) (turn .1 .1))))
 
 -- by the way that the loops were left
 outcome : (c : tie.Left-users Inv-loop μ-loop Inv-users μ-users)
-    → Outcome (now (c .before .before .before .before .before .args .book)) (c .users-test .bad)
+    → Outcome (now (c .before .before .before .before .before .before .args .book)) (c .users-test .bad)
 outcome c =
     let a = c .before in
-    let s = a .before .before .before .before in
+    let s = a .before .before .before .before .before in
     let b = now (s .args .book) in
+    let i = a .users .i in
     let records = a .before .used .ensures in
     let fits = s .pre .1 in
     ⊎-elim
-    (λ w. outcome-none b (c .users-test .bad) (a .users .i) (w .1 ∙ a .users .inv .1 .0) (omega (arith, w .0 .left, records)) (a .users .inv .1 .1))
+    (λ w. outcome-none b (c .users-test .bad) i (w .2 ∙ a .users .inv .1 .0) (omega (arith, w .0 .left, records)) (a .users .inv .1 .1 .1))
     (⊎-elim
     (λ w.
-    outcome-some b (c .users-test .bad) (a .users .i) fits (w .5) (a .users .inv .0) (omega (arith, w .0 .taken, records))
-    (sym (w .3 .ensures) ∙ not-true _ (w .4 .taken)))
+    outcome-some b (c .users-test .bad) i fits (w .10) (a .users .inv .0) (omega (arith, w .0 .taken, records))
+    (sym (w .7 .ensures) ∙ not-true _ (w .8 .taken)))
     (⊎-elim
     (λ w.
-    outcome-some b (c .users-test .bad) (w .5 .e) fits (w .11) (omega (arith, w .5 .inv .0)) (omega (arith, w .6 .taken, records))
-    (sym (w .9 .ensures) ∙ not-true _ (w .10 .taken)))
+    let place = entry-place b i (w .10 .e) (w .10 .inv .1) (w .11 .taken) in
+    outcome-some b (c .users-test .bad) (w .10 .e) fits (w .15) (place .0) (place .1) (sym (w .12 .ensures) ∙ not-true _ (w .13 .taken)))
     (λ w.
-    outcome-some b (c .users-test .bad) (a .users .i) fits (w .5) (a .users .inv .0) (omega (arith, w .0 .taken, records))
-    (stray-bad b (a .users .i) (a .users .inv .0) (omega (arith, w .0 .taken, records)) (sym (w .1 .ensures) ∙ w .2 .left)
+    outcome-some b (c .users-test .bad) i fits (w .6) (a .users .inv .0) (omega (arith, w .0 .taken, records))
+    (stray-bad b i (a .users .inv .0) (omega (arith, w .0 .taken, records)) (sym (w .1 .ensures) ∙ w .2 .left)
     (sym (w .3 .ensures) ∙ not-true _ (w .4 .taken))))))
     (c .users-test .came)
 
 returns : tie.Need-returns Inv-loop μ-loop Inv-users μ-users
-returns c = outcome (c .before) .none (c .if6 .taken)
+returns c = outcome (c .before) .none (c .if5 .taken)
 
 returns-2 : tie.Need-returns-2 Inv-loop μ-loop Inv-users μ-users
-returns-2 c = outcome (c .before) .some (c .if6 .left)
+returns-2 c = outcome (c .before) .some (c .if5 .left)
 
 pub judge-records-spec : {M : Type 1} → statement M
 judge-records-spec =
@@ -180,21 +256,28 @@ judge-records-spec =
     Inv-users
     μ-users
     counts-requires
+    by-owner-requires
     used-requires
     users-holds
     is-user-requires
+    number-of-requires
+    put-requires
+    is-new-requires
     cast-good-record
     mul-good-record
     array-read-good-record
     good-record-requires
-    add-e
+    cast-e
+    mul-e
+    element-copy-out-e
     loop-holds
-    belongs-requires
     cast-good-record-2
     mul-good-record-2
     array-read-good-record-2
     good-record-requires-2
-    add-e-2
+    cast-e-2
+    mul-e-2
+    element-copy-out-e-2
     loop-less
     loop-again
     owned-requires
