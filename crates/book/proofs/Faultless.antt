@@ -12,7 +12,7 @@ use Rattle.records.specs.Records.{advanceIn, closingIn}
 use Rattle.book.specs.Book.{lengthFits, used, usedFits, kindAt, hasKind, isUser, isAdvance, isClosing, isEntry, accountAt, ownerOf, accountFits, advanceFits, closingFits, rangesFit, zeroBytesFit, userNextFits, numberIsNew, firstEntryFits, firstInOrder, ownerFits, entryNextFits, nextInOrder, pointedOnce, linksFit, goodRecord, goodHead, sound}
 use Rattle.book.proofs.RecordKinds.{kind-index, kind-is}
 use Rattle.book.proofs.Lengths.{capacity-least}
-pub use Rattle.book.proofs.Faults.{used-within}
+use Rattle.book.proofs.Faults.{used-within}
 use Rattle.book.proofs.Faults.{faulty-unfit, faulty-head, faulty-record, none-faulty, good-sound}
 
 -- what a good user meets

@@ -5,7 +5,7 @@ use mathlib.Core.Bool.{Bool, true, false}
 use mathlib.Core.List.{List}
 use native.Mathlib.Omega.{arith}
 use Rattle.book.specs.Book.{used, isUser, isEntry, ownerOf, nextOf, rankOf}
-pub use Rattle.book.proofs.RecordKinds.{not-both}
+use Rattle.book.proofs.RecordKinds.{not-both}
 use Rattle.owners.specs.Owners.{owns}
 use Rattle.owners.proofs.Last.{owns-own, owns-no-other}
 use Rattle.descent.specs.Descent.{met, dueUser, dueEntry, dueYear, MetUser, MetEntry}

@@ -16,11 +16,11 @@ use Rattle.units.proofs.Folds.{below-suc}
 use Rattle.layout.specs.Fields.{recordLength, get, zeros, recordAt, kindField, numberField, nextField, ownerField, yearField, userKind, advanceKind, closingKind}
 use Rattle.records.specs.Records.{accountIn, advanceIn, closingIn}
 use Rattle.book.specs.Book.{used, usedFits, firstUser, kindAt, isUser, isEntry, isAdvance, isClosing, ownerOf, nextOf, firstEntryOf, openYearOf, activationOf, numberOf, rankOf, accountFits, advanceFits, closingFits, rangesFit, zeroBytesFit, lengthFits, detailsFit, openYearFits, runsFit, advancesFit, creditFits, halvesFit, sound}
-use Rattle.book.proofs.Faultless.{used-within}
-use Rattle.book.proofs.RecordKinds.{has-kind, kind-is, advance-entry, closing-entry}
+use Rattle.book.proofs.Faults.{used-within}
+use Rattle.book.proofs.RecordKinds.{has-kind, kind-is, advance-entry, closing-entry, not-both}
 use Rattle.pointers.specs.Pointers.{mostRecords}
 use Rattle.descent.specs.Descent.{met, dueUser, dueEntry, dueYear, MetUser, MetEntry}
-use Rattle.descent.proofs.Steps.{met-at, not-both, user-moves, user-keeps-entry, user-keeps-year, entry-keeps-user, entry-moves, entry-moves-year, entry-keeps-other, entry-keeps-year}
+use Rattle.descent.proofs.Steps.{met-at, user-moves, user-keeps-entry, user-keeps-year, entry-keeps-user, entry-moves, entry-moves-year, entry-keeps-other, entry-keeps-year}
 use Rattle.descent.proofs.Sound.{passed-sound}
 use Rattle.calls.specs.Bookings.{findBelow, findUser}
 use Rattle.calls.proofs.Search.{found-none}

@@ -5,9 +5,12 @@ use mathlib.Core.Path.{_≡_}
 use mathlib.Core.Bool.{true, false, cond}
 use mathlib.Core.List.{List}
 use lib.ListN.{length}
+use Rattle.units.specs.Units.{recordIndex}
 use Rattle.book.specs.Book.{lengthFits, freshBook, used, goodRecord, faulty, sound}
+use Rattle.calls.specs.Bookings.{findUser}
 use Rattle.soundness.specs.declared.Verdict.{Verdict}
 use Rattle.soundness.specs.declared.Checked.{Checked}
+use Rattle.soundness.specs.declared.Found.{Found}
 
 -- of the records but the head, where u fits
 abbrev pub RecordsJudged : List ℕ → Verdict → Type 0
@@ -33,6 +36,12 @@ abbrev pub BookChecked : List ℕ → Checked → Type 0
 BookChecked b Checked.Length = lengthFits b ≡ false
 BookChecked b Checked.Sound = Accepted b
 BookChecked b (Checked.Faulty i) = Objected b (i .0)
+
+-- the same, and where the book is sound the user with a number, 0 for none
+abbrev pub BookSearched : List ℕ → ℕ → Found → Type 0
+BookSearched b n Found.Length = lengthFits b ≡ false
+BookSearched b n (Found.Sound i) = Accepted b × (i ≡ recordIndex (findUser b n))
+BookSearched b n (Found.Faulty i) = Objected b (i .0)
 
 -- "fresh 1": the only refusal of fresh
 unfoldable pub freshAnswer : List ℕ → ℕ

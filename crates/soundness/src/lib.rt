@@ -5,8 +5,9 @@ ghost use mathlib.Core.Bool.{true, _&&_};
 ghost use lib.ListN.{length};
 ghost use Rattle.book.specs.Book.{lengthFits, usedFits, isEntry, ownerFits, numberIsNew};
 ghost use Rattle.numbers.specs.Held.{places, Inserted};
-ghost use Rattle.soundness.specs.Verdicts.{RecordsJudged, Judged, BookChecked, freshAnswer, freshAfter};
+ghost use Rattle.soundness.specs.Verdicts.{RecordsJudged, Judged, BookSearched, BookChecked, freshAnswer, freshAfter};
 use numbers::PLACES;
+use pass::Passed;
 use units::RecordIndex;
 use units::UserNumber;
 use view::is_entry;
@@ -24,6 +25,13 @@ pub enum Verdict {
 pub enum Checked {
     Length,
     Sound,
+    Faulty(RecordIndex),
+}
+
+// The same, and where the book is sound the user with a number, 0 for none.
+pub enum Found {
+    Length,
+    Sound(RecordIndex),
     Faulty(RecordIndex),
 }
 
@@ -115,19 +123,31 @@ fn judge(book: &[u8]) -> Verdict
     judge_records(book)
 }
 
-// Refusals 1 and 2 of every call look at this. Most books are sound, and one pass tells it; any other is judged.
+// Refusals 1 and 2 of every call look at this, and the user that the call names is found with it. Most books are sound, and one
+// pass tells it; any other is judged.
+pub fn find(book: &[u8], number: UserNumber) -> Found
+    ensures { λ r. ⌜ BookSearched (now (book .entry)) (number .0) r ⌝ }
+{
+    if !book::length_fits(book) {
+        return Found::Length;
+    }
+    match pass::find(book, number) {
+        Passed::Sound(user) => Found::Sound(user),
+        Passed::Unsure => match judge(book) {
+            Verdict::Sound => Found::Sound(lookup::find_user(book, number)),
+            Verdict::Faulty(index) => Found::Faulty(index),
+        },
+    }
+}
+
+// The check alone. No user has the number 0.
 pub fn check(book: &[u8]) -> Checked
     ensures { λ r. ⌜ BookChecked (now (book .entry)) r ⌝ }
 {
-    if !book::length_fits(book) {
-        return Checked::Length;
-    }
-    if pass::accepts(book) {
-        return Checked::Sound;
-    }
-    match judge(book) {
-        Verdict::Sound => Checked::Sound,
-        Verdict::Faulty(index) => Checked::Faulty(index),
+    match find(book, UserNumber(0)) {
+        Found::Length => Checked::Length,
+        Found::Sound(_) => Checked::Sound,
+        Found::Faulty(index) => Checked::Faulty(index),
     }
 }
 

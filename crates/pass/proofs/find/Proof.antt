@@ -15,7 +15,7 @@ use Rattle.units.proofs.Bools.{and-left, and-right, or-left, or-right}
 use Rattle.layout.specs.Fields.{recordLength, zeros, recordAt}
 use Rattle.layout.proofs.Places.{length-record}
 use Rattle.book.specs.Book.{usedFits, firstUser}
-use Rattle.book.proofs.Faultless.{used-within}
+use Rattle.book.proofs.Faults.{used-within}
 use Rattle.pointers.specs.Pointers.{mostRecords}
 use Rattle.numbers.specs.Held.{places}
 use Rattle.pass.proofs.Descended.{Descended, Roomy, roomy, started, number-some, user-met, entry-met, descended, searched}

@@ -1,73 +1,52 @@
--- By the length, then as passed or as judged.
-use mathlib.Core.Path.{_≡_, sym, subst, _∙_}
-use mathlib.Core.Bool.{true}
+-- What the search says of the book.
 use Prim.Native.Nat.{ℕ}
+use mathlib.Core.Path.{_≡_, subst}
+use mathlib.Core.Bool.{false}
 use mathlib.Core.List.{List}
 use denote.Ref.{now}
-use Rattle.book.specs.Book.{lengthFits}
-use borrow.Author.Tests.{not-true, not-false}
 use Rattle.units.specs.declared.RecordIndex.{RecordIndex}
-use Rattle.soundness.specs.declared.Verdict.{Verdict}
-use Rattle.soundness.specs.declared.Verdict.the-variants.{Sound, Faulty}
-use Rattle.soundness.specs.Verdicts.{Judged, Accepted, Objected}
+use Rattle.book.specs.Book.{lengthFits}
+use Rattle.soundness.specs.declared.Found.{Found}
+use Rattle.soundness.specs.declared.Found.the-variants as found
+use Rattle.soundness.specs.Verdicts.{BookSearched, Accepted, Objected}
 use borrow.Author.Needs.{needs}
 use Rattle.soundness.proofs.check.Statement.{statement}
 use Rattle.soundness.proofs.check.Tie as tie
 
-accepted : (b : List ℕ) → lengthFits b ≡ true → (v : Verdict) → Judged b v → v ≡ Sound → Accepted b
-accepted b f v j e = record { fits = f; isSound = subst (Judged b) e j }
+module _ (b : List ℕ) (n : ℕ) (f : Found) (said : BookSearched b n f) where
+  short : f ≡ found.Length → lengthFits b ≡ false
+  short e = subst (BookSearched b n) e said
 
-objected : (b : List ℕ) → lengthFits b ≡ true → (v : Verdict) (i : RecordIndex) → Judged b v → v ≡ Faulty i → Objected b (i .0)
-objected b f v i j e = record { fits = f; isFaulty = subst (Judged b) e j }
+  accepted : (i : RecordIndex) → f ≡ found.Sound i → Accepted b
+  accepted i e = subst (BookSearched b n) e said .0
 
-length-fits-requires : tie.Need-length-fits-requires
-length-fits-requires c κs = search needs
+  objected : (i : RecordIndex) → f ≡ found.Faulty i → Objected b (i .0)
+  objected i e = subst (BookSearched b n) e said
 
-returns : tie.Need-returns
-returns c = sym (c .before .length-fits .ensures) ∙ not-true _ (c .if1 .taken)
-
-accepts-requires : tie.Need-accepts-requires
-accepts-requires c κs = sym (c .before .length-fits .ensures) ∙ not-false _ (c .if1 .left)
-
-returns-2 : tie.Need-returns-2
-returns-2 c =
-    let s = c .before .before in
-    record { fits = sym (s .before .length-fits .ensures) ∙ not-false _ (s .if1 .left); isSound = c .before .accepts .ensures (c .if2 .taken) }
-
-judge-requires : tie.Need-judge-requires
-judge-requires c κs =
-    let s = c .before .before in
-    sym (s .before .length-fits .ensures) ∙ not-false _ (s .if1 .left)
+find-requires : tie.Need-find-requires
+find-requires c κs = search needs
 
 enum-told : tie.Need-enum-told
 enum-told c = search needs
 
+enum-told-2 : tie.Need-enum-told-2
+enum-told-2 c = search needs
+
 enum-known-index : tie.Need-enum-known-index
 enum-known-index c = search needs
 
+returns : tie.Need-returns
+returns c = short (now (c .before .before .before .before .args .book)) 0 (c .before .before .find .result) (c .before .before .find .ensures) (c .enum-told .given .1)
+
+returns-2 : tie.Need-returns-2
+returns-2 c = accepted (now (c .before .before .before .before .args .book)) 0 (c .before .before .find .result) (c .before .before .find .ensures) (c .enum-told2 .given .0 .0) (c .enum-told2 .given .1)
+
 returns-3 : tie.Need-returns-3
 returns-3 c =
-    let s = c .before .before .before .before .before in
-    let b = now (s .before .before .before .args .book) in
-    accepted b (sym (s .before .length-fits .ensures) ∙ not-false _ (s .if1 .left)) (c .before .before .judge .result) (c .before .before .judge .ensures) (c .enum-told .given .1)
-
-returns-4 : tie.Need-returns-4
-returns-4 c =
     let i = c .before .index .given in
-    let s = c .before .before .before .before .before .before in
-    let b = now (s .before .before .before .args .book) in
-    objected b (sym (s .before .length-fits .ensures) ∙ not-false _ (s .if1 .left)) (c .before .before .before .judge .result) (i .0 .0) (c .before .before .before .judge .ensures) (i .1)
+    objected (now (c .before .before .before .before .before .args .book)) 0 (c .before .before .before .find .result) (c .before .before .before .find .ensures) (i .0 .0) (i .1)
 
 pub check-spec : {M : Type 1} → statement M
 check-spec =
     tie.close
-    (tie.spec
-    length-fits-requires
-    returns
-    accepts-requires
-    returns-2
-    judge-requires
-    enum-told
-    enum-known-index
-    returns-3
-    returns-4)
+    (tie.spec find-requires enum-told enum-told-2 enum-known-index returns returns-2 returns-3)
