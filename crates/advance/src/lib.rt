@@ -2,9 +2,9 @@
 ghost use mathlib.Core.Path.{_≡_};
 ghost use mathlib.Core.Bool.{true, cond};
 ghost use lib.Dec.{eqb};
-ghost use Rattle.units.specs.Units.{ticks};
+ghost use Rattle.units.specs.Units.{recordIndex, ticks};
 ghost use Rattle.book.specs.Book.{halvesFit};
-ghost use Rattle.calls.specs.Bookings.{runAmount, advanced};
+ghost use Rattle.calls.specs.Bookings.{findUser, runAmount, advanced};
 ghost use Rattle.calls.specs.Refusals.{orderFits};
 ghost use Rattle.calls.specs.Calls.{advance};
 ghost use Rattle.soundness.specs.Verdicts.{Accepted};
@@ -12,7 +12,7 @@ ghost use Rattle.answers.specs.Answers.{Answered};
 ghost use Rattle.advance.specs.Advances.{RunFits, ticksAnswered};
 use accounts::Account;
 use records::AdvanceRecord;
-use soundness::Checked;
+use soundness::Found;
 use units::Kwh;
 use units::Rate;
 use units::RecordIndex;
@@ -65,6 +65,7 @@ fn book_run(book: &mut [u8], user: RecordIndex, account: Account, run: u8, paid:
 
 fn advance_sound(
     book: &mut [u8],
+    user: RecordIndex,
     number: UserNumber,
     year: u32,
     run: u8,
@@ -73,10 +74,10 @@ fn advance_sound(
     estimate2: WideKwh,
 ) -> Advanced
     requires { ⌜ Accepted (now book) ⌝ }
+    requires { ⌜ user ≡ recordIndex (findUser (now book) (number .0)) ⌝ }
     ensures { λ answer. ⌜ Answered (now (book .entry)) (advance (number .0) year run (price .0) (estimate1 .0) (estimate2 .0)) 0 (answer .refusal) (answer .record .0) (now (book .exit)) ⌝ }
     ensures { λ answer. ⌜ answer .ticks ≡ ticksAnswered (now (book .entry)) (number .0) year run (price .0) (estimate1 .0) (estimate2 .0) (answer .refusal) ⌝ }
 {
-    let user = lookup::find_user(book, number);
     let account = view::account_at(book, user);
     let room = refusals::has_room(book);
     let refusal = refusals::advance_objection(
@@ -117,17 +118,17 @@ pub fn advance(
     ensures { λ r. ⌜ Answered (now (book .entry)) (advance (number .0) year run (price .0) (estimate1 .0) (estimate2 .0)) 0 (r .refusal) (r .record .0) (now (book .exit)) ⌝ }
     ensures { λ r. ⌜ r .ticks ≡ ticksAnswered (now (book .entry)) (number .0) year run (price .0) (estimate1 .0) (estimate2 .0) (r .refusal) ⌝ }
 {
-    match soundness::check(book) {
-        Checked::Length => Advanced {
+    match soundness::find(book, number) {
+        Found::Length => Advanced {
             refusal: 1,
             record: RecordIndex(0),
             ticks: Ticks(0),
         },
-        Checked::Faulty(index) => Advanced {
+        Found::Faulty(index) => Advanced {
             refusal: 2,
             record: index,
             ticks: Ticks(0),
         },
-        Checked::Sound => advance_sound(book, number, year, run, price, estimate1, estimate2),
+        Found::Sound(user) => advance_sound(book, user, number, year, run, price, estimate1, estimate2),
     }
 }

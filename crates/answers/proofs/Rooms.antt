@@ -6,13 +6,17 @@ use mathlib.Core.List.{List}
 use native.Mathlib.Omega.{arith}
 use lib.ListN.{length}
 use Rattle.layout.specs.Fields.{recordLength, userKind}
+use Rattle.units.specs.declared.RecordIndex.{RecordIndex}
+use Rattle.units.specs.Units.{recordIndex}
 use Rattle.accounts.specs.declared.Account.{Account}
 use Rattle.book.specs.Book.{used, usedFits, isUser, accountAt}
-use Rattle.book.proofs.Faults.{used-whole, used-counted}
+use Rattle.book.proofs.Faults.{used-within, used-whole, used-counted}
 use Rattle.book.proofs.RecordKinds.{kind-index}
 use Rattle.book.proofs.Faultless.{sound-faultless}
 use Rattle.soundness.specs.Verdicts.{Accepted}
+use Rattle.calls.specs.Bookings.{findUser}
 use Rattle.calls.specs.Refusals.{refuse, hasRoom}
+use Rattle.calls.proofs.Search.{found-used}
 use Rattle.bookings.proofs.Good.{room-left}
 use Rattle.answers.specs.Rooms.{EntryFits}
 
@@ -22,6 +26,10 @@ module _ (b : List ℕ) (a : Accepted b) where
 
   pub user-stands : (i : ℕ) → isUser b i ≡ true → recordLength * i + recordLength ≤ length b
   user-stands i u = used-whole b used-fits i (kind-index b userKind i u .1 .0)
+
+  -- so does the record of the user that is found, or the head where none is
+  pub found-stands : (n : ℕ) (user : RecordIndex) → user ≡ recordIndex (findUser b n) → recordLength * user .0 + recordLength ≤ length b
+  found-stands n user e = rw e (used-whole b used-fits (findUser b n) (found-used b n (used-within b used-fits .0)))
 
   pub room-stands : hasRoom b ≡ true → recordLength * used b + recordLength ≤ length b
   room-stands h = omega (arith, room-left b used-fits h)

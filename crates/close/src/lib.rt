@@ -3,9 +3,10 @@ ghost use mathlib.Core.Path.{_≡_};
 ghost use mathlib.Core.List.{List};
 ghost use Prim.Native.Nat.{ℕ};
 ghost use Rattle.units.specs.Units.{recordIndex};
+ghost use Rattle.sheet.specs.YearSheet.{sheetUser};
 ghost use Rattle.accounts.specs.Account.{closedOf};
 ghost use Rattle.book.specs.Book.{firstEntryOf, accountAt};
-ghost use Rattle.calls.specs.Bookings.{closingEntry, closed};
+ghost use Rattle.calls.specs.Bookings.{findUser, closingEntry, closed};
 ghost use Rattle.calls.specs.Calls.{close};
 ghost use Rattle.soundness.specs.Verdicts.{Accepted};
 ghost use Rattle.answers.specs.Answers.{Answered};
@@ -14,7 +15,7 @@ use accounts::Account;
 use accounts::Balance;
 use accounts::Settlement;
 use records::ClosingRecord;
-use soundness::Checked;
+use soundness::Found;
 use units::RecordIndex;
 use units::Ticks;
 use values::YearValues;
@@ -123,12 +124,12 @@ fn book_year(
     entry_sums(entry)
 }
 
-fn close_sound(book: &mut [u8], s: &[u8]) -> Closed
+fn close_sound(book: &mut [u8], user: RecordIndex, s: &[u8]) -> Closed
     requires { ⌜ Accepted (now book) ⌝ }
+    requires { ⌜ user ≡ recordIndex (findUser (now book) (sheetUser (now s))) ⌝ }
     ensures { λ answer. ⌜ Answered (now (book .entry)) (close (now (s .entry))) 0 (answer .refusal) (answer .record .0) (now (book .exit)) ⌝ }
     ensures { λ answer. ⌜ answer .sums ≡ sumsAnswered (now (book .entry)) (now (s .entry)) (answer .refusal) ⌝ }
 {
-    let user = lookup::find_user(book, sheet::user(s));
     let account = view::account_at(book, user);
     let room = refusals::has_room(book);
     let refusal = refusals::close_objection(s, user, account, room);
@@ -152,17 +153,17 @@ pub fn close(book: &mut [u8], s: &[u8]) -> Closed
     ensures { λ r. ⌜ Answered (now (book .entry)) (close (now (s .entry))) 0 (r .refusal) (r .record .0) (now (book .exit)) ⌝ }
     ensures { λ r. ⌜ r .sums ≡ sumsAnswered (now (book .entry)) (now (s .entry)) (r .refusal) ⌝ }
 {
-    match soundness::check(book) {
-        Checked::Length => Closed {
+    match soundness::find(book, sheet::user(s)) {
+        Found::Length => Closed {
             refusal: 1,
             record: RecordIndex(0),
             sums: no_sums(),
         },
-        Checked::Faulty(index) => Closed {
+        Found::Faulty(index) => Closed {
             refusal: 2,
             record: index,
             sums: no_sums(),
         },
-        Checked::Sound => close_sound(book, s),
+        Found::Sound(user) => close_sound(book, user, s),
     }
 }

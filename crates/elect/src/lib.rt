@@ -1,15 +1,18 @@
 // Election (document 01, "Election and advances"): refusals 1 2 6 7 8, then the option.
 ghost use mathlib.Core.Path.{_≡_};
+ghost use Rattle.units.specs.Units.{recordIndex};
+ghost use Rattle.calls.specs.Bookings.{findUser};
 ghost use Rattle.calls.specs.Calls.{elect};
 ghost use Rattle.soundness.specs.Verdicts.{Accepted};
 ghost use Rattle.answers.specs.Answers.{Answered};
 use answers::Booked;
-use soundness::Checked;
+use soundness::Found;
 use units::RecordIndex;
 use units::UserNumber;
 
 fn elect_sound(
     book: &mut [u8],
+    user: RecordIndex,
     number: UserNumber,
     option: u8,
     year: u32,
@@ -17,9 +20,9 @@ fn elect_sound(
     day: u32,
 ) -> Booked
     requires { ⌜ Accepted (now book) ⌝ }
+    requires { ⌜ user ≡ recordIndex (findUser (now book) (number .0)) ⌝ }
     ensures { λ answer. ⌜ Answered (now (book .entry)) (elect (number .0) option year month day) 0 (answer .refusal) (answer .record .0) (now (book .exit)) ⌝ }
 {
-    let user = lookup::find_user(book, number);
     let account = view::account_at(book, user);
     let refusal = refusals::elect_objection(user, account, option, year, month, day);
     if refusal == 0 {
@@ -45,15 +48,15 @@ pub fn elect(
 ) -> Booked
     ensures { λ r. ⌜ Answered (now (book .entry)) (elect (number .0) option year month day) 0 (r .refusal) (r .record .0) (now (book .exit)) ⌝ }
 {
-    match soundness::check(book) {
-        Checked::Length => Booked {
+    match soundness::find(book, number) {
+        Found::Length => Booked {
             refusal: 1,
             record: RecordIndex(0),
         },
-        Checked::Faulty(index) => Booked {
+        Found::Faulty(index) => Booked {
             refusal: 2,
             record: index,
         },
-        Checked::Sound => elect_sound(book, number, option, year, month, day),
+        Found::Sound(user) => elect_sound(book, user, number, option, year, month, day),
     }
 }

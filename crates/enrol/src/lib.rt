@@ -1,13 +1,14 @@
 // Enrolment (document 01, "Calls"): refusals 1 2 4 5 3, then a new user in front of the users' chain.
 ghost use mathlib.Core.Path.{_≡_};
+ghost use Rattle.units.specs.Units.{recordIndex};
 ghost use Rattle.book.specs.Book.{used};
-ghost use Rattle.calls.specs.Bookings.{newAccount};
+ghost use Rattle.calls.specs.Bookings.{findUser, newAccount};
 ghost use Rattle.calls.specs.Calls.{enrol};
 ghost use Rattle.soundness.specs.Verdicts.{Accepted};
 ghost use Rattle.answers.specs.Answers.{Answered};
 use accounts::Account;
 use answers::Booked;
-use soundness::Checked;
+use soundness::Found;
 use units::Kwh;
 use units::RecordIndex;
 use units::Ticks;
@@ -31,11 +32,11 @@ fn new_account(number: UserNumber, details: Details, option: u8) -> Account
     }
 }
 
-fn enrol_sound(book: &mut [u8], number: UserNumber, details: Details, option: u8) -> Booked
+fn enrol_sound(book: &mut [u8], user: RecordIndex, number: UserNumber, details: Details, option: u8) -> Booked
     requires { ⌜ Accepted (now book) ⌝ }
+    requires { ⌜ user ≡ recordIndex (findUser (now book) (number .0)) ⌝ }
     ensures { λ answer. ⌜ Answered (now (book .entry)) (enrol (number .0) details option) (used (now (book .entry))) (answer .refusal) (answer .record .0) (now (book .exit)) ⌝ }
 {
-    let user = lookup::find_user(book, number);
     let room = refusals::has_room(book);
     let refusal = refusals::enrol_objection(number, user, details, option, room);
     if refusal == 0 {
@@ -53,15 +54,15 @@ fn enrol_sound(book: &mut [u8], number: UserNumber, details: Details, option: u8
 pub fn enrol(book: &mut [u8], number: UserNumber, details: Details, option: u8) -> Booked
     ensures { λ r. ⌜ Answered (now (book .entry)) (enrol (number .0) details option) (used (now (book .entry))) (r .refusal) (r .record .0) (now (book .exit)) ⌝ }
 {
-    match soundness::check(book) {
-        Checked::Length => Booked {
+    match soundness::find(book, number) {
+        Found::Length => Booked {
             refusal: 1,
             record: RecordIndex(0),
         },
-        Checked::Faulty(index) => Booked {
+        Found::Faulty(index) => Booked {
             refusal: 2,
             record: index,
         },
-        Checked::Sound => enrol_sound(book, number, details, option),
+        Found::Sound(user) => enrol_sound(book, user, number, details, option),
     }
 }

@@ -1,11 +1,13 @@
 // The statement of a user (document 01, "Election and advances"): refusals 1 2 6, then the sums over its chain.
 ghost use mathlib.Core.Path.{_≡_};
+ghost use Rattle.units.specs.Units.{recordIndex};
+ghost use Rattle.calls.specs.Bookings.{findUser};
 ghost use Rattle.calls.specs.Calls.{statement};
 ghost use Rattle.soundness.specs.Verdicts.{Accepted};
 ghost use Rattle.answers.specs.Answers.{Answered};
 ghost use Rattle.statement.specs.Stated.{noSums, sumsStated};
 use accounts::Balance;
-use soundness::Checked;
+use soundness::Found;
 use statements::Sums;
 use units::RecordIndex;
 use units::Ticks;
@@ -35,12 +37,12 @@ fn no_sums() -> Sums
     }
 }
 
-fn statement_sound(book: &[u8], number: UserNumber) -> Stated
+fn statement_sound(book: &[u8], user: RecordIndex, number: UserNumber) -> Stated
     requires { ⌜ Accepted (now book) ⌝ }
+    requires { ⌜ user ≡ recordIndex (findUser (now book) (number .0)) ⌝ }
     ensures { λ answer. ⌜ Answered (now (book .entry)) (statement (number .0)) 0 (answer .refusal) (answer .record .0) (now (book .entry)) ⌝ }
     ensures { λ answer. ⌜ answer .sums ≡ sumsStated (now (book .entry)) (number .0) (answer .refusal) ⌝ }
 {
-    let user = lookup::find_user(book, number);
     if user.0 == 0 {
         return Stated {
             refusal: 6,
@@ -59,17 +61,17 @@ pub fn statement(book: &[u8], number: UserNumber) -> Stated
     ensures { λ r. ⌜ Answered (now (book .entry)) (statement (number .0)) 0 (r .refusal) (r .record .0) (now (book .entry)) ⌝ }
     ensures { λ r. ⌜ r .sums ≡ sumsStated (now (book .entry)) (number .0) (r .refusal) ⌝ }
 {
-    match soundness::check(book) {
-        Checked::Length => Stated {
+    match soundness::find(book, number) {
+        Found::Length => Stated {
             refusal: 1,
             record: RecordIndex(0),
             sums: no_sums(),
         },
-        Checked::Faulty(index) => Stated {
+        Found::Faulty(index) => Stated {
             refusal: 2,
             record: index,
             sums: no_sums(),
         },
-        Checked::Sound => statement_sound(book, number),
+        Found::Sound(user) => statement_sound(book, user, number),
     }
 }
