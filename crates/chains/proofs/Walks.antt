@@ -10,9 +10,10 @@ use Rattle.layout.specs.Fields.{recordLength}
 use Rattle.book.specs.Book.{lengthFits, sound, isUser, isEntry, nextOf, firstEntryOf}
 use Rattle.book.proofs.Faultless.{Faultless, sound-faultless}
 use Rattle.book.proofs.Faults.{used-whole}
+use Rattle.book.proofs.RecordKinds.{user-index, entry-index}
 use Rattle.chains.specs.Chains.{chainFrom}
 use Rattle.chains.proofs.Chain.{On, Falls, inside, on-next, less, chain-cons}
-use Rattle.chains.proofs.Links.{user-index, entry-index, entry-next, first-entry}
+use Rattle.chains.proofs.Links.{entry-next, first-entry}
 
 -- A TURN: the walk stands at an index of the set and not at the end
 module _ (P : ℕ → Type 0) (next : ℕ → ℕ) (falls : Falls P next) (at : ℕ) (on : On P at) (more : at ≡ 0 → ⊥) where

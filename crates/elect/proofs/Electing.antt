@@ -1,28 +1,23 @@
 -- An election on a sound book: refused by its objection, or booked as the definition has it.
-use Prim.Native.Nat.{ℕ, _+_, _*_, _≤_}
+use Prim.Native.Nat.{ℕ}
 use mathlib.Core.Path.{_≡_, ap, sym, _∙_}
 use mathlib.Core.Bool.{Bool, true, false, not}
 use mathlib.Core.List.{List}
 use native.Mathlib.Omega.{arith}
-use borrow.Author.Tests.{eqb-false, not-true}
 use lib.Dec.{eqb}
-use lib.ListN.{length}
 use Rattle.units.specs.declared.RecordIndex.{RecordIndex}
 use Rattle.units.specs.Units.{recordIndex}
 use Rattle.accounts.specs.declared.Account.{Account}
 use Rattle.accounts.specs.Account.{accountElected}
-use Rattle.layout.specs.Fields.{recordLength}
 use Rattle.book.specs.Book.{accountAt}
 use Rattle.soundness.specs.Verdicts.{Accepted}
 use Rattle.calls.specs.Bookings.{findUser, withAccount, elected}
 use Rattle.calls.specs.Refusals.{refuse, present, dayAndOption, electionOpen, electRefusal}
 use Rattle.calls.specs.Calls.{Call, elect, refusalOf, booked}
 use Rattle.refusals.specs.Objections.{electObjection}
-use Rattle.bookings.proofs.Accepted.{elect-accepted}
-use Rattle.bookings.proofs.Numbers.{found}
 use Rattle.answers.specs.Answers.{Answered}
 use Rattle.answers.proofs.Answers.{refused, accepted}
-use Rattle.answers.proofs.Rooms.{user-stands, refuse-apart}
+use Rattle.answers.proofs.Rooms.{refuse-apart}
 
 module _ (b : List ℕ) (a : Accepted b) (n o y m d : ℕ) (user : RecordIndex) (account : Account) (there : user ≡ recordIndex (findUser b n)) (read : account ≡ accountAt b (user .0)) where
   sound-refusal : electObjection (user .0) account o y m d ≡ electRefusal b n o y m d
@@ -48,10 +43,3 @@ module _ (b : List ℕ) (a : Accepted b) (n o y m d : ℕ) (user : RecordIndex) 
     unfolding booked elected
     elect-booked none next f after g =
         accepted b (elect n o y m d) 0 after (sym refusal-is ∙ none) (g ∙ rw (f, read, there))
-
-    pub elect-stands : r ≡ 0 → recordLength * user .0 + recordLength ≤ length b
-    unfolding present
-    elect-stands none =
-        let known = elect-accepted b n o y m d (sym (objection ∙ sound-refusal) ∙ none) .found in
-        let some = eqb-false (findUser b n) 0 (not-true (eqb (findUser b n) 0) known) in
-        rw there (user-stands b a (findUser b n) (found b n some .user))
