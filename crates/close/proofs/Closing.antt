@@ -8,8 +8,7 @@ use borrow.Author.Tests.{ne-eqb, not-true, eqb-true, leb-true}
 use lib.Dec.{eqb, leb}
 use Rattle.units.proofs.Bools.{and-left, and-right}
 use Rattle.units.specs.declared.RecordIndex.{RecordIndex}
-use Rattle.units.specs.declared.UserNumber.{UserNumber}
-use Rattle.units.specs.Units.{recordIndex, userNumber}
+use Rattle.units.specs.Units.{recordIndex}
 use Rattle.units.specs.Limits.{lastActivation}
 use Rattle.sheet.specs.YearSheet.{sheetUser, sheetYear, refused11, refused13, refused14, Passed}
 use Rattle.values.specs.declared.YearValues.{YearValues}
@@ -55,23 +54,20 @@ in-range a v year fits values is-open =
       year = omega (arith, same, last);
     }
 
-module _ (b : List ℕ) (a : Accepted b) (s : List ℕ) (number : UserNumber) (user : RecordIndex) (account : Account) (room : Bool)
-    (named : number ≡ userNumber (sheetUser s)) (there : user ≡ recordIndex (findUser b (number .0))) (read : account ≡ accountAt b (user .0)) (left : room ≡ hasRoom b) where
+module _ (b : List ℕ) (a : Accepted b) (s : List ℕ) (user : RecordIndex) (account : Account) (room : Bool)
+    (there : user ≡ recordIndex (findUser b (sheetUser s))) (read : account ≡ accountAt b (user .0)) (left : room ≡ hasRoom b) where
   abbrev n : ℕ
   n = sheetUser s
 
-  user-is : user ≡ recordIndex (findUser b n)
-  user-is = there ∙ ap (λ x. recordIndex (findUser b (x .0))) named
-
   account-is : account ≡ accountAt b (findUser b n)
-  account-is = read ∙ ap (λ i. accountAt b (i .0)) user-is
+  account-is = read ∙ ap (λ i. accountAt b (i .0)) there
 
   abbrev objected : ℕ
   objected = closeObjection s (user .0) account room
 
   sound-refusal : objected ≡ closeRefusal b s
   unfolding closeRefusal closeObjection sheetObjection present
-  sound-refusal = rw (a .fits, a .isSound, left, account-is, user-is)
+  sound-refusal = rw (a .fits, a .isSound, left, account-is, there)
 
   not-damaged : objected ≡ 2 → ⊥
   unfolding closeObjection sheetObjection
@@ -111,14 +107,14 @@ module _ (b : List ℕ) (a : Accepted b) (s : List ℕ) (number : UserNumber) (u
         pub year-fits : YearFits b (user .0) account v
         year-fits =
             record {
-              entry = entry-fits b a (user .0) account read (rw user-is is-user) (met .room);
+              entry = entry-fits b a (user .0) account read (rw there is-user) (met .room);
               in-range = in-range account v (sheetYear s) account-fits (worked .1) (rw account-is (met .year));
             }
 
         pub close-booked : (after : List ℕ) → after ≡ closed (user .0) v b → Answered b (close s) 0 0 0 after
         unfolding booked
-        close-booked after e = accepted b (close s) 0 after (sym refusal-is ∙ none) (e ∙ rw (values-are, user-is))
+        close-booked after e = accepted b (close s) 0 after (sym refusal-is ∙ none) (e ∙ rw (values-are, there))
 
         pub sums-answered : (sums : ClosingSums) → sums ≡ entrySums (closingEntry b (user .0) v) → sums ≡ sumsAnswered b s 0
         unfolding sumsAnswered
-        sums-answered sums e = e ∙ rw (values-are, user-is)
+        sums-answered sums e = e ∙ rw (values-are, there)
