@@ -137,7 +137,7 @@ pub fn next_in_order(book: &[u8], index: RecordIndex) -> bool
 
 // FAULTS
 
-// Whether a user's number is new is known from elsewhere.
+// Whether a user's number is new comes from the caller, who knows it of all users.
 pub fn links_fit(book: &[u8], index: RecordIndex, new: bool) -> bool
     requires { ⌜ (kindAt (now book) (index .0) ≡ userKind → new ≡ numberIsNew (now book) (index .0)) ⌝ }
     ensures { λ r. ⌜ r ≡ linksFit (now (book .entry)) (index .0) ⌝ }

@@ -67,7 +67,7 @@ fn is_new(book: &[u8], user: RecordIndex, known: bool) -> bool
 
 // "A book is sound if no record is faulty": each user, then the entries that it owns. A record that is neither a user nor owned
 // by a user before it is faulty by itself. Each record is looked at once: the entries of a user are linked beforehand, and its
-// number is new where a table of the numbers of all users before it takes it in.
+// number is new where a table of the numbers of all users before it takes it in. An entry has no number.
 fn judge_records(book: &[u8]) -> Verdict
     requires { ⌜ lengthFits (now book) ≡ true ⌝ }
     requires { ⌜ usedFits (now book) ≡ true ⌝ }
