@@ -10,9 +10,10 @@ use lib.ListN.{length, length-append}
 use Rattle.accounts.specs.declared.Account.{Account}
 use Rattle.codec.specs.Bytes.{stored}
 use Rattle.codec.proofs.Stores.{length-stored}
+use Rattle.layout.specs.Fields.{recordLength}
 use Rattle.book.specs.Book.{used, firstUser, lengthFits, sound, isUser, nextOf, accountAt}
 use Rattle.book.proofs.Lengths.{capacity-most}
-use Rattle.book.proofs.Faults.{used-within}
+use Rattle.book.proofs.Faults.{used-within, used-whole}
 use Rattle.book.proofs.Faultless.{Faultless, sound-faultless}
 use Rattle.chains.specs.Chains.{chainFrom, usersOf}
 use Rattle.chains.proofs.Chain.{On, chain-none, chain-from-length}
@@ -87,6 +88,10 @@ module _ (b : List ℕ) (long : lengthFits b ≡ true) (good : sound b ≡ true)
 module _ (b before out : List ℕ) (end user : ℕ) (w : Walking b before out end user) (more : user ≡ 0 → ⊥) where
   user-here : isUser b user ≡ true
   user-here = walk-here (User b) (nextOf b) (users-fall b (w .faultless)) user (w .on) more
+
+  -- the book has the user's record whole
+  pub user-stands : recordLength * user + recordLength ≤ length b
+  user-stands = used-whole b (w .faultless .used-fits) user (user-index b user user-here .1)
 
   pub room-here : end + longestLine ≤ length out
   room-here = omega (arith, user-index b user user-here, w .room, w .wide, w .same)

@@ -4,7 +4,7 @@ use mathlib.Core.Path.{sym, ap, subst}
 use borrow.Author.Needs.{needs}
 use denote.Ref.{now}
 use Rattle.chain_reader.specs.Link.{linkAt}
-use Rattle.listing_text.proofs.Walk.{Walking, begins, room-here, next-falls, goes-on, ends}
+use Rattle.listing_text.proofs.Walk.{Walking, begins, user-stands, room-here, next-falls, goes-on, ends}
 use Rattle.listing_text.proofs.lines_of.Statement.{statement}
 use Rattle.listing_text.proofs.lines_of.Tie as tie
 
@@ -28,7 +28,10 @@ follow-requires : tie.Need-follow-requires Inv-loop μ-loop
 follow-requires c κs = search needs
 
 account-at-requires : tie.Need-account-at-requires Inv-loop μ-loop
-account-at-requires c κs = search needs
+account-at-requires c κs =
+    let l = c .before .before .before .loop in
+    let a = c .before .before .before .before .before .before .before .args in
+    user-stands (now (a .book)) (now (a .out)) (l .out) (l .end) (l .user .0) (l .inv) (c .before .if1 .taken)
 
 line-at-requires : tie.Need-line-at-requires Inv-loop μ-loop
 line-at-requires c κs =
