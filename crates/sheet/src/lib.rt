@@ -4,6 +4,7 @@ ghost use mathlib.Core.Path.{_≡_};
 ghost use Prim.Native.Nat.{_<_};
 ghost use lib.ListN.{length};
 ghost use Rattle.units.specs.Units.{userNumber, wideKwh};
+ghost use Rattle.units.specs.Folds.{anyBelow};
 ghost use Rattle.sheet.specs.YearSheet.{sheetLength, sheetUser, sheetYear, withdrawnReading, injectedReading, word, limitAt, unusedBand, atFault, headerFits, lastWordsFit, refused11, refused13, refused14, monthWithdrawn, FirstFault};
 use tariff::MONTHLY_THRESHOLD;
 use units::MAX_KWH;
@@ -127,17 +128,31 @@ fn at_fault(s: &[u8], month: usize, place: usize) -> bool
     (limit_at(place) < n as u64) | (unused_band(s, place) & !(n == 0))
 }
 
+// Some number of the month is at fault. All are looked at, without a branch.
+fn month_wrong(s: &[u8], month: usize) -> bool
+    requires { ⌜ month < 12 ⌝ }
+    ensures { λ r. ⌜ r ≡ anyBelow 23 (λ place. atFault (now (s .entry)) month place) ⌝ }
+{
+    let mut wrong = false;
+    for place in 0..NUMBERS {
+        wrong = wrong | at_fault(s, month, place);
+    }
+    wrong
+}
+
 // 13: the first number above its limit, or in the unused band of a single reading.
 pub fn first_fault(s: &[u8]) -> Fault
     ensures { λ r. ⌜ FirstFault (now (s .entry)) r ⌝ }
 {
     for month in 0..MONTHS {
-        for place in 0..NUMBERS {
-            if at_fault(s, month, place) {
-                return Fault::At {
-                    month: month + 1,
-                    place: place + 1,
-                };
+        if month_wrong(s, month) {
+            for place in 0..NUMBERS {
+                if at_fault(s, month, place) {
+                    return Fault::At {
+                        month: month + 1,
+                        place: place + 1,
+                    };
+                }
             }
         }
     }

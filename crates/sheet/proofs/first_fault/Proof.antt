@@ -4,9 +4,11 @@ use mathlib.Core.Path.{_≡_, ap, sym, _∙_}
 use native.Mathlib.Omega.{arith}
 use denote.Ref.{now}
 use mathlib.Core.Bool.{true, false}
+use mathlib.Core.Logic.{⊎-elim}
 use mathlib.Core.List.{List}
 use native.Mathlib.Nat.{not-suc-le-zero}
 use borrow.Author.Count.{below-more}
+use Rattle.units.proofs.Folds.{none-at}
 use Rattle.sheet.specs.YearSheet.{atFault, FaultAt}
 use borrow.Author.Needs.{needs}
 use Rattle.sheet.proofs.first_fault.Statement.{statement}
@@ -30,6 +32,10 @@ found s m p hm hp here row months =
       noMonthBefore = rw month months;
     }
 
+-- the search of a month that goes to its end finds none
+searched : (s : List ℕ) (m place : ℕ) → ((p : ℕ) → p < place → atFault s m p ≡ false) → 23 ≤ place → (p : ℕ) → p < 23 → atFault s m p ≡ false
+searched s m place none end p l = none p (omega arith)
+
 abbrev Inv-loop2 : tie.InvT-loop2
 Inv-loop2 s month place₀ place = (place ≤ 23) × ((p : ℕ) → p < place → atFault s month p ≡ false)
 
@@ -45,24 +51,27 @@ abbrev μ-loop : tie.MeasureT-loop
 loop-holds : tie.Need-loop-holds Inv-loop2 μ-loop2 Inv-loop μ-loop
 loop-holds c = (search needs, λ m l. absurd (not-suc-le-zero l))
 
+month-wrong-requires : tie.Need-month-wrong-requires Inv-loop2 μ-loop2 Inv-loop μ-loop
+month-wrong-requires c κs = search needs
+
 loop2-holds : tie.Need-loop2-holds Inv-loop2 μ-loop2 Inv-loop μ-loop
 loop2-holds c = (search needs, λ p l. absurd (not-suc-le-zero l))
 
 at-fault-requires : tie.Need-at-fault-requires Inv-loop2 μ-loop2 Inv-loop μ-loop
 at-fault-requires c κs = search needs
 
-add-t7 : tie.Need-add-t7 Inv-loop2 μ-loop2 Inv-loop μ-loop
-add-t7 c = search needs
-
 add-t8 : tie.Need-add-t8 Inv-loop2 μ-loop2 Inv-loop μ-loop
 add-t8 c = search needs
 
+add-t9 : tie.Need-add-t9 Inv-loop2 μ-loop2 Inv-loop μ-loop
+add-t9 c = search needs
+
 returns : tie.Need-returns Inv-loop2 μ-loop2 Inv-loop μ-loop
 returns c =
-    let month = c .before .before .before .before .before .loop in
+    let month = c .before .before .before .before .before .before .before .loop in
     let place = c .before .before .before .loop2 in
-    let s = now (c .before .before .before .before .before .before .before .args .s) in
-    found s (month .month) (place .place) (search needs) (search needs) (sym (c .before .at-fault .ensures) ∙ c .if1 .taken) (place .inv .1) (month .inv .1)
+    let s = now (c .before .before .before .before .before .before .before .before .before .args .s) in
+    found s (month .month) (place .place) (search needs) (search needs) (sym (c .before .at-fault .ensures) ∙ c .if2 .taken) (place .inv .1) (month .inv .1)
 
 add-place : tie.Need-add-place Inv-loop2 μ-loop2 Inv-loop μ-loop
 add-place c = search needs
@@ -72,7 +81,7 @@ loop2-less c = search needs
 
 loop2-again : tie.Need-loop2-again Inv-loop2 μ-loop2 Inv-loop μ-loop
 loop2-again c =
-    (search needs, below-more _ _ (c .before .before .before .loop2 .inv .1) (sym (c .before .at-fault .ensures) ∙ c .if1 .left))
+    (search needs, below-more _ _ (c .before .before .before .loop2 .inv .1) (sym (c .before .at-fault .ensures) ∙ c .if2 .left))
 
 add-month : tie.Need-add-month Inv-loop2 μ-loop2 Inv-loop μ-loop
 add-month c = search needs
@@ -82,10 +91,12 @@ loop-less c = search needs
 
 loop-again : tie.Need-loop-again Inv-loop2 μ-loop2 Inv-loop μ-loop
 loop-again c =
-    let place = c .before .loop2 in
+    let month = c .before .before .before .loop in
     let s = now (c .before .before .before .before .before .args .s) in
-    let end : place .place ≡ 23 = omega arith in
-    (search needs, below-more (λ m. (p : ℕ) → p < 23 → atFault s m p ≡ false) _ (c .before .before .before .loop .inv .1) (λ p l. place .inv .1 p (rw end l)))
+    let none : (p : ℕ) → p < 23 → atFault s (month .month) p ≡ false =
+    ⊎-elim (λ w. searched s (month .month) (w .1 .place) (w .1 .inv .1) (w .2 .left))
+    (λ w. none-at 23 (atFault s (month .month)) (sym (c .before .month-wrong .ensures) ∙ w .left)) (c .if1 .came) in
+    (search needs, below-more (λ m. (p : ℕ) → p < 23 → atFault s m p ≡ false) _ (month .inv .1) none)
 
 returns-2 : tie.Need-returns-2 Inv-loop2 μ-loop2 Inv-loop μ-loop
 returns-2 c m l p b =
@@ -102,10 +113,11 @@ first-fault-spec =
     Inv-loop
     μ-loop
     loop-holds
+    month-wrong-requires
     loop2-holds
     at-fault-requires
-    add-t7
     add-t8
+    add-t9
     returns
     add-place
     loop2-less
