@@ -2,7 +2,6 @@
 // index, and zero ends the chain). The functions over it are few and thin: the work is done on the plain slice and the index.
 ghost use mathlib.Core.Path.{_≡_};
 ghost use Rattle.chain_reader.specs.Link.{linkIn, linkAt};
-use layout::RECORD_LENGTH;
 use units::RecordIndex;
 
 // A place on a chain of a book.
@@ -29,11 +28,10 @@ fn link_in(r: &[u8]) -> Link
 fn link_at(book: &[u8], at: RecordIndex) -> Link
     ensures { λ r. ⌜ r ≡ linkAt (now (book .entry)) (at .0) ⌝ }
 {
-    let r = layout::record(book, at);
-    if r.len() == RECORD_LENGTH {
-        link_in(layout::whole(r))
+    if layout::has_whole(book, at) {
+        link_in(layout::whole_record(book, at.0 as usize))
     } else {
-        link_in(r)
+        link_in(layout::record(book, at))
     }
 }
 

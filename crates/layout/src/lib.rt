@@ -2,6 +2,7 @@
 // the book reads as 0, so that every string of bytes is an ordinary input.
 ghost use mathlib.Core.Path.{_≡_};
 ghost use Prim.Native.Nat.{_+_, _*_, _≤_, min};
+ghost use lib.Dec.{leb};
 ghost use lib.ListN.{length};
 ghost use Rattle.units.specs.Units.{userNumber, recordIndex};
 ghost use Rattle.codec.specs.Bytes.{number, stored, bytesOf};
@@ -38,7 +39,14 @@ pub fn record<'a>(book: &'a [u8], index: RecordIndex) -> &'a [u8]
     &book[from..to]
 }
 
-// The same, of a record that the book has whole.
+// Whether the book has the record whole.
+pub fn has_whole(book: &[u8], index: RecordIndex) -> bool
+    ensures { λ r. ⌜ r ≡ leb (recordLength * index .0 + recordLength) (length (now (book .entry))) ⌝ }
+{
+    start_of(index) + RECORD_LENGTH <= book.len()
+}
+
+// The bytes of a record that the book has whole.
 pub fn whole_record<'a>(book: &'a [u8], index: usize) -> &'a [u8]
     requires { ⌜ recordLength * index + recordLength ≤ length (now book) ⌝ }
     ensures { λ r. ⌜ now r ≡ recordAt (now (book .entry)) index ⌝ }

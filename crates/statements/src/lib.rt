@@ -89,7 +89,7 @@ fn with_entry(book: &[u8], at: RecordIndex, kind: u8, sums: Sums) -> Sums
     requires { ⌜ recordLength * at .0 + recordLength ≤ length (now book) ⌝ }
     ensures { λ r. ⌜ r ≡ entryAdded (now (book .entry)) (at .0) sums ⌝ }
 {
-    let r = layout::record(book, at);
+    let r = layout::whole_record(book, at.0 as usize);
     if kind == kind::CLOSING {
         sums.with_closing(records::read_closing(r))
     } else {
