@@ -129,6 +129,15 @@ pub fn advance(
             record: index,
             ticks: Ticks(0),
         },
-        Found::Sound(user) => advance_sound(book, user, number, year, run, price, estimate1, estimate2),
+        Found::Sound(user) => advance_sound(
+            book,
+            user,
+            number,
+            year,
+            run,
+            price,
+            estimate1,
+            estimate2,
+        ),
     }
 }

@@ -7,6 +7,7 @@ use mathlib.Core.Option.{Option, none, some}
 use native.Mathlib.Omega.{arith}
 use lib.ListN.{length, getD, replicate}
 use Rattle.layout.specs.Fields.{userKind}
+use Rattle.layout.proofs.Cells.{zero-byte}
 use Rattle.layout.proofs.ByteRanges.{Bytes}
 use Rattle.book.specs.Book.{lengthFits, freshBook, isUser}
 use Rattle.book.proofs.Lengths.{length-least}
@@ -25,15 +26,10 @@ use Rattle.demand.proofs.Undamaged as undamaged
 effects : Effects
 effects = record { enrols = enrols; elects = elects; advances = advances; closes = closes }
 
-zero-bytes : (n k : ℕ) → _≡_ {A = ℕ} (getD (replicate n 0) k 0) 0
-zero-bytes zero k = refl
-zero-bytes (suc n) zero = refl
-zero-bytes (suc n) (suc k) = zero-bytes n k
-
 fresh-bytes : (n : ℕ) → Bytes (freshBook n)
 unfolding freshBook
 fresh-bytes n zero = omega arith
-fresh-bytes n (suc k) = let z = zero-bytes (n - 1) k in omega arith
+fresh-bytes n (suc k) = let z = zero-byte (n - 1) k in omega arith
 
 module _ (b : List ℕ) (fits : lengthFits b ≡ true) where
   after-fresh : freshAfter b ≡ freshBook (length b)

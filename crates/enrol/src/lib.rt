@@ -32,7 +32,13 @@ fn new_account(number: UserNumber, details: Details, option: u8) -> Account
     }
 }
 
-fn enrol_sound(book: &mut [u8], user: RecordIndex, number: UserNumber, details: Details, option: u8) -> Booked
+fn enrol_sound(
+    book: &mut [u8],
+    user: RecordIndex,
+    number: UserNumber,
+    details: Details,
+    option: u8,
+) -> Booked
     requires { ⌜ Accepted (now book) ⌝ }
     requires { ⌜ user ≡ recordIndex (findUser (now book) (number .0)) ⌝ }
     ensures { λ answer. ⌜ Answered (now (book .entry)) (enrol (number .0) details option) (used (now (book .entry))) (answer .refusal) (answer .record .0) (now (book .exit)) ⌝ }

@@ -106,7 +106,7 @@ read-written (c ∷ cs) (suc k) r l w a h =
     read-written cs k (put c r) (length-cell c r l here) (and-right (within (c .field)) (allWithin cs) w)
     (and-right (apartFrom (c .field) cs) (allApart cs) a) h
 
-zero-byte : (n k : ℕ) → _≡_ {A = ℕ} (getD (replicate n 0) k 0) 0
+pub zero-byte : (n k : ℕ) → _≡_ {A = ℕ} (getD (replicate n 0) k 0) 0
 zero-byte zero k = refl
 zero-byte (suc n) zero = refl
 zero-byte (suc n) (suc k) = zero-byte n k

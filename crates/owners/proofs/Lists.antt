@@ -12,7 +12,7 @@ use lib.ListN.{length, getD, set, replicate, getD-replicate}
 use lib.Seq.{getD-set-same, getD-set-other}
 use Rattle.book.specs.Book.{used, isEntry, ownerOf}
 use Rattle.book.proofs.RecordKinds.{entry-index}
-use Rattle.pointers.specs.Pointers.{mostRecords}
+use Rattle.units.specs.Limits.{mostRecords}
 use Rattle.owners.specs.declared.Entries.{Entries}
 use Rattle.owners.specs.Owners.{owns, lastOwned, Linked}
 use Rattle.owners.proofs.Last.{owns-entry, owns-owner, owns-own, owns-no-other, last-none, last-here, last-not-here}

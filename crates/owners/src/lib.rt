@@ -2,9 +2,9 @@
 // others. Any bytes are a book here, as long as it has no more records than a book can have: an owner may be no user.
 ghost use Prim.Native.Nat.{_≤_};
 ghost use Rattle.book.specs.Book.{used};
-ghost use Rattle.pointers.specs.Pointers.{mostRecords};
+ghost use Rattle.units.specs.Limits.{mostRecords};
 ghost use Rattle.owners.specs.Owners.{Linked};
-use pointers::MOST_RECORDS;
+use book::MOST_RECORDS;
 use units::RecordIndex;
 use view::is_entry;
 use view::owner_of;

@@ -11,14 +11,15 @@ use borrow.Author.Tests.{ne-eqb, eqb-true, eqb-false, leb-true, not-true}
 use lib.Dec.{eqb, leb}
 use lib.ListN.{length, getD, set, replicate}
 use lib.Seq.{getD-set-same, getD-set-other}
+use Rattle.units.specs.Limits.{mostRecords}
 use Rattle.units.proofs.Bools.{and-left, and-right}
 use Rattle.units.proofs.Folds.{below-suc}
 use Rattle.layout.specs.Fields.{recordLength, get, zeros, recordAt, kindField, numberField, nextField, ownerField, yearField, userKind, advanceKind, closingKind}
+use Rattle.layout.proofs.Cells.{zero-byte}
 use Rattle.records.specs.Records.{accountIn, advanceIn, closingIn}
 use Rattle.book.specs.Book.{used, usedFits, firstUser, kindAt, isUser, isEntry, isAdvance, isClosing, ownerOf, nextOf, firstEntryOf, openYearOf, activationOf, numberOf, rankOf, accountFits, advanceFits, closingFits, rangesFit, zeroBytesFit, lengthFits, detailsFit, openYearFits, runsFit, advancesFit, creditFits, halvesFit, sound}
-use Rattle.book.proofs.Faults.{used-within}
+use Rattle.book.proofs.Faults.{used-within, used-counted}
 use Rattle.book.proofs.RecordKinds.{has-kind, kind-is, advance-entry, closing-entry, not-both}
-use Rattle.pointers.specs.Pointers.{mostRecords}
 use Rattle.descent.specs.Descent.{met, dueUser, dueEntry, dueYear, MetUser, MetEntry}
 use Rattle.descent.proofs.Steps.{met-at, user-moves, user-keeps-entry, user-keeps-year, entry-keeps-user, entry-moves, entry-moves-year, entry-keeps-other, entry-keeps-year}
 use Rattle.descent.proofs.Sound.{passed-sound}
@@ -73,11 +74,6 @@ pub record Descended (b : List ℕ) (n left expected found : ℕ) (states seen :
   pub sought : Sought b n left found
 
 -- no state is known at first
-none-known : (n o : ℕ) → _≡_ {A = ℕ} (getD (replicate n 0) o 0) 0
-none-known zero o = refl
-none-known (suc n) zero = refl
-none-known (suc n) (suc o) = none-known n o
-
 pub started : (b : List ℕ) (wanted n : ℕ) (seen : List ℕ) {left expected : ℕ} → left ≡ used b → 1 ≤ used b → expected ≡ firstUser b
     → Descended b wanted left expected 0 (replicate n 0) seen
 unfolding dueUser dueEntry dueYear entryDue yearDue firstEntryOf openYearOf
@@ -87,8 +83,8 @@ started b wanted n seen l lo e =
       place = omega arith;
       some = omega arith;
       user = e;
-      entry = λ o. rw (none-known n o);
-      year = λ o. rw (none-known n o);
+      entry = λ o. rw (zero-byte n o);
+      year = λ o. rw (zero-byte n o);
       each = λ d h. let z : ⊥ = omega arith in absurd z;
       held = λ d h. let z : ⊥ = omega arith in absurd z;
       sought = sought-first b wanted l;
@@ -322,11 +318,7 @@ pub record Roomy (b : List ℕ) (left : ℕ) : Type 0 where
   pub counted : left ≤ mostRecords
 
 pub roomy : (b : List ℕ) → lengthFits b ≡ true → usedFits b ≡ true → Roomy b (used b)
-unfolding lengthFits
-roomy b fits u =
-    let long = leb-true (length b) 64000 (and-right (leb 160 (length b)) (leb (length b) 64000) (and-left (leb 160 (length b) && leb (length b) 64000) (eqb (length b % recordLength) 0) fits)) in
-    let most = used-within b u .1 in
-    record { whole = omega arith; counted = omega arith }
+roomy b fits u = let most = used-within b u .1 in record { whole = omega arith; counted = used-counted b u fits }
 
 -- all records but the head are met
 module _ (b : List ℕ) {wanted left expected found : ℕ} {states seen : List ℕ} (s : Descended b wanted left expected found states seen) (l : left ≤ 1) where

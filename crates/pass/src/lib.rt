@@ -7,12 +7,12 @@ ghost use lib.ListN.{length};
 ghost use Rattle.layout.specs.Fields.{recordLength, get, nextField};
 ghost use Rattle.book.specs.Book.{lengthFits};
 ghost use Rattle.pass.specs.Steps.{years, entryDue, yearDue, UserFits, EntryFits, StateAfter, firstMet, PassedOver};
+use book::MOST_RECORDS;
 use layout::kind::ADVANCE;
 use layout::kind::CLOSING;
 use layout::kind::USER;
 use layout::whole_record;
 use numbers::PLACES;
-use pointers::MOST_RECORDS;
 use units::RecordIndex;
 use units::UserNumber;
 

@@ -5,8 +5,10 @@ ghost use mathlib.Core.Path.{_≡_};
 ghost use Prim.Native.Nat.{ℕ, _+_, _≤_, _<_};
 ghost use lib.ListN.{getD, length};
 ghost use Rattle.units.specs.Units.{recordIndex};
+ghost use Rattle.units.specs.Limits.{mostRecords};
 ghost use Rattle.book.specs.Book.{hits, pointersTo, used};
-ghost use Rattle.pointers.specs.Pointers.{mostRecords, nextPointer, firstPointer};
+ghost use Rattle.pointers.specs.Pointers.{nextPointer, firstPointer};
+use book::MOST_RECORDS;
 use layout::kind::ADVANCE;
 use layout::kind::CLOSING;
 use layout::kind::USER;
@@ -15,8 +17,6 @@ use view::first_entry_of;
 use view::first_user;
 use view::kind_at;
 use view::next_of;
-
-pub const MOST_RECORDS: usize = book::MOST_RECORDS;
 
 fn next_pointer(book: &[u8], index: RecordIndex) -> RecordIndex
     ensures { λ r. ⌜ r ≡ recordIndex (nextPointer (now (book .entry)) (index .0)) ⌝ }

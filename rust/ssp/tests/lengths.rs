@@ -1,23 +1,16 @@
 //! Every length from 0 to 64,160 bytes: a book, or refusal 1 from every call with every byte left.
 
 mod common;
+#[path = "common/household.rs"]
+mod household;
 
 use common::{Call, Dice, sheet};
-use ssp_book::{Book, Day, Enrolment, Order, Refusal, option, run};
+use household::household;
+use ssp_book::{Book, Day, Order, Refusal, option, run};
 
 const LONGEST: usize = 64_160;
 
 fn calls() -> Vec<Call> {
-    let user = Enrolment {
-        number: 7,
-        class: 2,
-        plant: 1,
-        option: option::CREDIT,
-        power: 3_000,
-        year: 2013,
-        month: 1,
-        island: 0,
-    };
     let day = Day {
         year: 2013,
         month: 5,
@@ -30,7 +23,7 @@ fn calls() -> Vec<Call> {
         estimates: [4_000, 4_000],
     };
     vec![
-        Call::Enrol(user),
+        Call::Enrol(household(7)),
         Call::Elect(7, option::LIQUIDATION, day),
         Call::Advance(7, order),
         Call::Close(sheet(&mut Dice::of(1), 7, 2013)),
@@ -73,16 +66,11 @@ fn every_capacity_fills_up() {
     for records in [2, 3, 10, 100, 800] {
         let mut bytes = vec![0; Book::RECORD * records];
         let mut book = Book::fresh(&mut bytes).expect("a length that fits");
-        let Call::Enrol(mut user) = calls()[0] else {
-            panic!("the first call is an enrolment")
-        };
         for record in 1..records as u32 {
-            user.number = record;
-            assert_eq!(book.enrol(user), Ok(record));
+            assert_eq!(book.enrol(household(record)), Ok(record));
             users += 1;
         }
-        user.number = records as u32;
-        assert_eq!(book.enrol(user), Err(Refusal::Full));
+        assert_eq!(book.enrol(household(records as u32)), Err(Refusal::Full));
     }
     println!("{users} users enrolled, five books filled");
 }

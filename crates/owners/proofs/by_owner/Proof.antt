@@ -10,7 +10,7 @@ use lib.Dec.{ltb}
 use lib.ListN.{length, length-set}
 use Rattle.units.proofs.Bools.{and-left, and-right}
 use Rattle.units.specs.declared.RecordIndex.{RecordIndex}
-use Rattle.pointers.specs.Pointers.{mostRecords}
+use Rattle.units.specs.Limits.{mostRecords}
 use Rattle.owners.proofs.Lists.{LinkedBelow, linked-none, linked-entry, linked-other, linked-all}
 use borrow.Author.Needs.{needs}
 use Rattle.owners.proofs.by_owner.Statement.{statement}

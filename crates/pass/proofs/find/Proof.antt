@@ -16,7 +16,7 @@ use Rattle.layout.specs.Fields.{recordLength, zeros, recordAt}
 use Rattle.layout.proofs.Places.{length-record}
 use Rattle.book.specs.Book.{usedFits, firstUser}
 use Rattle.book.proofs.Faults.{used-within}
-use Rattle.pointers.specs.Pointers.{mostRecords}
+use Rattle.units.specs.Limits.{mostRecords}
 use Rattle.numbers.specs.Held.{places}
 use Rattle.pass.proofs.Descended.{Descended, Roomy, roomy, started, number-some, user-met, entry-met, descended, searched}
 use borrow.Author.Needs.{needs}

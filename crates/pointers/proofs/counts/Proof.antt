@@ -2,7 +2,7 @@
 use Prim.Native.Nat.{ℕ, _-_, _≤_, _<_}
 use mathlib.Core.Path.{_≡_, refl, sym, ap, _∙_}
 use denote.Ref.{now}
-use Rattle.pointers.specs.Pointers.{mostRecords}
+use Rattle.units.specs.Limits.{mostRecords}
 use Rattle.book.specs.Book.{used}
 use native.Mathlib.Omega.{arith}
 use lib.ListN.{length, getD, getD-replicate}

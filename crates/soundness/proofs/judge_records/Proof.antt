@@ -10,7 +10,7 @@ use mathlib.Core.Logic.{⊎-elim}
 use borrow.Author.Tests.{not-true, not-false}
 use lib.ListN.{length, getD}
 use Rattle.units.specs.declared.UserNumber.{UserNumber}
-use Rattle.pointers.specs.Pointers.{mostRecords}
+use Rattle.units.specs.Limits.{mostRecords}
 use Rattle.owners.specs.Owners.{lastOwned}
 use Rattle.numbers.specs.Held.{places}
 use Rattle.book.proofs.Faults.{used-counted, used-whole}

@@ -1,6 +1,8 @@
 //! The books that are timed. One record stays free, so that an advance or a closing has room.
 
-use ssp_book::{Book, Enrolment, Order, option, run};
+use ssp_book::{Book, Order, run};
+
+use crate::household::household;
 
 /// The length of the longest book.
 pub const LONGEST: usize = 64_000;
@@ -11,6 +13,7 @@ pub enum Numbers {
     Scattered,
     Ascending,
     Descending,
+    Colliding,
 }
 
 impl Numbers {
@@ -19,6 +22,7 @@ impl Numbers {
             Numbers::Scattered => "scattered",
             Numbers::Ascending => "ascending",
             Numbers::Descending => "descending",
+            Numbers::Colliding => "colliding",
         }
     }
 
@@ -31,20 +35,10 @@ impl Numbers {
             }
             Numbers::Ascending => at,
             Numbers::Descending => u32::MAX - at,
+            // The library's table of numbers multiplies by 2,654,435,769 modulo 2^32 and takes the upper bits. This is the
+            // factor that undoes it: all products are small, and all numbers have the same slot.
+            Numbers::Colliding => at.wrapping_mul(0x144c_bc89),
         }
-    }
-}
-
-fn household(number: u32) -> Enrolment {
-    Enrolment {
-        number,
-        class: 2,
-        plant: 1,
-        option: option::CREDIT,
-        power: 3_000,
-        year: 2013,
-        month: 1,
-        island: 0,
     }
 }
 
@@ -58,6 +52,40 @@ pub fn book_of_users(records: usize, numbers: Numbers) -> Vec<u8> {
     bytes
 }
 
+/// A book with one user, so many entries and a free record: what a call does beside the check of the book shows here.
+pub fn book_of_one(entries: usize) -> Vec<u8> {
+    let mut bytes = vec![0; Book::RECORD * (entries + 3)];
+    let mut book = Book::fresh(&mut bytes).expect("a length that fits");
+    book.enrol(household(1)).expect("a free record");
+    for entry in 0..entries {
+        let year = 2013 + entry as u16 / 3;
+        match entry % 3 {
+            0 => book.advance(1, order(year, run::JUNE)).map(drop),
+            1 => book.advance(1, order(year, run::OCTOBER)).map(drop),
+            _ => book.close(&sheet(1, year)).map(drop),
+        }
+        .expect("an entry that is due");
+    }
+    bytes
+}
+
+/// The book with a byte changed that must be zero, in the last record that is used.
+pub fn damaged(book: &[u8]) -> Vec<u8> {
+    let mut bytes = book.to_vec();
+    let used = usize::from(u16::from_le_bytes([book[0], book[1]]));
+    bytes[Book::RECORD * used - 1] = 1;
+    bytes
+}
+
+fn order(year: u16, run: u8) -> Order {
+    Order {
+        year: u32::from(year),
+        run,
+        rate: 9_000,
+        estimates: [4_000, 4_000],
+    }
+}
+
 /// A book of 800 records with 10 users and 788 entries: two advances and a closing a year.
 pub fn book_of_entries() -> Vec<u8> {
     let mut bytes = vec![0; LONGEST];
@@ -69,25 +97,13 @@ pub fn book_of_entries() -> Vec<u8> {
     for year in 2013.. {
         for number in 1..=10 {
             for run in [run::JUNE, run::OCTOBER] {
-                let order = Order {
-                    year: u32::from(year),
-                    run,
-                    rate: 9_000,
-                    estimates: [4_000, 4_000],
-                };
-                book.advance(number, order).expect("a run that is due");
+                book.advance(number, order(year, run)).expect("a run that is due");
             }
             book.close(&sheet(number, year)).expect("a year that is open");
             entries += 3;
             if entries + 3 > 788 {
-                let order = Order {
-                    year: u32::from(year) + 1,
-                    run: run::JUNE,
-                    rate: 9_000,
-                    estimates: [0, 0],
-                };
                 for other in 1..=788 - entries {
-                    book.advance(other, order).expect("a run that is due");
+                    book.advance(other, order(year + 1, run::JUNE)).expect("a run that is due");
                 }
                 return bytes;
             }

@@ -1,12 +1,15 @@
-//! Nanoseconds a call of the library and of `rust/peer`, an independent implementation, in one run. Each timed call answers 0.
+//! Nanoseconds a call of the library and of `rust/peer`, an independent implementation, in one run. Each timed call answers 0, but
+//! for those that are refused, which have their own rows.
 
 mod books;
+#[path = "../../tests/common/household.rs"]
+mod household;
 
 use std::hint::black_box;
 use std::time::{Duration, Instant};
 
-use books::{LONGEST, Numbers, book_of_entries, book_of_users, middle_user, sheet};
-use ssp_book::{Book, Day, Order, option, run};
+use books::{LONGEST, Numbers, book_of_entries, book_of_one, book_of_users, damaged, middle_user, sheet};
+use ssp_book::{Book, Day, Order, Refusal, option, run};
 
 /// The shortest of 15 rounds, each of as many turns as take 4 ms.
 fn nanoseconds(mut turn: impl FnMut()) -> f64 {
@@ -111,6 +114,21 @@ fn statement_of(name: &str, book: &[u8]) {
     );
 }
 
+/// A full book's statement, and the refusals of it: 6, and 2 of a book whose last record is damaged.
+fn refused(name: &str, book: &[u8]) {
+    let number = middle_user(book);
+    let mut lent = book.to_vec();
+    let accepted = nanoseconds(|| assert!(black_box(Book::over(&mut lent).statement(number)).is_ok()));
+    let mut unknown = || black_box(Book::over(&mut lent).statement(0));
+    assert_eq!(unknown(), Err(Refusal::Unknown));
+    let six = nanoseconds(|| assert!(unknown().is_err()));
+    let mut bad = damaged(book);
+    let mut unsound = || black_box(Book::over(&mut bad).statement(number));
+    assert!(matches!(unsound(), Err(Refusal::Damaged { .. })));
+    let two = nanoseconds(|| assert!(unsound().is_err()));
+    println!("{name:<30} accepted {accepted:.0}, refusal 6 {six:.0}, refusal 2 {two:.0} ns: at most {:.1} times", two.max(six) / accepted);
+}
+
 fn main() {
     println!(
         "{:<30} {:<10} {:>12} {:>12} {:>8}",
@@ -118,12 +136,18 @@ fn main() {
     );
     calls("798 users", &book_of_users(800, Numbers::Scattered));
     calls("10 users, 788 entries", &book_of_entries());
+    calls("1 user", &book_of_one(0));
+    calls("1 user, 78 entries", &book_of_one(78));
     for records in [100, 200, 400, 800] {
-        for order in [Numbers::Scattered, Numbers::Ascending, Numbers::Descending] {
+        for order in [Numbers::Scattered, Numbers::Ascending, Numbers::Descending, Numbers::Colliding] {
             let name = format!("{records} records, {}", order.name());
             statement_of(&name, &book_of_users(records, order));
         }
     }
+
+    println!();
+    refused("798 users", &book_of_users(800, Numbers::Scattered));
+    refused("10 users, 788 entries", &book_of_entries());
 
     let bytes = book_of_users(800, Numbers::Scattered);
     let pass = nanoseconds(|| {
