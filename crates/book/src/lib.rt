@@ -209,7 +209,7 @@ fn closing_fits(activation: u16, open_year: u16, c: ClosingRecord) -> bool
     (year_fits(activation, open_year, c.year) & (c.option <= 1)) & ((energy & flat) & rest)
 }
 
-// A RECORD_LENGTH'S OWN RULES: its ranges and its zero bytes. Those of an entry go by its owner's record too.
+// A RECORD'S OWN RULES: its ranges and its zero bytes. Those of an entry go by its owner's record too.
 
 pub fn user_record_fits(r: &[u8]) -> bool
     requires { ⌜ length (now r) ≡ recordLength ⌝ }
