@@ -126,7 +126,10 @@ fn refused(name: &str, book: &[u8]) {
     let mut unsound = || black_box(Book::over(&mut bad).statement(number));
     assert!(matches!(unsound(), Err(Refusal::Damaged { .. })));
     let two = nanoseconds(|| assert!(unsound().is_err()));
-    println!("{name:<30} accepted {accepted:.0}, refusal 6 {six:.0}, refusal 2 {two:.0} ns: at most {:.1} times", two.max(six) / accepted);
+    println!(
+        "{name:<30} accepted {accepted:.0}, refusal 6 {six:.0}, refusal 2 {two:.0} ns: at most {:.1} times",
+        two.max(six) / accepted
+    );
 }
 
 fn main() {
@@ -139,7 +142,12 @@ fn main() {
     calls("1 user", &book_of_one(0));
     calls("1 user, 78 entries", &book_of_one(78));
     for records in [100, 200, 400, 800] {
-        for order in [Numbers::Scattered, Numbers::Ascending, Numbers::Descending, Numbers::Colliding] {
+        for order in [
+            Numbers::Scattered,
+            Numbers::Ascending,
+            Numbers::Descending,
+            Numbers::Colliding,
+        ] {
             let name = format!("{records} records, {}", order.name());
             statement_of(&name, &book_of_users(records, order));
         }
