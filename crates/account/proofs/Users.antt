@@ -13,7 +13,7 @@ use Rattle.soundness.specs.Verdicts.{Accepted}
 use Rattle.chains.specs.Statements.{statementAt}
 use Rattle.chains.proofs.Ranges.{user-years}
 use Rattle.chains.proofs.Fit.{sums-small}
-use Rattle.calls.specs.Bookings.{findUser}
+use Rattle.book.specs.Find.{findUser}
 use Rattle.bookings.proofs.Numbers.{found}
 use Rattle.statements.specs.declared.Sums.{Sums}
 use Rattle.statements.specs.Walk.{sumsOf}

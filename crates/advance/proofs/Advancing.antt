@@ -14,7 +14,8 @@ use Rattle.accounts.specs.Account.{accountAdvanced}
 use Rattle.book.specs.Book.{isUser, accountAt, accountFits, halvesFit}
 use Rattle.book.proofs.Faultless.{sound-faultless}
 use Rattle.soundness.specs.Verdicts.{Accepted}
-use Rattle.calls.specs.Bookings.{findUser, runAmount, advanced}
+use Rattle.calls.specs.Bookings.{runAmount, advanced}
+use Rattle.book.specs.Find.{findUser}
 use Rattle.calls.specs.Refusals.{refuse, hasRoom, present, runOpen, orderFits, advanceRefusal}
 use Rattle.calls.specs.Calls.{Call, advance, refusalOf, booked, paidBy}
 use Rattle.refusals.specs.Objections.{advanceObjection}

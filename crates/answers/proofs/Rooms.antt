@@ -14,9 +14,9 @@ use Rattle.book.proofs.Faults.{used-within, used-whole, used-counted}
 use Rattle.book.proofs.RecordKinds.{kind-index}
 use Rattle.book.proofs.Faultless.{sound-faultless}
 use Rattle.soundness.specs.Verdicts.{Accepted}
-use Rattle.calls.specs.Bookings.{findUser}
+use Rattle.book.specs.Find.{findUser}
 use Rattle.calls.specs.Refusals.{refuse, hasRoom}
-use Rattle.calls.proofs.Search.{found-used}
+use Rattle.book.proofs.Find.{found-used}
 use Rattle.bookings.proofs.Good.{room-left}
 use Rattle.answers.specs.Rooms.{EntryFits}
 

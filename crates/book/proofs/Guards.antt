@@ -1,7 +1,12 @@
--- A test that is made only where another one passes.
-use mathlib.Core.Path.{_≡_, refl}
+-- A test that is made only where another one passes; and the tests of an entry by its owner's years.
+use Prim.Native.Nat.{ℕ}
+use mathlib.Core.Path.{_≡_, refl, sym}
 use mathlib.Core.Bool.{Bool, true, false, _&&_, and-true, and-false}
+use mathlib.Core.List.{List}
 use Rattle.units.proofs.Bools.{and-left, and-right}
+use Rattle.accounts.specs.declared.Account.{Account}
+use Rattle.layout.specs.Fields.{get, activationYearField, openYearField}
+use Rattle.records.specs.Records.{accountIn}
 
 pub tested : {s t r : Bool} → s ≡ true → r ≡ t → r ≡ (t && s)
 tested {s} {t} e p = rw (e, and-true t) p
@@ -16,3 +21,9 @@ tested-between s u e p = let first = and-left s u e in rw first (tested (and-rig
 pub untested-between : (s t u : Bool) → (s && u) ≡ false → false ≡ (s && (t && u))
 untested-between true t u e = untested t e
 untested-between false t u e = refl
+
+-- an entry's ranges ask of its owner's account the two years alone, which are those of the owner's record
+pub by-years : {E : Type 0} (test : Account → E → Bool) (o : List ℕ) {x e : E} {from to : ℕ} {fits : Bool} → from ≡ get activationYearField o → to ≡ get openYearField o
+    → e ≡ x → ((owner : Account) → owner .details .year ≡ from → owner .«open_year» ≡ to → fits ≡ test owner e) → fits ≡ test (accountIn o) x
+unfolding accountIn
+by-years test o f t e fits = let own = fits (accountIn o) (sym f) (sym t) in rw (own, e)

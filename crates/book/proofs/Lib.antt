@@ -4,3 +4,5 @@ pub mod RecordKinds
 pub mod Lengths
 pub mod Faults
 pub mod Faultless
+pub mod Find
+pub mod Levels

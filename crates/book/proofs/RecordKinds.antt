@@ -2,14 +2,14 @@
 use Prim.Native.Nat.{ℕ, _≤_, _<_}
 use mathlib.Core.Path.{_≡_, refl, sym, _∙_}
 use mathlib.Core.Bool.{Bool, true, false, _&&_, or-true}
-use mathlib.Core.Logic.{_⊎_, ⊎-elim}
+use mathlib.Core.Logic.{_⊎_, inl, inr, ⊎-elim}
 use mathlib.Core.List.{List}
 use native.Mathlib.Omega.{arith}
 use borrow.Author.Tests.{ltb-true, lt-ltb, eq-eqb, eqb-true, eqb-false}
 use lib.Dec.{ltb, eqb}
 use Rattle.units.proofs.Bools.{and-left, and-right, or-left, or-right, or-cases}
 use Rattle.layout.specs.Fields.{userKind, advanceKind, closingKind}
-use Rattle.book.specs.Book.{used, kindAt, hasKind, isUser, isAdvance, isClosing, isEntry}
+use Rattle.book.specs.Book.{used, kindAt, hasKind, isUser, isAdvance, isClosing, entryKind, isEntry, keepsYear}
 
 -- of a record below u the kind decides
 kind-decides : (b : List ℕ) (kind i : ℕ) → 1 ≤ i → i < used b → hasKind b kind i ≡ eqb (kindAt b i) kind
@@ -49,23 +49,42 @@ kinds-apart b k l i apart h = by-value (hasKind b l i) refl
     by-value true q = absurd (apart (sym (kind-is b k i h) ∙ kind-is b l i q))
     by-value false q = q
 
--- an entry is an advance or a closing
-pub entry-cases : (b : List ℕ) (i : ℕ) → isEntry b i ≡ true → (isAdvance b i ≡ true) ⊎ (isClosing b i ≡ true)
+-- an entry has one of the kinds of entries
+module _ (b : List ℕ) (i : ℕ) (e : isEntry b i ≡ true) where
+  entry-in-range : (ltb 0 i && ltb i (used b)) ≡ true
+  unfolding isEntry
+  entry-in-range = and-left (ltb 0 i && ltb i (used b)) (entryKind (kindAt b i)) e
+
+  pub entry-kind : entryKind (kindAt b i) ≡ true
+  unfolding isEntry
+  entry-kind = and-right (ltb 0 i && ltb i (used b)) (entryKind (kindAt b i)) e
+
+  pub entry-index : (1 ≤ i) × (i < used b)
+  entry-index = (ltb-true 0 i (and-left (ltb 0 i) (ltb i (used b)) entry-in-range), ltb-true i (used b) (and-right (ltb 0 i) (ltb i (used b)) entry-in-range))
+
+  pub entry-cases : (isAdvance b i ≡ true) ⊎ (isClosing b i ≡ true)
+  unfolding entryKind
+  entry-cases =
+      let at = entry-index in
+      ⊎-elim (λ (a : eqb (kindAt b i) advanceKind ≡ true). inl (has-kind b advanceKind i (at .0) (at .1) (eqb-true (kindAt b i) advanceKind a)))
+      (λ (c : eqb (kindAt b i) closingKind ≡ true). inr (has-kind b closingKind i (at .0) (at .1) (eqb-true (kindAt b i) closingKind c)))
+      (or-cases (eqb (kindAt b i) advanceKind) (eqb (kindAt b i) closingKind) entry-kind)
+
+pub entry-of-kind : (b : List ℕ) (i : ℕ) → 1 ≤ i → i < used b → entryKind (kindAt b i) ≡ true → isEntry b i ≡ true
 unfolding isEntry
-entry-cases b i e = or-cases (isAdvance b i) (isClosing b i) e
+entry-of-kind b i lo hi k = rw (lt-ltb 0 i lo, lt-ltb i (used b) hi) k
 
 pub advance-entry : (b : List ℕ) (i : ℕ) → isAdvance b i ≡ true → isEntry b i ≡ true
-unfolding isEntry
-advance-entry b i a = rw a
+unfolding entryKind
+advance-entry b i a = entry-of-kind b i (kind-from-one b advanceKind i a) (kind-below b advanceKind i a) (rw (kind-is b advanceKind i a))
 
 pub closing-entry : (b : List ℕ) (i : ℕ) → isClosing b i ≡ true → isEntry b i ≡ true
-unfolding isEntry
-closing-entry b i c = rw (c, or-true)
+unfolding entryKind
+closing-entry b i c = entry-of-kind b i (kind-from-one b closingKind i c) (kind-below b closingKind i c) (rw (kind-is b closingKind i c))
 
-pub entry-index : (b : List ℕ) (i : ℕ) → isEntry b i ≡ true → (1 ≤ i) × (i < used b)
-entry-index b i e =
-    ⊎-elim (λ (a : isAdvance b i ≡ true). (kind-from-one b advanceKind i a, kind-below b advanceKind i a))
-    (λ (c : isClosing b i ≡ true). (kind-from-one b closingKind i c, kind-below b closingKind i c)) (entry-cases b i e)
+-- an entry keeps its year open or ends it
+pub year-cases : (b : List ℕ) (i : ℕ) → isEntry b i ≡ true → (keepsYear b i ≡ true) ⊎ (isClosing b i ≡ true)
+year-cases b i e = entry-cases b i e
 
 -- an entry is no user
 pub entry-no-user : (b : List ℕ) (i : ℕ) → isEntry b i ≡ true → kindAt b i ≡ userKind → ⊥
@@ -75,16 +94,6 @@ entry-no-user b i e u =
 
 pub not-both : (b : List ℕ) (i : ℕ) → isUser b i ≡ true → isEntry b i ≡ true → ⊥
 not-both b i u e = entry-no-user b i e (kind-is b userKind i u)
-
--- a record below u that is no entry has neither kind
-module _ (b : List ℕ) (i : ℕ) (p : 1 ≤ i) (h : i < used b) (n : isEntry b i ≡ false) where
-  pub no-advance : kindAt b i ≡ advanceKind → ⊥
-  unfolding isEntry
-  no-advance = eqb-false (kindAt b i) advanceKind (sym (kind-decides b advanceKind i p h) ∙ or-left (isAdvance b i) (isClosing b i) n)
-
-  pub no-closing : kindAt b i ≡ closingKind → ⊥
-  unfolding isEntry
-  no-closing = eqb-false (kindAt b i) closingKind (sym (kind-decides b closingKind i p h) ∙ or-right (isAdvance b i) (isClosing b i) n)
 
 pub no-user : (b : List ℕ) (i : ℕ) → 1 ≤ i → i < used b → isUser b i ≡ false → kindAt b i ≡ userKind → ⊥
 no-user b i p h n = eqb-false (kindAt b i) userKind (sym (kind-decides b userKind i p h) ∙ n)

@@ -2,7 +2,7 @@
 -- of bytes has an answer: a record past the end has zeros in all its fields.
 use Prim.Native.Nat.{ℕ, _+_, _-_, _*_, _/_, _%_, _^_}
 use mathlib.Core.Bool.{Bool, true, false, cond, not, _&&_, _||_}
-use mathlib.Core.List.{List, _∷_}
+use mathlib.Core.List.{List, [], _∷_}
 use lib.Dec.{leb, ltb, eqb}
 use lib.ListN.{length, replicate}
 use Rattle.units.specs.Limits.{maxYearTicks, maxFlatRate, maxContribution, maxHalfTicks, maxHalfKwh, maxPower, firstActivation, lastActivation, lastOpenYear}
@@ -11,7 +11,7 @@ use Rattle.calendar.specs.declared.Halves.{Halves}
 use Rattle.calendar.specs.ElectionAndAdvances.{june, october, january, halvesPaid, due, halvesCount}
 use Rattle.values.specs.declared.Details.{Details}
 use Rattle.accounts.specs.declared.Account.{Account}
-use Rattle.layout.specs.Fields.{get, zeros, recordAt, capacity, recordLength, usedField, firstUserField, nextField, kindField, userKind, numberField, firstEntryField, activationYearField, openYearField, advanceKind, closingKind, yearField, ownerField}
+use Rattle.layout.specs.Fields.{Field, get, allZero, unnamedOfHead, unnamedOfUser, unnamedOfAdvance, unnamedOfClosing, recordAt, capacity, recordLength, usedField, firstUserField, nextField, kindField, userKind, numberField, firstEntryField, activationYearField, openYearField, advanceKind, closingKind, yearField, ownerField}
 use Rattle.records.specs.declared.AdvanceRecord.{AdvanceRecord}
 use Rattle.records.specs.declared.ClosingRecord.{ClosingRecord}
 use Rattle.records.specs.Records.{accountIn, advanceIn, closingIn}
@@ -50,8 +50,12 @@ isAdvance b i = hasKind b advanceKind i
 abbrev pub isClosing : List ℕ → ℕ → Bool
 isClosing b i = hasKind b closingKind i
 
+-- "kind (2 advance, 3 closing)"
+unfoldable pub entryKind : ℕ → Bool
+entryKind kind = eqb kind advanceKind || eqb kind closingKind
+
 unfoldable pub isEntry : List ℕ → ℕ → Bool
-isEntry b i = isAdvance b i || isClosing b i
+isEntry b i = (ltb 0 i && ltb i (used b)) && entryKind (kindAt b i)
 
 -- RANGES, of a record by value
 abbrev pub within : ℕ → ℕ → ℕ → Bool
@@ -124,24 +128,28 @@ closingFits owner c =
     && (((leb (c .value .0) maxYearTicks && leb (c .cost .0) maxYearTicks) && (leb (c .«flat_rate» .0) maxFlatRate && leb (c .contribution .0) maxContribution))
     && ((leb (c .liquidation .0) maxYearTicks && leb (c .lapsed .0) (maxYearTicks * (c .year - owner .details .year))) && balanceFits (c .balance .0)))
 
--- WHAT DIFFERS BY KIND: ranges, and "Unnamed bytes are zero in records below u." A kind that is not known has none.
+-- WHAT DIFFERS BY KIND: the ranges of a record, those of an entry by its owner's account; and "Unnamed bytes are zero in
+-- records below u." No range of a kind that is not known fits.
 unfoldable pub ownerOf : List ℕ → ℕ → ℕ
 ownerOf b i = get ownerField (recordAt b i)
 
 abbrev pub accountAt : List ℕ → ℕ → Account
 accountAt b i = accountIn (recordAt b i)
 
+unfoldable pub entryRanges : Account → List ℕ → Bool
+entryRanges owner r =
+    cond (eqb (get kindField r) advanceKind) (advanceFits owner (advanceIn r))
+    (cond (eqb (get kindField r) closingKind) (closingFits owner (closingIn r)) false)
+
 unfoldable pub rangesFit : List ℕ → ℕ → Bool
-rangesFit b i =
-    cond (eqb (kindAt b i) userKind) (accountFits (accountAt b i))
-    (cond (eqb (kindAt b i) advanceKind) (advanceFits (accountAt b (ownerOf b i)) (advanceIn (recordAt b i)))
-    (cond (eqb (kindAt b i) closingKind) (closingFits (accountAt b (ownerOf b i)) (closingIn (recordAt b i))) false))
+rangesFit b i = cond (eqb (kindAt b i) userKind) (accountFits (accountAt b i)) (entryRanges (accountAt b (ownerOf b i)) (recordAt b i))
+
+unfoldable pub unnamedOf : ℕ → List Field
+unnamedOf kind =
+    cond (eqb kind userKind) unnamedOfUser (cond (eqb kind advanceKind) unnamedOfAdvance (cond (eqb kind closingKind) unnamedOfClosing []))
 
 unfoldable pub zeroBytesFit : List ℕ → ℕ → Bool
-zeroBytesFit b i =
-    cond (eqb (kindAt b i) userKind) (zeros 27 5 (recordAt b i) && zeros 56 24 (recordAt b i))
-    (cond (eqb (kindAt b i) advanceKind) (zeros 16 48 (recordAt b i) && zeros 68 12 (recordAt b i))
-    (cond (eqb (kindAt b i) closingKind) (zeros 68 12 (recordAt b i)) false))
+zeroBytesFit b i = allZero (unnamedOf (kindAt b i)) (recordAt b i)
 
 -- LINKS
 unfoldable pub nextOf : List ℕ → ℕ → ℕ
@@ -183,7 +191,7 @@ unfoldable pub pointersFrom : List ℕ → ℕ → ℕ → ℕ
 pointersFrom b i j =
     cond (eqb j 0) (hits (firstUser b) i)
     (cond (eqb (kindAt b j) userKind) (hits (nextOf b j) i + hits (firstEntryOf b j) i)
-    (cond (eqb (kindAt b j) advanceKind || eqb (kindAt b j) closingKind) (hits (nextOf b j) i) 0))
+    (cond (entryKind (kindAt b j)) (hits (nextOf b j) i) 0))
 
 unfoldable pub pointersTo : List ℕ → ℕ → ℕ
 pointersTo b i = sumBelow (used b) (pointersFrom b i)
@@ -192,14 +200,24 @@ unfoldable pub pointedOnce : List ℕ → ℕ → Bool
 pointedOnce b i = eqb (pointersTo b i) 1
 
 -- "A user's first entry is an advance of the open year or the closing of the year before, or 0 if no year is closed. After
--- an entry of year y stands an advance of y, or the closing of y − 1, or 0 if y is the activation year." The rank of an
--- entry in its chain is its year; e is what stands where entries of year y may follow.
-unfoldable pub rankOf : List ℕ → ℕ → ℕ
-rankOf b e = get yearField (recordAt b e)
+-- an entry of year y stands an advance of y, or the closing of y − 1, or 0 if y is the activation year." The LEVEL of an entry
+-- is the year that was open when it was booked: today its own year. An advance keeps that year open, a closing ends it; e is
+-- what stands where entries of level y may follow.
+unfoldable pub levelIn : List ℕ → ℕ
+levelIn r = get yearField r
+
+unfoldable pub levelOf : List ℕ → ℕ → ℕ
+levelOf b e = levelIn (recordAt b e)
+
+abbrev pub keepsYear : List ℕ → ℕ → Bool
+keepsYear b e = isAdvance b e
+
+unfoldable pub yearsEnded : ℕ → ℕ
+yearsEnded kind = cond (eqb kind closingKind) 1 0
 
 unfoldable pub inOrder : List ℕ → ℕ → ℕ → ℕ → Bool
 inOrder b activation y e =
-    cond (eqb e 0) (eqb y activation) ((isAdvance b e && eqb (rankOf b e) y) || (isClosing b e && eqb (rankOf b e + 1) y))
+    cond (eqb e 0) (eqb y activation) ((keepsYear b e && eqb (levelOf b e) y) || (isClosing b e && eqb (levelOf b e + 1) y))
 
 unfoldable pub activationOf : List ℕ → ℕ → ℕ
 activationOf b i = get activationYearField (recordAt b i)
@@ -211,7 +229,7 @@ unfoldable pub firstInOrder : List ℕ → ℕ → Bool
 firstInOrder b i = inOrder b (activationOf b i) (openYearOf b i) (firstEntryOf b i)
 
 unfoldable pub nextInOrder : List ℕ → ℕ → Bool
-nextInOrder b i = inOrder b (activationOf b (ownerOf b i)) (rankOf b i) (nextOf b i)
+nextInOrder b i = inOrder b (activationOf b (ownerOf b i)) (levelOf b i) (nextOf b i)
 
 -- FAULTS: "A record below u is faulty if its kind, a range or a zero byte is wrong, or if one of these fails." The fault is
 -- that of the sentence's subject.
@@ -225,7 +243,7 @@ goodRecord b i = ((rangesFit b i && zeroBytesFit b i) && linksFit b i) && pointe
 
 -- "The head is faulty if .. its first user is neither 0 nor a user below u, or its rest isn't zero."
 unfoldable pub goodHead : List ℕ → Bool
-goodHead b = (eqb (firstUser b) 0 || isUser b (firstUser b)) && zeros 8 72 (recordAt b 0)
+goodHead b = (eqb (firstUser b) 0 || isUser b (firstUser b)) && allZero unnamedOfHead (recordAt b 0)
 
 -- "The head is faulty if u is outside 1 to capacity (then it alone is)"
 unfoldable pub faulty : List ℕ → ℕ → Bool

@@ -4,8 +4,8 @@ ghost use mathlib.Core.Bool.{_&&_};
 ghost use Prim.Native.Nat.{_-_, _*_, _≤_, _<_};
 ghost use lib.Dec.{leb};
 ghost use Rattle.units.specs.Limits.{maxYearTicks};
-ghost use Rattle.book.specs.Book.{lengthFits, detailsFit, openYearFits, halvesOf, runMade, dueIfMade, runsFit, halvesMade, advancesFit, creditFits, halvesFit, accountFits, isRun, advanceFits, balanceFits, closingFits, within};
-ghost use Rattle.layout.specs.Fields.{recordLength, zeros};
+ghost use Rattle.book.specs.Book.{lengthFits, detailsFit, openYearFits, halvesOf, runMade, dueIfMade, runsFit, halvesMade, advancesFit, creditFits, halvesFit, accountFits, isRun, advanceFits, balanceFits, closingFits, entryRanges, unnamedOf, entryKind, levelIn, yearsEnded, within};
+ghost use Rattle.layout.specs.Fields.{recordLength, get, kindField, allZero, unnamedOfUser, unnamedOfAdvance, unnamedOfClosing};
 ghost use lib.ListN.{length};
 ghost use Rattle.records.specs.Records.{accountIn, advanceIn, closingIn};
 use accounts::Account;
@@ -15,6 +15,8 @@ use calendar::JANUARY;
 use calendar::JUNE;
 use calendar::OCTOBER;
 use layout::RECORD_LENGTH;
+use layout::kind::ADVANCE;
+use layout::kind::CLOSING;
 use records::AdvanceRecord;
 use records::ClosingRecord;
 use units::Ticks;
@@ -213,40 +215,72 @@ fn closing_fits(activation: u16, open_year: u16, c: ClosingRecord) -> bool
 
 pub fn user_record_fits(r: &[u8]) -> bool
     requires { ⌜ length (now r) ≡ recordLength ⌝ }
-    ensures { λ s. ⌜ s ≡ (accountFits (accountIn (now (r .entry))) && (zeros 27 5 (now (r .entry)) && zeros 56 24 (now (r .entry)))) ⌝ }
+    ensures { λ s. ⌜ s ≡ (accountFits (accountIn (now (r .entry))) && allZero unnamedOfUser (now (r .entry))) ⌝ }
 {
     let r = layout::whole(r);
-    if layout::zeros(r, 27, 5) & layout::zeros(r, 56, 24) {
+    if layout::user_rest_zero(r) {
         account_fits(records::read_account(r))
     } else {
         false
     }
 }
 
-pub fn advance_record_fits(r: &[u8], owner: &[u8]) -> bool
+fn advance_record_fits(r: &[u8], owner: &[u8]) -> bool
     requires { ⌜ length (now r) ≡ recordLength ⌝ }
-    ensures { λ s. ⌜ s ≡ (advanceFits (accountIn (now (owner .entry))) (advanceIn (now (r .entry))) && (zeros 16 48 (now (r .entry)) && zeros 68 12 (now (r .entry)))) ⌝ }
+    ensures { λ s. ⌜ s ≡ (advanceFits (accountIn (now (owner .entry))) (advanceIn (now (r .entry))) && allZero unnamedOfAdvance (now (r .entry))) ⌝ }
 {
     let r = layout::whole(r);
     let activation = layout::activation_year_of(owner);
     let open_year = layout::open_year_of(owner);
-    if layout::zeros(r, 16, 48) & layout::zeros(r, 68, 12) {
+    if layout::advance_rest_zero(r) {
         advance_fits(activation, open_year, records::read_advance(r))
     } else {
         false
     }
 }
 
-pub fn closing_record_fits(r: &[u8], owner: &[u8]) -> bool
+fn closing_record_fits(r: &[u8], owner: &[u8]) -> bool
     requires { ⌜ length (now r) ≡ recordLength ⌝ }
-    ensures { λ s. ⌜ s ≡ (closingFits (accountIn (now (owner .entry))) (closingIn (now (r .entry))) && zeros 68 12 (now (r .entry))) ⌝ }
+    ensures { λ s. ⌜ s ≡ (closingFits (accountIn (now (owner .entry))) (closingIn (now (r .entry))) && allZero unnamedOfClosing (now (r .entry))) ⌝ }
 {
     let r = layout::whole(r);
     let activation = layout::activation_year_of(owner);
     let open_year = layout::open_year_of(owner);
-    if layout::zeros(r, 68, 12) {
+    if layout::closing_rest_zero(r) {
         closing_fits(activation, open_year, records::read_closing(r))
     } else {
         false
     }
+}
+
+pub fn entry_record_fits(r: &[u8], owner: &[u8]) -> bool
+    requires { ⌜ length (now r) ≡ recordLength ⌝ }
+    ensures { λ s. ⌜ s ≡ (entryRanges (accountIn (now (owner .entry))) (now (r .entry)) && allZero (unnamedOf (get kindField (now (r .entry)))) (now (r .entry))) ⌝ }
+{
+    match layout::kind_of(r) {
+        ADVANCE => advance_record_fits(r, owner),
+        CLOSING => closing_record_fits(r, owner),
+        _ => false,
+    }
+}
+
+pub fn is_entry_kind(kind: u8) -> bool
+    ensures { λ r. ⌜ r ≡ entryKind kind ⌝ }
+{
+    (kind == ADVANCE) | (kind == CLOSING)
+}
+
+// THE ORDER OF A CHAIN
+
+pub fn level_of(r: &[u8]) -> u16
+    ensures { λ n. ⌜ n ≡ levelIn (now (r .entry)) ⌝ }
+{
+    layout::year_of(r)
+}
+
+// The years that an entry ends: a closing its own, any other entry none.
+pub fn years_ended(kind: u8) -> u32
+    ensures { λ n. ⌜ n ≡ yearsEnded kind ⌝ }
+{
+    if kind == CLOSING { 1 } else { 0 }
 }

@@ -20,7 +20,8 @@ use Rattle.records.specs.Records.{accountIn, advanceImage}
 use Rattle.records.proofs.Advances.{length-advance-image, bytes-advance-image}
 use Rattle.book.specs.Book.{used, isUser, firstEntryOf, accountAt, accountFits, openYearOf, halvesOf, runMade, isRun, yearFits, advanceFits}
 use Rattle.book.proofs.Faultless.{Faultless}
-use Rattle.calls.specs.Bookings.{findUser, runAmount, advanceEntry, advanced}
+use Rattle.calls.specs.Bookings.{runAmount, advanceEntry, advanced}
+use Rattle.book.specs.Find.{findUser}
 use Rattle.calls.specs.Refusals.{runOpen, orderFits, userAt, advanceRefusal}
 use Rattle.calls.specs.Calls.{paidBy}
 use Rattle.bookings.proofs.Ranges.{conjuncts}

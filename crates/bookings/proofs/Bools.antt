@@ -1,7 +1,7 @@
 -- Laws of the tests that the rules of a link are made of: "0 or ..", and a test that stays.
 use Prim.Native.Nat.{ℕ}
 use mathlib.Core.Path.{_≡_, refl, sym, ap, _∙_}
-use mathlib.Core.Bool.{Bool, true, false, _&&_, _||_}
+use mathlib.Core.Bool.{Bool, true, false, _&&_, _||_, cond}
 use mathlib.Core.Logic.{⊎-elim}
 use borrow.Author.Tests.{eqb-true, eq-eqb}
 use lib.Dec.{eqb}
@@ -20,3 +20,7 @@ or-stays s t {s′} {t′} p q h = ⊎-elim (λ e. or-first t′ (p e)) (λ e. o
 
 pub and-stays : (s t : Bool) {s′ t′ : Bool} → (s ≡ true → s′ ≡ true) → (t ≡ true → t′ ≡ true) → (s && t) ≡ true → (s′ && t′) ≡ true
 and-stays s t p q h = and-both (p (and-left s t h)) (q (and-right s t h))
+
+pub cond-stays : (t : Bool) {x y x′ y′ : Bool} → (x ≡ true → x′ ≡ true) → (y ≡ true → y′ ≡ true) → cond t x y ≡ true → cond t x′ y′ ≡ true
+cond-stays true p q h = p h
+cond-stays false p q h = q h

@@ -27,7 +27,8 @@ use Rattle.records.specs.Records.{accountIn, closingImage}
 use Rattle.records.proofs.Closings.{length-closing-image, bytes-closing-image}
 use Rattle.book.specs.Book.{used, isUser, firstEntryOf, accountAt, accountFits, openYearOf, yearFits, balanceFits, closingFits}
 use Rattle.book.proofs.Faultless.{Faultless}
-use Rattle.calls.specs.Bookings.{findUser, closingEntry, closed, valuesOf}
+use Rattle.calls.specs.Bookings.{closingEntry, closed, valuesOf}
+use Rattle.book.specs.Find.{findUser}
 use Rattle.calls.specs.Refusals.{yearOpen, userAt, closeRefusal}
 use Rattle.bookings.proofs.Bools.{or-first, or-second}
 use Rattle.bookings.proofs.Ranges.{conjuncts, DetailsWithin}

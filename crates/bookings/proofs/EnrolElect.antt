@@ -12,7 +12,8 @@ use Rattle.layout.proofs.ByteRanges.{Bytes}
 use Rattle.calendar.specs.ElectionAndAdvances.{isDay}
 use Rattle.book.specs.Book.{used, accountAt, accountFits}
 use Rattle.book.proofs.Faultless.{Faultless}
-use Rattle.calls.specs.Bookings.{findUser, newAccount, enrolled, elected}
+use Rattle.calls.specs.Bookings.{newAccount, enrolled, elected}
+use Rattle.book.specs.Find.{findUser}
 use Rattle.calls.specs.Refusals.{numberFree, present, dayAndOption, enrolRefusal, electRefusal}
 use Rattle.bookings.proofs.Good.{Good, sound-good, room}
 use Rattle.bookings.proofs.Numbers.{Found, found, none-found}

@@ -75,8 +75,7 @@ module _ (b b′ : List ℕ) (a : Account) (g : Good b) (new : NewAccount b a) (
   user-good =
       record {
         fits = rw (user .account) (new .fits);
-        gap = user .gap;
-        tail = user .tail;
+        unnamed = user .unnamed;
         next = next-fits;
         number = number-is-new;
         first = first-fits;

@@ -10,7 +10,7 @@ use lib.Dec.{eqb, ltb, lit<}
 use Rattle.units.proofs.Bools.{and-left, and-right, and-both}
 use Rattle.accounts.specs.declared.Account.{Account}
 use Rattle.layout.specs.Fields.{recordAt, capacity, userKind, advanceKind, closingKind}
-use Rattle.book.specs.Book.{used, firstUser, accountFits, accountAt, isUser, isAdvance, isClosing, isEntry, nextOf, firstEntryOf, ownerOf, rankOf, activationOf, openYearOf, firstEntryFits, firstInOrder, inOrder, nextInOrder, ownerFits, entryNextFits, hits, pointersFrom}
+use Rattle.book.specs.Book.{used, firstUser, accountFits, accountAt, isUser, isAdvance, isClosing, isEntry, nextOf, firstEntryOf, ownerOf, levelOf, activationOf, openYearOf, firstEntryFits, firstInOrder, inOrder, nextInOrder, ownerFits, entryNextFits, hits, pointersFrom}
 use Rattle.book.proofs.RecordKinds.{kind-index, entry-index}
 use Rattle.book.proofs.Faultless.{Faultless, UserGood, EntryLinks}
 use Rattle.bookings.proofs.Bools.{or-stays, or-first, or-second}
@@ -102,8 +102,7 @@ module _ (b b′ : List ℕ) (i : ℕ) (a : Account) (entry : List ℕ) (g : Goo
         let place = kind-index b userKind i h in
         record {
           fits = rw (entered-user .account) fits;
-          gap = entered-user .gap;
-          tail = entered-user .tail;
+          unnamed = entered-user .unnamed;
           next = user-next-kept b b′ i entered-frame i h (u .next);
           number = number-kept b b′ i entered-frame i h (u .number);
           first = first-fits;

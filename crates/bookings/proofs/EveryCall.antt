@@ -10,7 +10,8 @@ use Rattle.values.specs.YearsValues.{ValuesFit}
 use Rattle.layout.proofs.ByteRanges.{Bytes}
 use Rattle.sheet.specs.YearSheet.{sheetUser}
 use Rattle.book.specs.Book.{lengthFits, sound, used}
-use Rattle.calls.specs.Bookings.{findUser, valuesOf}
+use Rattle.calls.specs.Bookings.{valuesOf}
+use Rattle.book.specs.Find.{findUser}
 use Rattle.calls.specs.Calls.{Call, enrol, elect, advance, close, statement, refusalOf, booked, bookAfter}
 use Rattle.bookings.proofs.Good.{Good, sound-good, good-sound}
 use Rattle.bookings.proofs.Frame.{Frame, frame-of-old}

@@ -9,7 +9,7 @@ use borrow.Author.Tests.{le-leb, eqb-true, eq-eqb}
 use lib.Dec.{eqb, leb}
 use lib.ListN.{length}
 use Rattle.units.proofs.Bools.{and-left, and-right, and-both}
-use Rattle.layout.specs.Fields.{recordAt, zeros, capacity, userKind}
+use Rattle.layout.specs.Fields.{recordAt, allZero, unnamedOfHead, capacity, userKind}
 use Rattle.layout.proofs.ByteRanges.{Bytes}
 use Rattle.book.specs.Book.{lengthFits, used, usedFits, firstUser, goodHead, isUser, hasKind, kindAt}
 use Rattle.book.proofs.RecordKinds.{has-kind}
@@ -24,13 +24,13 @@ use Rattle.bookings.proofs.RecordsKept.{GoodAt, good-records}
 -- the first user is 0 or a user
 pub first-user-fits : (b : List ℕ) → goodHead b ≡ true → (eqb (firstUser b) 0 || isUser b (firstUser b)) ≡ true
 unfolding goodHead
-first-user-fits b h = and-left (eqb (firstUser b) 0 || isUser b (firstUser b)) (zeros 8 72 (recordAt b 0)) h
+first-user-fits b h = and-left (eqb (firstUser b) 0 || isUser b (firstUser b)) (allZero unnamedOfHead (recordAt b 0)) h
 
-pub head-rest : (b : List ℕ) → goodHead b ≡ true → zeros 8 72 (recordAt b 0) ≡ true
+pub head-rest : (b : List ℕ) → goodHead b ≡ true → allZero unnamedOfHead (recordAt b 0) ≡ true
 unfolding goodHead
-head-rest b h = and-right (eqb (firstUser b) 0 || isUser b (firstUser b)) (zeros 8 72 (recordAt b 0)) h
+head-rest b h = and-right (eqb (firstUser b) 0 || isUser b (firstUser b)) (allZero unnamedOfHead (recordAt b 0)) h
 
-pub head-good : (b : List ℕ) (first : ℕ) → firstUser b ≡ first → (eqb first 0 || isUser b first) ≡ true → zeros 8 72 (recordAt b 0) ≡ true → goodHead b ≡ true
+pub head-good : (b : List ℕ) (first : ℕ) → firstUser b ≡ first → (eqb first 0 || isUser b first) ≡ true → allZero unnamedOfHead (recordAt b 0) ≡ true → goodHead b ≡ true
 unfolding goodHead
 head-good b first e h rest = rw e (and-both h rest)
 

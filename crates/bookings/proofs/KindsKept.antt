@@ -1,7 +1,7 @@
 -- Kinds under a frame: at an old index every kind stays, and none is lost.
 use Prim.Native.Nat.{ℕ, _<_}
 use mathlib.Core.Path.{_≡_, ap, ap₂, _∙_}
-use mathlib.Core.Bool.{true, _&&_, _||_}
+use mathlib.Core.Bool.{true, _&&_, _||_, Bool}
 use mathlib.Core.List.{List}
 use native.Mathlib.Decide.{decLt}
 use native.Mathlib.Omega.{arith}
@@ -10,24 +10,28 @@ use lib.Dec.{ltb, eqb}
 use Rattle.layout.specs.Fields.{get, ownerField, yearField, advanceKind, closingKind}
 use Rattle.records.specs.Records.{accountIn}
 use Rattle.values.specs.declared.Details.{Details}
-use Rattle.book.specs.Book.{used, kindAt, hasKind, isUser, isEntry, ownerOf, rankOf, activationOf}
+use Rattle.book.specs.Book.{used, kindAt, hasKind, isUser, isEntry, ownerOf, levelOf, activationOf, levelIn, entryKind}
 use Rattle.book.proofs.RecordKinds.{kind-index, entry-index}
 use Rattle.bookings.proofs.Frame.{Frame}
 
 module _ (b b′ : List ℕ) (i : ℕ) (f : Frame b b′ i) where
-  pub kind-same : (k j : ℕ) → j < used b → hasKind b′ k j ≡ hasKind b k j
-  unfolding hasKind
-  kind-same k j hi = by-place (decLt 0 j)
+  -- a test of the kind, where the record is in use, answers the same
+  test-same : (test : ℕ → Bool) (j : ℕ) → j < used b → ((ltb 0 j && ltb j (used b′)) && test (kindAt b′ j)) ≡ ((ltb 0 j && ltb j (used b)) && test (kindAt b j))
+  test-same test j hi = by-place (decLt 0 j)
     where
-      by-place : Dec (0 < j) → ((ltb 0 j && ltb j (used b′)) && eqb (kindAt b′ j) k) ≡ ((ltb 0 j && ltb j (used b)) && eqb (kindAt b j) k)
+      by-place : Dec (0 < j) → ((ltb 0 j && ltb j (used b′)) && test (kindAt b′ j)) ≡ ((ltb 0 j && ltb j (used b)) && test (kindAt b j))
       by-place (yes lo) =
           let hi′ : j < used b′ = omega (arith, f .grows) in
           rw (lt-ltb 0 j lo, lt-ltb j (used b) hi, lt-ltb j (used b′) hi′, f .kind j lo hi)
       by-place (no n) = rw (le-ltb 0 j (omega (arith, n)))
 
+  pub kind-same : (k j : ℕ) → j < used b → hasKind b′ k j ≡ hasKind b k j
+  unfolding hasKind
+  kind-same k j hi = test-same (λ n. eqb n k) j hi
+
   pub entry-same : (j : ℕ) → j < used b → isEntry b′ j ≡ isEntry b j
   unfolding isEntry
-  entry-same j hi = ap₂ _||_ (kind-same advanceKind j hi) (kind-same closingKind j hi)
+  entry-same j hi = test-same entryKind j hi
 
   pub kind-stays : (k j : ℕ) → hasKind b k j ≡ true → hasKind b′ k j ≡ true
   kind-stays k j h = kind-same k j (kind-index b k j h .1 .0) ∙ h
@@ -40,9 +44,9 @@ module _ (b b′ : List ℕ) (i : ℕ) (f : Frame b b′ i) where
   unfolding ownerOf
   owner-same j h = ap (get ownerField) (f .entry j h)
 
-  pub rank-same : (j : ℕ) → isEntry b j ≡ true → rankOf b′ j ≡ rankOf b j
-  unfolding rankOf
-  rank-same j h = ap (get yearField) (f .entry j h)
+  pub level-same : (j : ℕ) → isEntry b j ≡ true → levelOf b′ j ≡ levelOf b j
+  unfolding levelOf
+  level-same j h = ap levelIn (f .entry j h)
 
   pub activation-same : (j : ℕ) → isUser b j ≡ true → activationOf b′ j ≡ activationOf b j
   unfolding activationOf accountIn

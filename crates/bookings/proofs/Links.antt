@@ -8,7 +8,7 @@ use native.Mathlib.Decide.{decLt}
 use native.Mathlib.Omega.{arith}
 use borrow.Author.Tests.{eqb-true, ltb-true}
 use lib.Dec.{eqb, ltb}
-use Rattle.layout.specs.Fields.{recordAt, zeros, userKind, advanceKind, closingKind}
+use Rattle.layout.specs.Fields.{recordAt, allZero, unnamedOfHead, userKind, advanceKind, closingKind}
 use Rattle.units.proofs.Bools.{and-left, and-right, or-cases}
 use Rattle.units.proofs.Folds.{sum-none}
 use Rattle.book.specs.Book.{used, firstUser, kindAt, isUser, isAdvance, isClosing, isEntry, nextOf, firstEntryOf, ownerOf, goodHead, userNextFits, firstEntryFits, entryNextFits, pointersFrom, pointersTo}
@@ -16,7 +16,7 @@ use Rattle.book.proofs.Faults.{used-within}
 use Rattle.book.proofs.Hits.{hits-other}
 use Rattle.book.proofs.RecordKinds.{kind-index, entry-index}
 use Rattle.book.proofs.Faultless.{Faultless, EntryLinks}
-use Rattle.bookings.proofs.Pointers.{from-head, from-user, from-advance, from-closing}
+use Rattle.bookings.proofs.Pointers.{from-head, from-user, from-entry}
 
 module _ (b : List ℕ) (g : Faultless b) where
   some-used : 1 ≤ used b
@@ -29,7 +29,7 @@ module _ (b : List ℕ) (g : Faultless b) where
   pub first-user-below : firstUser b < used b
   unfolding goodHead
   first-user-below =
-      link-below (firstUser b) (isUser b (firstUser b)) (and-left (eqb (firstUser b) 0 || isUser b (firstUser b)) (zeros 8 72 (recordAt b 0)) (g .head))
+      link-below (firstUser b) (isUser b (firstUser b)) (and-left (eqb (firstUser b) 0 || isUser b (firstUser b)) (allZero unnamedOfHead (recordAt b 0)) (g .head))
       (λ e. kind-index b userKind (firstUser b) e .1 .0)
 
   pub user-next-below : (j : ℕ) → isUser b j ≡ true → nextOf b j < used b
@@ -53,21 +53,18 @@ module _ (b : List ℕ) (g : Faultless b) where
       (and-left (isEntry b (nextOf b j)) (eqb (ownerOf b (nextOf b j)) (ownerOf b j))
       (and-left (isEntry b (nextOf b j) && eqb (ownerOf b (nextOf b j)) (ownerOf b j)) (ltb (nextOf b j) j) t)) .1)
 
-  -- a record of one of the three kinds
-  pub by-kind : (P : Type 0) (j : ℕ) → 1 ≤ j → j < used b → (isUser b j ≡ true → P) → (isAdvance b j ≡ true → P) → (isClosing b j ≡ true → P) → P
-  unfolding isEntry
-  by-kind P j lo hi user advance closing =
-      ⊎-elim user (λ e. ⊎-elim advance closing (or-cases (isAdvance b j) (isClosing b j) e)) (or-cases (isUser b j) (isEntry b j) (g .known j lo hi))
+  -- a record is a user or an entry
+  pub by-role : (P : Type 0) (j : ℕ) → 1 ≤ j → j < used b → (isUser b j ≡ true → P) → (isEntry b j ≡ true → P) → P
+  by-role P j lo hi user entry = ⊎-elim user entry (or-cases (isUser b j) (isEntry b j) (g .known j lo hi))
 
   from-below : (k j : ℕ) → used b ≤ k → 1 ≤ j → j < used b → pointersFrom b k j ≡ 0
   from-below k j above lo hi =
-      by-kind (pointersFrom b k j ≡ 0) j lo hi
+      by-role (pointersFrom b k j ≡ 0) j lo hi
       (λ u.
       let next = hits-other (nextOf b j) k (omega (arith, user-next-below j u)) in
       let first = hits-other (firstEntryOf b j) k (omega (arith, first-entry-below j u)) in
       omega (arith, from-user b k j lo (kind-index b userKind j u .1 .1)))
-      (λ a. from-advance b k j lo (kind-index b advanceKind j a .1 .1) ∙ hits-other (nextOf b j) k (omega (arith, entry-next-below j (g .advance j a .links))))
-      (λ c. from-closing b k j lo (kind-index b closingKind j c .1 .1) ∙ hits-other (nextOf b j) k (omega (arith, entry-next-below j (g .closing j c .links))))
+      (λ e. from-entry b k j e ∙ hits-other (nextOf b j) k (omega (arith, entry-next-below j (g .entry j e .links))))
 
   -- nothing points to u or above it
   pub none-points : (k : ℕ) → used b ≤ k → pointersTo b k ≡ 0

@@ -14,17 +14,17 @@ use Rattle.layout.proofs.ByteRanges.{field-below}
 use Rattle.records.specs.declared.AdvanceRecord.{AdvanceRecord}
 use Rattle.records.specs.declared.ClosingRecord.{ClosingRecord}
 use Rattle.records.specs.Records.{advanceImage, closingImage, advanceIn, closingIn}
-use Rattle.book.specs.Book.{used, firstUser, accountFits, advanceFits, closingFits, accountAt, isUser, isAdvance, isClosing, firstEntryOf, ownerOf, rankOf, openYearOf, activationOf, inOrder, kindAt}
+use Rattle.book.specs.Book.{used, firstUser, accountFits, advanceFits, closingFits, accountAt, isUser, isAdvance, isClosing, firstEntryOf, ownerOf, levelOf, openYearOf, activationOf, inOrder, kindAt, entryRanges, zeroBytesFit, unnamedOf}
 use Rattle.book.proofs.RecordKinds.{kind-index, advance-entry, closing-entry}
-use Rattle.book.proofs.Faultless.{Faultless, AdvanceGood, ClosingGood}
+use Rattle.book.proofs.Faultless.{Faultless, EntryGood, entry-ranges}
 use Rattle.bookings.proofs.Bools.{or-first, or-second}
 use Rattle.bookings.proofs.Widths.{advance-widths, closing-widths}
 use Rattle.bookings.proofs.Records.{UserAt, EntryAt, AdvanceAt, advance-at, ClosingAt, closing-at}
 use Rattle.bookings.proofs.Good.{Good, Sizes, sizes}
 use Rattle.bookings.proofs.Written.{HeadAt, EntryAdded}
 use Rattle.bookings.proofs.Frame.{SameUser}
-use Rattle.bookings.proofs.Pointers.{from-advance, from-closing}
-use Rattle.bookings.proofs.RecordsKept.{GoodAt, an-advance, a-closing}
+use Rattle.bookings.proofs.Pointers.{from-entry}
+use Rattle.bookings.proofs.RecordsKept.{GoodAt, an-entry}
 use Rattle.bookings.proofs.Entries.{NewEntry, Entered, entered-user, entry-links, entered}
 use Rattle.bookings.proofs.Grown.{new-kind}
 
@@ -40,15 +40,15 @@ entry-in-front b b′ i next owner year p e =
     record { next-is = e .next-is ∙ p .next-is; owner-is = e .owner-is ∙ p .owner-is; year-is = e .year-is ∙ p .year-is }
 
 -- what stands first in the chain of a user whose open year is y
-advance-in-order : (b : List ℕ) (activation y e : ℕ) → 1 ≤ e → isAdvance b e ≡ true → rankOf b e ≡ y → inOrder b activation y e ≡ true
+advance-in-order : (b : List ℕ) (activation y e : ℕ) → 1 ≤ e → isAdvance b e ≡ true → levelOf b e ≡ y → inOrder b activation y e ≡ true
 unfolding inOrder
 advance-in-order b activation y e lo h r =
-    rw (ne-eqb e 0 (omega arith)) (or-first (isClosing b e && eqb (rankOf b e + 1) y) (and-both h (eq-eqb (rankOf b e) y r)))
+    rw (ne-eqb e 0 (omega arith)) (or-first (isClosing b e && eqb (levelOf b e + 1) y) (and-both h (eq-eqb (levelOf b e) y r)))
 
-closing-in-order : (b : List ℕ) (activation y e : ℕ) → 1 ≤ e → isClosing b e ≡ true → rankOf b e + 1 ≡ y → inOrder b activation y e ≡ true
+closing-in-order : (b : List ℕ) (activation y e : ℕ) → 1 ≤ e → isClosing b e ≡ true → levelOf b e + 1 ≡ y → inOrder b activation y e ≡ true
 unfolding inOrder
 closing-in-order b activation y e lo h r =
-    rw (ne-eqb e 0 (omega arith)) (or-second (isAdvance b e && eqb (rankOf b e) y) (and-both h (eq-eqb (rankOf b e + 1) y r)))
+    rw (ne-eqb e 0 (omega arith)) (or-second (isAdvance b e && eqb (levelOf b e) y) (and-both h (eq-eqb (levelOf b e + 1) y r)))
 
 module _ (b b′ : List ℕ) (i : ℕ) (a : Account) (g : Good b) (h : isUser b i ≡ true) (same : SameUser (accountAt b i) a) (fits : accountFits a ≡ true)
     (room : used b < capacity b) where
@@ -77,22 +77,24 @@ module _ (b b′ : List ℕ) (i : ℕ) (a : Account) (g : Good b) (h : isUser b 
         record {
           entry = entry;
           is-entry = advance-entry b′ (used b) is-advance;
-          points = λ k. from-advance b′ k (used b) (s .some) (advance .kind) ∙ rw (entry .next-is);
+          points = λ k. from-entry b′ k (used b) (advance-entry b′ (used b) is-advance) ∙ rw (entry .next-is);
           order = advance-in-order b′ (activationOf b i) (a .«open_year») (used b) (s .some) is-advance (entry .year-is ∙ sym year);
         }
 
-    advance-good : AdvanceGood b′ (used b)
+    advance-good : EntryGood b′ (used b)
+    unfolding entryRanges zeroBytesFit unnamedOf kindAt
     advance-good =
         record {
-          fits =
-              rw (advance .entry .owner-is, front .owner-is, entered-user b b′ i a (advanceImage x) g h same fits e .account, advance .advance) ranges;
-          gap = advance .gap;
-          tail = advance .tail;
+          own =
+              and-both
+              (entry-ranges b′ (used b) (advance-entry b′ (used b) is-advance)
+              (rw (advance .kind, advance .entry .owner-is, front .owner-is, entered-user b b′ i a (advanceImage x) g h same fits e .account, advance .advance) ranges))
+              (rw (advance .kind) (advance .unnamed));
           links = entry-links b b′ i a (advanceImage x) g h same fits e new-advance;
         }
 
     pub advance-entered : Entered b b′ i a × AdvanceAt b′ (used b) x
-    advance-entered = (entered b b′ i a (advanceImage x) g h same fits e new-advance room (an-advance is-advance advance-good), advance)
+    advance-entered = (entered b b′ i a (advanceImage x) g h same fits e new-advance room (an-entry (advance-entry b′ (used b) is-advance) advance-good), advance)
 
   -- a closing of the open year, which the next follows
   module _ (x : ClosingRecord) (front : InFront b i (x .next .0) (x .owner .0) (x .year)) (ranges : closingFits a x ≡ true) (balance : x .balance .0 < 2 ^ 64)
@@ -112,18 +114,21 @@ module _ (b b′ : List ℕ) (i : ℕ) (a : Account) (g : Good b) (h : isUser b 
         record {
           entry = entry;
           is-entry = closing-entry b′ (used b) is-closing;
-          points = λ k. from-closing b′ k (used b) (s .some) (closing .kind) ∙ rw (entry .next-is);
+          points = λ k. from-entry b′ k (used b) (closing-entry b′ (used b) is-closing) ∙ rw (entry .next-is);
           order = closing-in-order b′ (activationOf b i) (a .«open_year») (used b) (s .some) is-closing (omega (arith, entry .year-is, year));
         }
 
-    closing-good : ClosingGood b′ (used b)
+    closing-good : EntryGood b′ (used b)
+    unfolding entryRanges zeroBytesFit unnamedOf kindAt
     closing-good =
         record {
-          fits =
-              rw (closing .entry .owner-is, front .owner-is, entered-user b b′ i a (closingImage x) g h same fits e .account, closing .closing) ranges;
-          tail = closing .tail;
+          own =
+              and-both
+              (entry-ranges b′ (used b) (closing-entry b′ (used b) is-closing)
+              (rw (closing .kind, closing .entry .owner-is, front .owner-is, entered-user b b′ i a (closingImage x) g h same fits e .account, closing .closing) ranges))
+              (rw (closing .kind) (closing .unnamed));
           links = entry-links b b′ i a (closingImage x) g h same fits e new-closing;
         }
 
     pub closing-entered : Entered b b′ i a × ClosingAt b′ (used b) x
-    closing-entered = (entered b b′ i a (closingImage x) g h same fits e new-closing room (a-closing is-closing closing-good), closing)
+    closing-entered = (entered b b′ i a (closingImage x) g h same fits e new-closing room (an-entry (closing-entry b′ (used b) is-closing) closing-good), closing)

@@ -12,7 +12,7 @@ use Rattle.units.proofs.Bools.{and-left, and-right}
 use Rattle.units.proofs.Folds.{none-at, none-of, below-suc}
 use Rattle.book.specs.Book.{used, isUser, numberOf, numberIsNew}
 use Rattle.book.proofs.RecordKinds.{kind-index}
-use Rattle.calls.specs.Bookings.{findBelow, findUser}
+use Rattle.book.specs.Find.{findBelow, findUser}
 
 -- the record j is the user with this number
 abbrev bears : List ℕ → ℕ → ℕ → Bool

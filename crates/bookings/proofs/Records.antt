@@ -4,15 +4,15 @@ use mathlib.Core.Path.{_≡_, ap, _∙_}
 use mathlib.Core.Bool.{Bool, true}
 use mathlib.Core.List.{List}
 use Rattle.accounts.specs.declared.Account.{Account}
-use Rattle.layout.specs.Fields.{get, zeros, recordAt, userKind, advanceKind, closingKind, nextField, kindField, numberField, firstEntryField, activationYearField, openYearField, yearField, ownerField}
+use Rattle.layout.specs.Fields.{get, allZero, unnamedOfUser, unnamedOfAdvance, unnamedOfClosing, recordAt, userKind, advanceKind, closingKind, nextField, kindField, numberField, firstEntryField, activationYearField, openYearField, yearField, ownerField}
 use Rattle.records.specs.declared.UserRecord.{UserRecord}
 use Rattle.records.specs.declared.AdvanceRecord.{AdvanceRecord}
 use Rattle.records.specs.declared.ClosingRecord.{ClosingRecord}
 use Rattle.records.specs.Records.{userImage, advanceImage, closingImage, accountIn, userIn, advanceIn, closingIn}
-use Rattle.records.proofs.Users.{UserFits, UserReads, user-reads, user-back, user-gap, user-tail}
-use Rattle.records.proofs.Advances.{AdvanceFits, advance-reads, advance-back, advance-gap, advance-tail}
-use Rattle.records.proofs.Closings.{ClosingFits, closing-reads, closing-back, closing-tail}
-use Rattle.book.specs.Book.{kindAt, nextOf, firstEntryOf, numberOf, activationOf, openYearOf, accountAt, ownerOf, rankOf}
+use Rattle.records.proofs.Users.{UserFits, UserReads, user-reads, user-back, user-unnamed}
+use Rattle.records.proofs.Advances.{AdvanceFits, advance-reads, advance-back, advance-unnamed}
+use Rattle.records.proofs.Closings.{ClosingFits, closing-reads, closing-back, closing-unnamed}
+use Rattle.book.specs.Book.{kindAt, nextOf, firstEntryOf, numberOf, activationOf, openYearOf, accountAt, ownerOf, levelIn, levelOf}
 
 -- the user u stands at index i of b
 pub record UserAt (b : List ℕ) (i : ℕ) (u : UserRecord) : Type 0 where
@@ -23,8 +23,7 @@ pub record UserAt (b : List ℕ) (i : ℕ) (u : UserRecord) : Type 0 where
   pub activation : activationOf b i ≡ u .account .details .year
   pub openYear : openYearOf b i ≡ u .account .«open_year»
   pub account : accountAt b i ≡ u .account
-  pub gap : zeros 27 5 (recordAt b i) ≡ true
-  pub tail : zeros 56 24 (recordAt b i) ≡ true
+  pub unnamed : allZero unnamedOfUser (recordAt b i) ≡ true
 
 pub user-at : (b : List ℕ) (i : ℕ) (u : UserRecord) → recordAt b i ≡ userImage u → UserFits u → UserAt b i u
 unfolding kindAt nextOf firstEntryOf numberOf activationOf openYearOf userIn
@@ -38,48 +37,45 @@ user-at b i u e h =
       activation = ap (get activationYearField) e ∙ r .year;
       openYear = ap (get openYearField) e ∙ r .«open_year»;
       account = ap accountIn e ∙ ap (λ (w : UserRecord). w .account) (user-back u h);
-      gap = ap (zeros 27 5) e ∙ user-gap u;
-      tail = ap (zeros 56 24) e ∙ user-tail u;
+      unnamed = ap (allZero unnamedOfUser) e ∙ user-unnamed u;
     }
 
 -- what an entry of either kind reads: its next, its owner and its year
 pub record EntryAt (b : List ℕ) (i next owner year : ℕ) : Type 0 where
   pub next-is : nextOf b i ≡ next
   pub owner-is : ownerOf b i ≡ owner
-  pub year-is : rankOf b i ≡ year
+  pub year-is : levelOf b i ≡ year
 
 pub record AdvanceAt (b : List ℕ) (i : ℕ) (a : AdvanceRecord) : Type 0 where
   pub kind : kindAt b i ≡ advanceKind
   pub entry : EntryAt b i (a .next .0) (a .owner .0) (a .year)
   pub advance : advanceIn (recordAt b i) ≡ a
-  pub gap : zeros 16 48 (recordAt b i) ≡ true
-  pub tail : zeros 68 12 (recordAt b i) ≡ true
+  pub unnamed : allZero unnamedOfAdvance (recordAt b i) ≡ true
 
 pub advance-at : (b : List ℕ) (i : ℕ) (a : AdvanceRecord) → recordAt b i ≡ advanceImage a → AdvanceFits a → AdvanceAt b i a
-unfolding kindAt nextOf ownerOf rankOf
+unfolding kindAt nextOf ownerOf levelOf levelIn
 advance-at b i a e h =
     let r = advance-reads a h in
     record {
       kind = ap (get kindField) e ∙ r .kind;
       entry = record { next-is = ap (get nextField) e ∙ r .next; owner-is = ap (get ownerField) e ∙ r .owner; year-is = ap (get yearField) e ∙ r .year };
       advance = ap advanceIn e ∙ advance-back a h;
-      gap = ap (zeros 16 48) e ∙ advance-gap a;
-      tail = ap (zeros 68 12) e ∙ advance-tail a;
+      unnamed = ap (allZero unnamedOfAdvance) e ∙ advance-unnamed a;
     }
 
 pub record ClosingAt (b : List ℕ) (i : ℕ) (c : ClosingRecord) : Type 0 where
   pub kind : kindAt b i ≡ closingKind
   pub entry : EntryAt b i (c .next .0) (c .owner .0) (c .year)
   pub closing : closingIn (recordAt b i) ≡ c
-  pub tail : zeros 68 12 (recordAt b i) ≡ true
+  pub unnamed : allZero unnamedOfClosing (recordAt b i) ≡ true
 
 pub closing-at : (b : List ℕ) (i : ℕ) (c : ClosingRecord) → recordAt b i ≡ closingImage c → ClosingFits c → ClosingAt b i c
-unfolding kindAt nextOf ownerOf rankOf
+unfolding kindAt nextOf ownerOf levelOf levelIn
 closing-at b i c e h =
     let r = closing-reads c h in
     record {
       kind = ap (get kindField) e ∙ r .kind;
       entry = record { next-is = ap (get nextField) e ∙ r .next; owner-is = ap (get ownerField) e ∙ r .owner; year-is = ap (get yearField) e ∙ r .year };
       closing = ap closingIn e ∙ closing-back c h;
-      tail = ap (zeros 68 12) e ∙ closing-tail c;
+      unnamed = ap (allZero unnamedOfClosing) e ∙ closing-unnamed c;
     }

@@ -7,7 +7,7 @@ use native.Mathlib.Nat.{le-of-eq}
 use native.Mathlib.Omega.{arith}
 use lib.ListN.{length}
 use Rattle.accounts.specs.declared.Account.{Account}
-use Rattle.layout.specs.Fields.{recordAt, zeros, nextField, numberField, firstEntryField}
+use Rattle.layout.specs.Fields.{recordAt, allZero, unnamedOfHead, nextField, numberField, firstEntryField}
 use Rattle.layout.proofs.ByteRanges.{field-below}
 use Rattle.records.specs.Records.{accountIn}
 use Rattle.records.proofs.Users.{UserFits}
@@ -53,7 +53,7 @@ module _ (b b′ : List ℕ) (i : ℕ) (a : Account) (g : Good b) (h : isUser b 
   user-good : UserGood b′ i
   unfolding openYearOf accountIn
   user-good =
-      user-kept b b′ i (g .faultless) frame (λ k lo hi. set-pointers b b′ i a h s user k) i h (rw (user .account) fits) (user .gap) (user .tail) (user .first)
+      user-kept b b′ i (g .faultless) frame (λ k lo hi. set-pointers b b′ i a h s user k) i h (rw (user .account) fits) (user .unnamed) (user .first)
       (user .openYear ∙ year)
 
   used-fits : usedFits b′ ≡ true
@@ -63,7 +63,7 @@ module _ (b b′ : List ℕ) (i : ℕ) (a : Account) (g : Good b) (h : isUser b 
   pub rewritten : Rewritten b b′ i a
   rewritten =
       let first = set-first-user b b′ i a h s user in
-      let rest : zeros 8 72 (recordAt b′ 0) ≡ true = rw (set-head b b′ i a h s user) (head-rest b (g .faultless .head)) in
+      let rest : allZero unnamedOfHead (recordAt b′ 0) ≡ true = rw (set-head b b′ i a h s user) (head-rest b (g .faultless .head)) in
       let old = old-good b b′ i (g .faultless) frame (λ k lo hi. set-pointers b b′ i a h s user k) (λ t. user-good) in
       record {
         frame = frame;

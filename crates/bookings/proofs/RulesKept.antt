@@ -10,17 +10,17 @@ use lib.Dec.{eqb, ltb, leb}
 use Rattle.units.specs.Limits.{maxYearTicks, maxFlatRate, maxContribution}
 use Rattle.units.proofs.Bools.{and-left, and-right, and-both}
 use Rattle.accounts.specs.declared.Account.{Account}
-use Rattle.layout.specs.Fields.{recordAt, userKind, advanceKind, closingKind}
+use Rattle.layout.specs.Fields.{get, kindField, recordAt, userKind, advanceKind, closingKind}
 use Rattle.records.specs.declared.AdvanceRecord.{AdvanceRecord}
 use Rattle.records.specs.declared.ClosingRecord.{ClosingRecord}
 use Rattle.records.specs.Records.{accountIn, advanceIn, closingIn}
-use Rattle.book.specs.Book.{isUser, isAdvance, isClosing, isEntry, nextOf, firstEntryOf, ownerOf, accountAt, activationOf, openYearOf, rankOf, yearFits, isRun, advanceFits, balanceFits, closingFits, userNextFits, numberIsNew, firstEntryFits, entryNextFits, ownerFits, inOrder, firstInOrder, nextInOrder}
+use Rattle.book.specs.Book.{isUser, isAdvance, isClosing, isEntry, nextOf, firstEntryOf, ownerOf, accountAt, activationOf, openYearOf, levelOf, yearFits, isRun, advanceFits, balanceFits, closingFits, entryRanges, userNextFits, numberIsNew, firstEntryFits, entryNextFits, ownerFits, inOrder, firstInOrder, nextInOrder}
 use Rattle.book.proofs.RecordKinds.{kind-index, user-index, advance-entry, closing-entry, entry-index}
 use Rattle.book.proofs.Faultless.{owner-before}
-use Rattle.bookings.proofs.Bools.{or-stays, and-stays}
+use Rattle.bookings.proofs.Bools.{or-stays, and-stays, cond-stays}
 use Rattle.bookings.proofs.Ranges.{conjuncts}
 use Rattle.bookings.proofs.Frame.{Frame}
-use Rattle.bookings.proofs.KindsKept.{kind-same, kind-stays, entry-stays, owner-same, rank-same, activation-same}
+use Rattle.bookings.proofs.KindsKept.{kind-same, kind-stays, entry-stays, owner-same, level-same, activation-same}
 use Rattle.bookings.proofs.Numbers.{new-apart, apart-new}
 
 -- the ranges of an entry, against its owner later
@@ -31,7 +31,7 @@ year-later o p year same later h =
     let to : year ≤ o .«open_year» = search (conjuncts, leb-true) in
     and-both (le-leb (p .details .year) year (omega arith)) (le-leb year (p .«open_year») (omega arith))
 
-pub advance-later : (o p : Account) (a : AdvanceRecord) → p .details .year ≡ o .details .year → o .«open_year» ≤ p .«open_year»
+advance-later : (o p : Account) (a : AdvanceRecord) → p .details .year ≡ o .details .year → o .«open_year» ≤ p .«open_year»
     → advanceFits o a ≡ true → advanceFits p a ≡ true
 unfolding advanceFits
 advance-later o p a same later h = and-stays (yearFits o (a .year)) (isRun (a .run) && leb (a .ticks .0) maxYearTicks) (year-later o p (a .year) same later) (λ e. e) h
@@ -42,13 +42,19 @@ sumsFit activation c =
     ((leb (c .value .0) maxYearTicks && leb (c .cost .0) maxYearTicks) && (leb (c .«flat_rate» .0) maxFlatRate && leb (c .contribution .0) maxContribution))
     && ((leb (c .liquidation .0) maxYearTicks && leb (c .lapsed .0) (maxYearTicks * (c .year - activation))) && balanceFits (c .balance .0))
 
-pub closing-later : (o p : Account) (c : ClosingRecord) → p .details .year ≡ o .details .year → o .«open_year» ≤ p .«open_year»
+closing-later : (o p : Account) (c : ClosingRecord) → p .details .year ≡ o .details .year → o .«open_year» ≤ p .«open_year»
     → closingFits o c ≡ true → closingFits p c ≡ true
 unfolding closingFits
 closing-later o p c same later h =
     and-stays (yearFits o (c .year) && leb (c .option) 1) (sumsFit (o .details .year) c)
     (and-stays (yearFits o (c .year)) (leb (c .option) 1) (year-later o p (c .year) same later) (λ e. e))
     (subst (λ y. sumsFit y c ≡ true) (sym same)) h
+
+pub ranges-later : (o p : Account) (r : List ℕ) → p .details .year ≡ o .details .year → o .«open_year» ≤ p .«open_year» → entryRanges o r ≡ true → entryRanges p r ≡ true
+unfolding entryRanges
+ranges-later o p r same later =
+    cond-stays (eqb (get kindField r) advanceKind) (advance-later o p (advanceIn r) same later)
+    (cond-stays (eqb (get kindField r) closingKind) (closing-later o p (closingIn r) same later) (λ e. e))
 
 module _ (b b′ : List ℕ) (i : ℕ) (f : Frame b b′ i) where
   -- links of a user
@@ -82,22 +88,22 @@ module _ (b b′ : List ℕ) (i : ℕ) (f : Frame b b′ i) where
   unfolding inOrder
   order-kept activation y e = by-end (eqb e 0)
     where
-      advance : (isAdvance b e && eqb (rankOf b e) y) ≡ true → (isAdvance b′ e && eqb (rankOf b′ e) y) ≡ true
+      advance : (isAdvance b e && eqb (levelOf b e) y) ≡ true → (isAdvance b′ e && eqb (levelOf b′ e) y) ≡ true
       advance h =
-          let entry = and-left (isAdvance b e) (eqb (rankOf b e) y) h in
+          let entry = and-left (isAdvance b e) (eqb (levelOf b e) y) h in
           and-both (kind-stays b b′ i f advanceKind e entry)
-          (ap (λ (k : ℕ). eqb k y) (rank-same b b′ i f e (advance-entry b e entry)) ∙ and-right (isAdvance b e) (eqb (rankOf b e) y) h)
+          (ap (λ (k : ℕ). eqb k y) (level-same b b′ i f e (advance-entry b e entry)) ∙ and-right (isAdvance b e) (eqb (levelOf b e) y) h)
 
-      closing : (isClosing b e && eqb (rankOf b e + 1) y) ≡ true → (isClosing b′ e && eqb (rankOf b′ e + 1) y) ≡ true
+      closing : (isClosing b e && eqb (levelOf b e + 1) y) ≡ true → (isClosing b′ e && eqb (levelOf b′ e + 1) y) ≡ true
       closing h =
-          let entry = and-left (isClosing b e) (eqb (rankOf b e + 1) y) h in
+          let entry = and-left (isClosing b e) (eqb (levelOf b e + 1) y) h in
           and-both (kind-stays b b′ i f closingKind e entry)
-          (ap (λ (k : ℕ). eqb (k + 1) y) (rank-same b b′ i f e (closing-entry b e entry)) ∙ and-right (isClosing b e) (eqb (rankOf b e + 1) y) h)
+          (ap (λ (k : ℕ). eqb (k + 1) y) (level-same b b′ i f e (closing-entry b e entry)) ∙ and-right (isClosing b e) (eqb (levelOf b e + 1) y) h)
 
-      by-end : (t : Bool) → cond t (eqb y activation) ((isAdvance b e && eqb (rankOf b e) y) || (isClosing b e && eqb (rankOf b e + 1) y)) ≡ true
-          → cond t (eqb y activation) ((isAdvance b′ e && eqb (rankOf b′ e) y) || (isClosing b′ e && eqb (rankOf b′ e + 1) y)) ≡ true
+      by-end : (t : Bool) → cond t (eqb y activation) ((isAdvance b e && eqb (levelOf b e) y) || (isClosing b e && eqb (levelOf b e + 1) y)) ≡ true
+          → cond t (eqb y activation) ((isAdvance b′ e && eqb (levelOf b′ e) y) || (isClosing b′ e && eqb (levelOf b′ e + 1) y)) ≡ true
       by-end true h = h
-      by-end false h = or-stays (isAdvance b e && eqb (rankOf b e) y) (isClosing b e && eqb (rankOf b e + 1) y) advance closing h
+      by-end false h = or-stays (isAdvance b e && eqb (levelOf b e) y) (isClosing b e && eqb (levelOf b e + 1) y) advance closing h
 
   pub first-order-kept : (j : ℕ) → isUser b j ≡ true → firstEntryOf b′ j ≡ firstEntryOf b j → openYearOf b′ j ≡ openYearOf b j
       → firstInOrder b j ≡ true → firstInOrder b′ j ≡ true
@@ -130,22 +136,14 @@ module _ (b b′ : List ℕ) (i : ℕ) (f : Frame b b′ i) where
   unfolding nextInOrder
   next-order-kept j e o h =
       let place = entry-index b j e in
-      rw (owner-same b b′ i f j e, activation-same b b′ i f (ownerOf b j) (owner-before b j o .0), rank-same b b′ i f j e, f .next j (place .0) (place .1))
-      (order-kept (activationOf b (ownerOf b j)) (rankOf b j) (nextOf b j) h)
+      rw (owner-same b b′ i f j e, activation-same b b′ i f (ownerOf b j) (owner-before b j o .0), level-same b b′ i f j e, f .next j (place .0) (place .1))
+      (order-kept (activationOf b (ownerOf b j)) (levelOf b j) (nextOf b j) h)
 
   -- the ranges of an entry
-  pub advance-fits-kept : (j : ℕ) → isEntry b j ≡ true → ownerFits b j ≡ true
-      → advanceFits (accountAt b (ownerOf b j)) (advanceIn (recordAt b j)) ≡ true → advanceFits (accountAt b′ (ownerOf b′ j)) (advanceIn (recordAt b′ j)) ≡ true
+  pub ranges-kept : (j : ℕ) → isEntry b j ≡ true → ownerFits b j ≡ true
+      → entryRanges (accountAt b (ownerOf b j)) (recordAt b j) ≡ true → entryRanges (accountAt b′ (ownerOf b′ j)) (recordAt b′ j) ≡ true
   unfolding accountIn openYearOf activationOf
-  advance-fits-kept j e o h =
+  ranges-kept j e o h =
       rw (owner-same b b′ i f j e, f .entry j e)
-      (advance-later (accountAt b (ownerOf b j)) (accountAt b′ (ownerOf b j)) (advanceIn (recordAt b j)) (activation-same b b′ i f (ownerOf b j) (owner-before b j o .0))
-      (f .openYear (ownerOf b j) (owner-before b j o .0)) h)
-
-  pub closing-fits-kept : (j : ℕ) → isEntry b j ≡ true → ownerFits b j ≡ true
-      → closingFits (accountAt b (ownerOf b j)) (closingIn (recordAt b j)) ≡ true → closingFits (accountAt b′ (ownerOf b′ j)) (closingIn (recordAt b′ j)) ≡ true
-  unfolding accountIn openYearOf activationOf
-  closing-fits-kept j e o h =
-      rw (owner-same b b′ i f j e, f .entry j e)
-      (closing-later (accountAt b (ownerOf b j)) (accountAt b′ (ownerOf b j)) (closingIn (recordAt b j)) (activation-same b b′ i f (ownerOf b j) (owner-before b j o .0))
+      (ranges-later (accountAt b (ownerOf b j)) (accountAt b′ (ownerOf b j)) (recordAt b j) (activation-same b b′ i f (ownerOf b j) (owner-before b j o .0))
       (f .openYear (ownerOf b j) (owner-before b j o .0)) h)

@@ -8,12 +8,12 @@ use lib.ListN.{length}
 use Rattle.units.specs.Units.{recordIndex}
 use Rattle.values.specs.declared.Details.{Details}
 use Rattle.accounts.specs.declared.Account.{Account}
-use Rattle.layout.specs.Fields.{recordLength, get, zeros, recordAt, putRecord, capacity, usedField, firstUserField, userKind}
+use Rattle.layout.specs.Fields.{recordLength, get, allZero, unnamedOfHead, recordAt, putRecord, capacity, usedField, firstUserField, userKind}
 use Rattle.layout.proofs.Places.{length-put, record-put-same, record-put-other}
 use Rattle.layout.proofs.ByteRanges.{Bytes, bytes-put, field-below}
 use Rattle.records.specs.declared.UserRecord.{UserRecord}
 use Rattle.records.specs.Records.{headImage, userImage}
-use Rattle.records.proofs.Heads.{length-head-image, bytes-head-image, head-tail, head-used, head-first}
+use Rattle.records.proofs.Heads.{length-head-image, bytes-head-image, head-unnamed, head-used, head-first}
 use Rattle.records.proofs.Users.{length-user-image, bytes-user-image}
 use Rattle.book.specs.Book.{used, firstUser, isUser, nextOf, firstEntryOf}
 use Rattle.book.proofs.RecordKinds.{kind-index}
@@ -24,7 +24,7 @@ use Rattle.bookings.proofs.Good.{Good, Sizes, sizes}
 pub record HeadAt (b : List ℕ) (count first : ℕ) : Type 0 where
   pub used-is : used b ≡ count
   pub first-is : firstUser b ≡ first
-  pub rest : zeros 8 72 (recordAt b 0) ≡ true
+  pub rest : allZero unnamedOfHead (recordAt b 0) ≡ true
 
 head-at : (b : List ℕ) (count first : ℕ) → recordAt b 0 ≡ headImage count first → count < 2 ^ 32 → first < 2 ^ 32 → HeadAt b count first
 unfolding used firstUser
@@ -32,7 +32,7 @@ head-at b count first e hc hf =
     record {
       used-is = ap (get usedField) e ∙ head-used count first hc;
       first-is = ap (get firstUserField) e ∙ head-first count first hf;
-      rest = ap (zeros 8 72) e ∙ head-tail count first;
+      rest = ap (allZero unnamedOfHead) e ∙ head-unnamed count first;
     }
 
 -- the new user, and the user i with another first entry and account

@@ -1,7 +1,7 @@
 -- What an accepted call makes of the book ("Book", "Closing", "Election and advances" of document 01). "A new record takes
 -- index u and goes to the front of its chain."
-use Prim.Native.Nat.{ℕ, zero, suc, _+_}
-use mathlib.Core.Bool.{Bool, true, false, cond, _&&_}
+use Prim.Native.Nat.{ℕ, _+_}
+use mathlib.Core.Bool.{cond}
 use mathlib.Core.List.{List}
 use lib.Dec.{eqb}
 use Rattle.units.specs.Units.{kwh, ticks, userNumber, recordIndex}
@@ -17,15 +17,8 @@ use Rattle.layout.specs.Fields.{putRecord}
 use Rattle.records.specs.declared.AdvanceRecord.{AdvanceRecord}
 use Rattle.records.specs.declared.ClosingRecord.{ClosingRecord}
 use Rattle.records.specs.Records.{headImage, userImage, advanceImage, closingImage}
-use Rattle.book.specs.Book.{used, firstUser, isUser, numberOf, nextOf, firstEntryOf, accountAt}
-
--- the index of the user with a number, 0 where no record below n is that user; and in the whole book
-unfoldable pub findBelow : List ℕ → ℕ → ℕ → ℕ
-findBelow b number zero = 0
-findBelow b number (suc n) = cond (isUser b n && eqb (numberOf b n) number) n (findBelow b number n)
-
-unfoldable pub findUser : List ℕ → ℕ → ℕ
-findUser b number = findBelow b number (used b)
+use Rattle.book.specs.Book.{used, firstUser, nextOf, firstEntryOf, accountAt}
+use Rattle.book.specs.Find.{findUser}
 
 -- "Enrolment brings bytes 5–11 and 16–23; the open year is the activation year, kind and next as above, the rest zero."
 unfoldable pub newAccount : ℕ → Details → ℕ → Account

@@ -8,7 +8,8 @@ use lib.Dec.{eqb}
 use Rattle.sheet.specs.YearSheet.{sheetUser}
 use Rattle.values.specs.declared.Details.{Details}
 use Rattle.book.specs.Book.{faulty, used}
-use Rattle.calls.specs.Bookings.{findUser, enrolled, elected, advanced, runAmount, closed, valuesOf}
+use Rattle.calls.specs.Bookings.{enrolled, elected, advanced, runAmount, closed, valuesOf}
+use Rattle.book.specs.Find.{findUser}
 use Rattle.calls.specs.Refusals.{userAt, enrolRefusal, electRefusal, advanceRefusal, closeRefusal, statementRefusal}
 
 -- the calls and what they bring

@@ -10,7 +10,7 @@ use Rattle.values.specs.declared.Details.{Details}
 use Rattle.accounts.specs.declared.Account.{Account}
 use Rattle.layout.specs.Fields.{capacity}
 use Rattle.book.specs.Book.{lengthFits, sound, used, detailsFit, isRun, runMade, accountAt}
-use Rattle.calls.specs.Bookings.{findUser}
+use Rattle.book.specs.Find.{findUser}
 
 -- the number where the condition fails, else what comes after it in the order; 0 at its end is acceptance
 abbrev pub refuse : Bool → ℕ → ℕ → ℕ

@@ -6,7 +6,7 @@ use mathlib.Core.Logic.{_⊎_}
 use mathlib.Core.List.{List}
 use Rattle.book.specs.Book.{used, isUser, isEntry, ownerOf, nextOf, firstEntryOf}
 use Rattle.book.proofs.Faultless.{Faultless}
-use Rattle.chains.specs.Chains.{entriesOf}
+use Rattle.book.specs.Chains.{entriesOf}
 use Rattle.chains.proofs.Lists.{_∈_, All, Falling}
 use Rattle.chains.proofs.Chain.{chain-holds-only, chain-falling, chain-complete, falls-closed}
 use Rattle.book.proofs.RecordKinds.{entry-index}

@@ -19,7 +19,7 @@ use Rattle.book.proofs.Lengths.{capacity-most}
 use Rattle.book.proofs.Faults.{used-within}
 use Rattle.book.proofs.Faultless.{Faultless}
 use Rattle.ledger.specs.Ledger.{Statement}
-use Rattle.chains.specs.Chains.{entriesOf}
+use Rattle.book.specs.Chains.{entriesOf}
 use Rattle.chains.specs.Statements.{closingPart, advancePart, balancePart, sumOver, sumOverℤ, statementAt}
 use Rattle.chains.proofs.Chain.{chain-from-length}
 use Rattle.book.proofs.RecordKinds.{kinds-apart, entry-index}

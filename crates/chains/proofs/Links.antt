@@ -7,7 +7,7 @@ use mathlib.Core.List.{List}
 use lib.Dec.{eqb, ltb}
 use borrow.Author.Tests.{eqb-true, ltb-true}
 use Rattle.units.proofs.Bools.{and-left, and-right, or-cases}
-use Rattle.layout.specs.Fields.{zeros, recordAt}
+use Rattle.layout.specs.Fields.{allZero, unnamedOfHead, recordAt}
 use Rattle.book.specs.Book.{firstUser, isUser, isAdvance, isClosing, isEntry, ownerOf, nextOf, firstEntryOf, userNextFits, firstEntryFits, entryNextFits, goodHead}
 use Rattle.book.proofs.RecordKinds.{entry-cases}
 use Rattle.book.proofs.Faultless.{Faultless, EntryLinks, owner-before}
@@ -24,7 +24,7 @@ module _ (b : List ℕ) (f : Faultless b) where
   unfolding goodHead
   first-user =
       ⊎-map (eqb-true (firstUser b) 0) (λ u. u)
-      (or-cases (eqb (firstUser b) 0) (isUser b (firstUser b)) (and-left (eqb (firstUser b) 0 || isUser b (firstUser b)) (zeros 8 72 (recordAt b 0)) (f .head)))
+      (or-cases (eqb (firstUser b) 0) (isUser b (firstUser b)) (and-left (eqb (firstUser b) 0 || isUser b (firstUser b)) (allZero unnamedOfHead (recordAt b 0)) (f .head)))
 
   -- "A user's next is 0 or a user with a smaller index"
   pub user-next : (i : ℕ) → isUser b i ≡ true → (nextOf b i ≡ 0) ⊎ ((isUser b (nextOf b i) ≡ true) × (nextOf b i < i))
@@ -45,7 +45,7 @@ module _ (b : List ℕ) (f : Faultless b) where
 
   pub entry-links : (e : ℕ) → isEntry b e ≡ true → EntryLinks b e
   entry-links e h =
-      ⊎-elim (λ (a : isAdvance b e ≡ true). f .advance e a .links) (λ (c : isClosing b e ≡ true). f .closing e c .links) (entry-cases b e h)
+      f .entry e h .links
 
   -- "An entry's next is 0 or an entry of the same owner with a smaller index"
   pub entry-next : (e : ℕ) → isEntry b e ≡ true → (nextOf b e ≡ 0) ⊎ (Owned b (ownerOf b e) (nextOf b e) × (nextOf b e < e))

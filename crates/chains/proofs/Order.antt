@@ -9,9 +9,9 @@ use lib.Dec.{eqb}
 use borrow.Author.Tests.{eqb-true, ne-eqb}
 use Rattle.units.proofs.Bools.{and-left, and-right, or-cases}
 use Rattle.layout.specs.Fields.{advanceKind, closingKind}
-use Rattle.book.specs.Book.{isUser, isAdvance, isClosing, nextOf, firstEntryOf, rankOf, inOrder, activationOf, openYearOf, firstInOrder, nextInOrder}
+use Rattle.book.specs.Book.{isUser, keepsYear, isClosing, nextOf, firstEntryOf, levelOf, inOrder, activationOf, openYearOf, firstInOrder, nextInOrder}
 use Rattle.book.proofs.Faultless.{Faultless}
-use Rattle.chains.specs.Chains.{chainFrom, entriesOf}
+use Rattle.book.specs.Chains.{chainFrom, entriesOf}
 use Rattle.chains.specs.Statements.{sumOver}
 use Rattle.chains.proofs.Lists.{All, all-map}
 use Rattle.chains.proofs.Chain.{chain-induction}
@@ -21,14 +21,14 @@ use Rattle.chains.proofs.Links.{Owned, first-entry, entry-links, entrie
 -- what may stand where entries of year y follow, with all that stands behind it
 pub data Ordered (b : List ℕ) (activation : ℕ) : ℕ → List ℕ → Type 0 where
   nothing : {y : ℕ} → y ≡ activation → Ordered b activation y []
-  advance : {y e : ℕ} {es : List ℕ} → isAdvance b e ≡ true → rankOf b e ≡ y → Ordered b activation (rankOf b e) es → Ordered b activation y (e ∷ es)
-  closing : {y e : ℕ} {es : List ℕ} → isClosing b e ≡ true → rankOf b e + 1 ≡ y → Ordered b activation (rankOf b e) es → Ordered b activation y (e ∷ es)
+  advance : {y e : ℕ} {es : List ℕ} → keepsYear b e ≡ true → levelOf b e ≡ y → Ordered b activation (levelOf b e) es → Ordered b activation y (e ∷ es)
+  closing : {y e : ℕ} {es : List ℕ} → isClosing b e ≡ true → levelOf b e + 1 ≡ y → Ordered b activation (levelOf b e) es → Ordered b activation y (e ∷ es)
 
 -- an entry from the activation year to y, and a closing of a year before y
 pub record InYears (b : List ℕ) (activation y e : ℕ) : Type 0 where
-  pub since : activation ≤ rankOf b e
-  pub until : rankOf b e ≤ y
-  pub before : isClosing b e ≡ true → rankOf b e < y
+  pub since : activation ≤ levelOf b e
+  pub until : levelOf b e ≤ y
+  pub before : isClosing b e ≡ true → levelOf b e < y
 
 -- one for a closing
 unfoldable pub closingCount : List ℕ → ℕ → ℕ
@@ -39,30 +39,30 @@ unfolding inOrder
 in-order-end b activation y h = eqb-true y activation h
 
 in-order-entry : (b : List ℕ) (activation y e : ℕ) → 1 ≤ e → inOrder b activation y e ≡ true
-    → ((isAdvance b e ≡ true) × (rankOf b e ≡ y)) ⊎ ((isClosing b e ≡ true) × (rankOf b e + 1 ≡ y))
+    → ((keepsYear b e ≡ true) × (levelOf b e ≡ y)) ⊎ ((isClosing b e ≡ true) × (levelOf b e + 1 ≡ y))
 unfolding inOrder
 in-order-entry b activation y e lo h =
     let apart : e ≡ 0 → ⊥ = omega arith in
-    let a = isAdvance b e && eqb (rankOf b e) y in
-    let c = isClosing b e && eqb (rankOf b e + 1) y in
+    let a = keepsYear b e && eqb (levelOf b e) y in
+    let c = isClosing b e && eqb (levelOf b e + 1) y in
     let t : (a || c) ≡ true = rw (ne-eqb e 0 apart) at h in
-    ⊎-elim (λ (p : a ≡ true). inl (and-left (isAdvance b e) (eqb (rankOf b e) y) p, eqb-true (rankOf b e) y (and-right (isAdvance b e) (eqb (rankOf b e) y) p)))
-    (λ (p : c ≡ true). inr (and-left (isClosing b e) (eqb (rankOf b e + 1) y) p, eqb-true (rankOf b e + 1) y (and-right (isClosing b e) (eqb (rankOf b e + 1) y) p)))
+    ⊎-elim (λ (p : a ≡ true). inl (and-left (keepsYear b e) (eqb (levelOf b e) y) p, eqb-true (levelOf b e) y (and-right (keepsYear b e) (eqb (levelOf b e) y) p)))
+    (λ (p : c ≡ true). inr (and-left (isClosing b e) (eqb (levelOf b e + 1) y) p, eqb-true (levelOf b e + 1) y (and-right (isClosing b e) (eqb (levelOf b e + 1) y) p)))
     (or-cases a c t)
 
 module _ (b : List ℕ) (f : Faultless b) (i : ℕ) where
   -- "After an entry of year y stands an advance of y, or the closing of y − 1, or 0 if y is the activation year."
-  next-in-order : (e : ℕ) → Owned b i e → inOrder b (activationOf b i) (rankOf b e) (nextOf b e) ≡ true
+  next-in-order : (e : ℕ) → Owned b i e → inOrder b (activationOf b i) (levelOf b e) (nextOf b e) ≡ true
   unfolding nextInOrder
   next-in-order e o =
-      subst (λ k. inOrder b (activationOf b k) (rankOf b e) (nextOf b e) ≡ true) (o .owner) (entry-links b f e (o .entry) .order)
+      subst (λ k. inOrder b (activationOf b k) (levelOf b e) (nextOf b e) ≡ true) (o .owner) (entry-links b f e (o .entry) .order)
 
   link-ordered : (e : ℕ) (es : List ℕ) → Owned b i e → ((y : ℕ) → inOrder b (activationOf b i) y (nextOf b e) ≡ true → Ordered b (activationOf b i) y es)
       → (y : ℕ) → inOrder b (activationOf b i) y e ≡ true → Ordered b (activationOf b i) y (e ∷ es)
   link-ordered e es o tail y h =
-      let behind = tail (rankOf b e) (next-in-order e o) in
-      ⊎-elim (λ (p : (isAdvance b e ≡ true) × (rankOf b e ≡ y)). advance (p .0) (p .1) behind)
-      (λ (p : (isClosing b e ≡ true) × (rankOf b e + 1 ≡ y)). closing (p .0) (p .1) behind)
+      let behind = tail (levelOf b e) (next-in-order e o) in
+      ⊎-elim (λ (p : (keepsYear b e ≡ true) × (levelOf b e ≡ y)). advance (p .0) (p .1) behind)
+      (λ (p : (isClosing b e ≡ true) × (levelOf b e + 1 ≡ y)). closing (p .0) (p .1) behind)
       (in-order-entry b (activationOf b i) y e (entry-index b e (o .entry) .0) h)
 
   -- "A user's first entry is an advance of the open year or the closing of the year before, or 0 if no year is closed."
@@ -91,10 +91,10 @@ module _ (b : List ℕ) (activation : ℕ) where
   years-within {y} (advance {e = k} {es = es} a e o) =
       let first = activation-first o in
       let none = kinds-apart b advanceKind closingKind k (λ p. omega arith) a in
-      (record { since = omega arith; until = omega arith; before = λ c. absurd (true≢false (sym c ∙ none)) }, later (rankOf b k) y es (omega arith) (years-within o))
+      (record { since = omega arith; until = omega arith; before = λ c. absurd (true≢false (sym c ∙ none)) }, later (levelOf b k) y es (omega arith) (years-within o))
   years-within {y} (closing {e = k} {es = es} c e o) =
       let first = activation-first o in
-      (record { since = omega arith; until = omega arith; before = λ p. omega arith }, later (rankOf b k) y es (omega arith) (years-within o))
+      (record { since = omega arith; until = omega arith; before = λ p. omega arith }, later (levelOf b k) y es (omega arith) (years-within o))
 
   -- a closing for every closed year
   pub closings-counted : {y : ℕ} {es : List ℕ} → Ordered b activation y es → activation + sumOver (closingCount b) es ≡ y

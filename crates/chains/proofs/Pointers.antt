@@ -11,9 +11,9 @@ use lib.Dec.{eqb}
 use borrow.Author.Tests.{eqb-true, eqb-false}
 use Rattle.units.specs.Folds.{sumBelow}
 use Rattle.units.proofs.Bools.{or-cases}
-use Rattle.layout.specs.Fields.{userKind, advanceKind, closingKind}
-use Rattle.book.specs.Book.{used, firstUser, kindAt, isUser, isEntry, ownerOf, nextOf, firstEntryOf, hits, pointersFrom, pointersTo, pointedOnce}
-use Rattle.book.proofs.RecordKinds.{has-kind, user-index, advance-entry, closing-entry, entry-index, not-both}
+use Rattle.layout.specs.Fields.{userKind}
+use Rattle.book.specs.Book.{used, firstUser, kindAt, entryKind, isUser, isEntry, ownerOf, nextOf, firstEntryOf, hits, pointersFrom, pointersTo, pointedOnce}
+use Rattle.book.proofs.RecordKinds.{has-kind, user-index, entry-of-kind, entry-index, not-both}
 use Rattle.book.proofs.Faultless.{Faultless}
 use Rattle.chains.proofs.Links.{Owned, first-user, user-next, first-entry, entry-links, entry-next}
 
@@ -51,17 +51,11 @@ one-of p q i h = either (decLt 0 (hits p i))
     either (no m) = inr (hit-is q i (omega (arith, m)))
 
 module _ (b : List ℕ) (i j : ℕ) (l : j < used b) where
-  entry-of : 1 ≤ j → (eqb (kindAt b j) advanceKind || eqb (kindAt b j) closingKind) ≡ true → isEntry b j ≡ true
-  entry-of lo t =
-      ⊎-elim (λ (a : eqb (kindAt b j) advanceKind ≡ true). advance-entry b j (has-kind b advanceKind j lo l (eqb-true (kindAt b j) advanceKind a)))
-      (λ (c : eqb (kindAt b j) closingKind ≡ true). closing-entry b j (has-kind b closingKind j lo l (eqb-true (kindAt b j) closingKind c)))
-      (or-cases (eqb (kindAt b j) advanceKind) (eqb (kindAt b j) closingKind) t)
-
-  points-entry : 1 ≤ j → 1 ≤ cond (eqb (kindAt b j) advanceKind || eqb (kindAt b j) closingKind) (hits (nextOf b j) i) 0 → Points b i j
-  points-entry lo h = by-test (eqb (kindAt b j) advanceKind || eqb (kindAt b j) closingKind) refl
+  points-entry : 1 ≤ j → 1 ≤ cond (entryKind (kindAt b j)) (hits (nextOf b j) i) 0 → Points b i j
+  points-entry lo h = by-test (entryKind (kindAt b j)) refl
     where
-      by-test : (t : Bool) → (eqb (kindAt b j) advanceKind || eqb (kindAt b j) closingKind) ≡ t → Points b i j
-      by-test true e = by-entry (entry-of lo e) (hit-is (nextOf b j) i (rw e at h))
+      by-test : (t : Bool) → (entryKind (kindAt b j)) ≡ t → Points b i j
+      by-test true e = by-entry (entry-of-kind b j lo l e) (hit-is (nextOf b j) i (rw e at h))
       by-test false e = let z : 1 ≤ 0 = rw e at h in let n : ⊥ = omega arith in absurd n
 
   points : 1 ≤ pointersFrom b i j → Points b i j

@@ -18,7 +18,8 @@ use Rattle.records.specs.declared.ClosingRecord.{ClosingRecord}
 use Rattle.records.specs.Records.{advanceIn, closingIn}
 use Rattle.book.specs.Book.{within, isUser, isAdvance, isClosing, ownerOf, accountAt, accountFits, detailsFit, openYearFits, runsFit, advancesFit, creditFits, halvesFit, yearFits, isRun, advanceFits, balanceFits, closingFits}
 use Rattle.book.proofs.Faultless.{Faultless}
-use Rattle.book.proofs.RecordKinds.{closing-entry}
+use Rattle.book.proofs.Faultless as book
+use Rattle.book.proofs.RecordKinds.{advance-entry, closing-entry}
 use Rattle.chains.proofs.Links.{entry-owner}
 
 pub record YearsFit (a : Account) : Type 0 where
@@ -122,7 +123,7 @@ module _ (b : List ℕ) (f : Faultless b) where
 
   pub closing-ranges : (e : ℕ) → isClosing b e ≡ true → ClosingRanges (closingIn (recordAt b e))
   closing-ranges e c =
-      closing-ranges-of (accountAt b (ownerOf b e)) (closingIn (recordAt b e)) (user-years (ownerOf b e) (entry-owner b f e (closing-entry b e c) .0)) (f .closing e c .fits)
+      closing-ranges-of (accountAt b (ownerOf b e)) (closingIn (recordAt b e)) (user-years (ownerOf b e) (entry-owner b f e (closing-entry b e c) .0)) (book.closing-ranges b e (f .entry e (closing-entry b e c) .own) c)
 
   pub advance-range : (e : ℕ) → isAdvance b e ≡ true → advanceIn (recordAt b e) .ticks .0 ≤ maxYearTicks
   unfolding advanceFits
@@ -131,4 +132,4 @@ module _ (b : List ℕ) (f : Faultless b) where
       let r = advanceIn (recordAt b e) in
       let amount = leb (r .ticks .0) maxYearTicks in
       leb-true (r .ticks .0) maxYearTicks
-      (and-right (isRun (r .run)) amount (and-right (yearFits owner (r .year)) (isRun (r .run) && amount) (f .advance e a .fits)))
+      (and-right (isRun (r .run)) amount (and-right (yearFits owner (r .year)) (isRun (r .run) && amount) (book.advance-ranges b e (f .entry e (advance-entry b e a) .own) a)))

@@ -10,7 +10,7 @@ use lib.Dec.{ltb}
 use lib.IntN.{ℤ, pos, negsuc, natAbs, negℤ, subℕ, _+ℤ_, _-ℤ_, +ℤ-assoc, +ℤ-negℤ-cancel}
 use lib.ListN.{length}
 use borrow.Author.Tests.{ltb-true}
-use Rattle.book.specs.Book.{isAdvance, isClosing, rankOf}
+use Rattle.book.specs.Book.{isAdvance, isClosing, levelOf}
 use Rattle.chains.specs.Statements.{sumOver, sumOverℤ}
 use Rattle.chains.proofs.Lists.{All}
 use Rattle.chains.proofs.Order.{Ordered, nothing, advance, closing}
@@ -45,7 +45,7 @@ closings-at-most b activation f cap hc ha (advance {e = k} a e o) =
     rw (← e) (omega (arith, ha k a))
 closings-at-most b activation f cap hc ha (closing {e = k} c e o) =
     let rest = closings-at-most b activation f cap hc ha o in
-    rw (← e, add-one) (omega (arith, hc k c, mul-suc cap (rankOf b k)))
+    rw (← e, add-one) (omega (arith, hc k c, mul-suc cap (levelOf b k)))
 
 -- a signed sum is at most the sum of the sizes
 size-difference : (a b : ℕ) → natAbs (subℕ a b) ≤ a + b

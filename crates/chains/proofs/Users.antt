@@ -12,7 +12,7 @@ use Rattle.units.proofs.Bools.{and-both}
 use Rattle.units.proofs.Folds.{none-at}
 use Rattle.book.specs.Book.{used, firstUser, isUser, nextOf, numberOf, numberIsNew}
 use Rattle.book.proofs.Faultless.{Faultless}
-use Rattle.chains.specs.Chains.{usersOf}
+use Rattle.book.specs.Chains.{usersOf}
 use Rattle.chains.proofs.Lists.{_∈_, All, Falling}
 use Rattle.chains.proofs.Chain.{chain-holds-only, chain-falling, chain-complete, falls-closed}
 use Rattle.book.proofs.RecordKinds.{user-index}

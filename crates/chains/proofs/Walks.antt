@@ -11,7 +11,7 @@ use Rattle.book.specs.Book.{lengthFits, sound, isUser, isEntry, nextOf, firstEn
 use Rattle.book.proofs.Faultless.{Faultless, sound-faultless}
 use Rattle.book.proofs.Faults.{used-whole}
 use Rattle.book.proofs.RecordKinds.{user-index, entry-index}
-use Rattle.chains.specs.Chains.{chainFrom}
+use Rattle.book.specs.Chains.{chainFrom}
 use Rattle.chains.proofs.Chain.{On, Falls, inside, on-next, less, chain-cons}
 use Rattle.chains.proofs.Links.{entry-next, first-entry}
 

@@ -13,7 +13,7 @@ use Rattle.records.specs.declared.AdvanceRecord.{AdvanceRecord}
 use Rattle.records.specs.Records.{advanceIn, closingIn}
 use Rattle.book.specs.Book.{isAdvance, isClosing, accountAt}
 use Rattle.ledger.specs.Ledger.{Statement}
-use Rattle.chains.specs.Chains.{entriesOf}
+use Rattle.book.specs.Chains.{entriesOf}
 
 -- what an entry adds to a sum over the closings, and to a sum over the advances whose year passes a test
 unfoldable pub closingPart : (ClosingRecord → ℕ) → List ℕ → ℕ → ℕ

@@ -20,7 +20,7 @@ use Rattle.soundness.proofs.Contract.{fresh-says}
 use Rattle.ledger.specs.Ledger.{Ledger, enrolled, statementOf}
 use Rattle.chains.specs.Statements.{statementAt}
 use Rattle.chains.proofs.Fit.{sums-fit}
-use Rattle.calls.specs.Bookings.{findUser}
+use Rattle.book.specs.Find.{findUser}
 use Rattle.calls.specs.Refusals.{statementRefusal}
 use Rattle.calls.specs.Calls.{Call, enrol, elect, advance, close, statement, refusalOf}
 use Rattle.bookings.proofs.Accepted.{statement-accepted}

@@ -18,7 +18,8 @@ use Rattle.accounts.specs.Account.{InRange}
 use Rattle.book.specs.Book.{isUser, accountAt, accountFits}
 use Rattle.book.proofs.Faultless.{sound-faultless}
 use Rattle.soundness.specs.Verdicts.{Accepted}
-use Rattle.calls.specs.Bookings.{findUser, closingEntry, closed, valuesOf}
+use Rattle.calls.specs.Bookings.{closingEntry, closed, valuesOf}
+use Rattle.book.specs.Find.{findUser}
 use Rattle.calls.specs.Refusals.{refuse, hasRoom, present, yearOpen, closeRefusal}
 use Rattle.calls.specs.Calls.{Call, close, refusalOf, booked}
 use Rattle.refusals.specs.Objections.{sheetObjection, closeObjection}

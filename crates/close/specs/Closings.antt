@@ -10,7 +10,8 @@ use Rattle.values.specs.declared.YearValues.{YearValues}
 use Rattle.accounts.specs.declared.Account.{Account}
 use Rattle.accounts.specs.Account.{balanceBits, InRange}
 use Rattle.records.specs.declared.ClosingRecord.{ClosingRecord}
-use Rattle.calls.specs.Bookings.{findUser, closingEntry, valuesOf}
+use Rattle.calls.specs.Bookings.{closingEntry, valuesOf}
+use Rattle.book.specs.Find.{findUser}
 use Rattle.answers.specs.Rooms.{EntryFits}
 use Rattle.close.specs.declared.ClosingSums.{ClosingSums}
 

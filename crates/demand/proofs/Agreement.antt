@@ -14,7 +14,7 @@ use Rattle.records.specs.Records.{advanceIn, closingIn}
 use Rattle.values.specs.declared.Details.{Details}
 use Rattle.book.specs.Book.{isAdvance, isClosing, accountAt}
 use Rattle.ledger.specs.Ledger.{Item, Advance, Ledger, Statement, yearAfter, openYear, sumItems, sumBalances, sumAdvances, statementOf}
-use Rattle.chains.specs.Chains.{entriesOf}
+use Rattle.book.specs.Chains.{entriesOf}
 use Rattle.chains.specs.Statements.{closingPart, advancePart, balancePart, sumOver, sumOverℤ, statementAt}
 
 -- the ledger's item and advance that an entry stands for

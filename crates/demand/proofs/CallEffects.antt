@@ -15,7 +15,7 @@ use Rattle.calendar.specs.ElectionAndAdvances.{due, halvesPaid}
 use Rattle.values.specs.declared.Details.{Details}
 use Rattle.values.specs.declared.YearValues.{YearValues}
 use Rattle.values.specs.YearsValues.{yearValues}
-use Rattle.demand.proofs.Ranges.{values-fit}
+use Rattle.values.proofs.Ranges.{values-fit}
 use Rattle.accounts.specs.declared.Account.{Account}
 use Rattle.accounts.specs.Account.{accountElected, accountAdvanced, accountClosed}
 use Rattle.accounts.proofs.Closing.{contribution-capped}
@@ -25,7 +25,8 @@ use Rattle.book.proofs.RecordKinds.{has-kind, kind-index, kinds-apart, advance-
 use Rattle.book.proofs.Faultless.{Faultless}
 use Rattle.chains.proofs.Links.{Owned}
 use Rattle.ledger.specs.Ledger.{sheetValue, sheetFlatRate}
-use Rattle.calls.specs.Bookings.{findUser, newAccount, enrolled, elected, advanced, advanceEntry, closed, closingEntry, valuesOf}
+use Rattle.calls.specs.Bookings.{newAccount, enrolled, elected, advanced, advanceEntry, closed, closingEntry, valuesOf}
+use Rattle.book.specs.Find.{findUser}
 use Rattle.calls.specs.Refusals.{numberFree, present, runOpen, yearOpen, userAt, enrolRefusal, electRefusal, advanceRefusal, closeRefusal}
 use Rattle.calls.specs.Calls.{enrol, elect, advance, close, paidBy}
 use Rattle.demand.specs.Demand.{Typed}

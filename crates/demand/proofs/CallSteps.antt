@@ -23,7 +23,7 @@ use Rattle.book.specs.Book.{used, isUser, numberOf, nextOf, firstEntryOf, accou
 use Rattle.book.proofs.RecordKinds.{kind-index}
 use Rattle.ledger.specs.Ledger.{Advance, Ledger, openYear, yearAfter, sumAdvances, enrolled, elected, advanceAmount, advanced, closed, sheetValue, sheetFlatRate}
 use Rattle.ledger.proofs.Kept.{Kept, kept-enrolled, kept-elected, kept-advanced, kept-closed}
-use Rattle.chains.specs.Chains.{chainFrom, entriesOf}
+use Rattle.book.specs.Chains.{chainFrom, entriesOf}
 use Rattle.chains.proofs.Chain.{chain-none}
 use Rattle.calls.specs.Bookings.{newAccount, runAmount, advanceEntry, closingEntry}
 use Rattle.bookings.proofs.Good.{Good, sizes}

@@ -7,7 +7,7 @@ use native.Mathlib.Decide.{decLt}
 use native.Mathlib.Omega.{arith}
 use Rattle.book.specs.Book.{isUser, numberOf}
 use Rattle.book.proofs.Faultless.{Faultless}
-use Rattle.calls.specs.Bookings.{findUser}
+use Rattle.book.specs.Find.{findUser}
 use Rattle.chains.proofs.Users.{numbers-differ}
 use Rattle.bookings.proofs.Numbers.{found, none-found}
 

@@ -11,7 +11,7 @@ use Rattle.records.specs.Records.{accountIn, closingIn}
 use Rattle.book.specs.Book.{used, isUser, isAdvance, isClosing, isEntry, nextOf, firstEntryOf, ownerOf, accountAt}
 use Rattle.book.proofs.RecordKinds.{kind-index, entry-index}
 use Rattle.book.proofs.Faultless.{Faultless}
-use Rattle.chains.specs.Chains.{chainFrom, entriesOf}
+use Rattle.book.specs.Chains.{chainFrom, entriesOf}
 use Rattle.chains.proofs.Lists.{All, all-map}
 use Rattle.chains.proofs.Chain.{On, falls-closed, chain-same, chain-cons, chain-none, chain-holds-only}
 use Rattle.chains.proofs.Links.{Owned, first-entry, entries-fall}

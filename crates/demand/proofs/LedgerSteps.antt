@@ -23,7 +23,7 @@ use Rattle.accounts.proofs.Balances.{balance-back}
 use Rattle.book.specs.Book.{accountAt}
 use Rattle.ledger.specs.Ledger.{Item, Advance, Ledger, openYear, yearAfter, sumAdvances, elected, advanceAmount, advanced, itemOf, sheetValue, sheetFlatRate, closed}
 use Rattle.ledger.proofs.Kept.{Kept, no-advance-yet}
-use Rattle.chains.specs.Chains.{entriesOf}
+use Rattle.book.specs.Chains.{entriesOf}
 use Rattle.calls.specs.Bookings.{runAmount, closingEntry}
 use Rattle.demand.proofs.Agreement.{Agrees, itemIn, itemsOf, advancesOf}
 

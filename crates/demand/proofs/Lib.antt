@@ -1,4 +1,3 @@
-pub mod Ranges
 pub mod Agreement
 pub mod LedgerSteps
 pub mod Histories

@@ -15,7 +15,7 @@ use Rattle.book.specs.Book.{isUser, numberOf}
 use Rattle.book.proofs.RecordKinds.{kind-index}
 use Rattle.ledger.specs.Ledger.{Ledger}
 use Rattle.ledger.proofs.Kept.{Kept, kept-conserved, kept-standing, kept-lapsed}
-use Rattle.calls.specs.Bookings.{findUser}
+use Rattle.book.specs.Find.{findUser}
 use Rattle.chains.specs.Statements.{statementAt}
 use Rattle.calls.specs.Refusals.{present, statementRefusal}
 use Rattle.calls.specs.Calls.{Call, bookAfter}

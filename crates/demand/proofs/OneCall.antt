@@ -15,7 +15,8 @@ use Rattle.accounts.specs.Account.{accountElected, accountAdvanced, accountClos
 use Rattle.book.specs.Book.{isUser, numberOf, accountAt}
 use Rattle.ledger.specs.Ledger.{Ledger, sheetValue}
 use Rattle.ledger.specs.Ledger as ledger
-use Rattle.calls.specs.Bookings.{findUser, newAccount, enrolled, elected, runAmount, advanced, advanceEntry, closed, closingEntry, valuesOf}
+use Rattle.calls.specs.Bookings.{newAccount, enrolled, elected, runAmount, advanced, advanceEntry, closed, closingEntry, valuesOf}
+use Rattle.book.specs.Find.{findUser}
 use Rattle.calls.specs.Refusals.{enrolRefusal, electRefusal, advanceRefusal, closeRefusal}
 use Rattle.calls.specs.Calls.{Call, enrol, elect, advance, close, statement, refusalOf, booked, paidBy, bookAfter}
 use Rattle.demand.specs.Demand.{namedBy, posted, isAccepted, fed, valueBy, Typed}

@@ -8,7 +8,7 @@ use Rattle.layout.specs.Fields.{userKind}
 use Rattle.book.specs.Book.{isUser, numberOf}
 use Rattle.ledger.specs.Ledger.{Ledger}
 use Rattle.ledger.proofs.Kept.{Kept}
-use Rattle.calls.specs.Bookings.{findUser}
+use Rattle.book.specs.Find.{findUser}
 use Rattle.bookings.proofs.Good.{Good}
 use Rattle.bookings.proofs.Frame.{Frame}
 use Rattle.bookings.proofs.KindsKept.{kind-stays}

@@ -14,7 +14,7 @@ use Rattle.values.specs.declared.Details.{Details}
 use Rattle.ledger.specs.Ledger.{Item, Ledger, enrolled, elected, advanced, closed, sheetValue, statementOf}
 use Rattle.ledger.specs.Accounting.{conserved, Standing, lapsedOver, Consecutive}
 use Rattle.chains.specs.Statements.{statementAt}
-use Rattle.calls.specs.Bookings.{findUser}
+use Rattle.book.specs.Find.{findUser}
 use Rattle.calls.specs.Refusals.{statementRefusal}
 use Rattle.calls.specs.Calls.{Call, enrol, elect, advance, close, statement, refusalOf, bookAfter}
 

@@ -10,8 +10,9 @@ use native.Mathlib.Omega.{arith}
 use borrow.Author.Tests.{eq-eqb, ne-eqb, lt-ltb}
 use lib.Dec.{eqb, ltb}
 use Rattle.layout.specs.Fields.{userKind}
-use Rattle.book.specs.Book.{used, isUser, isAdvance, isClosing, isEntry, ownerOf, nextOf, firstEntryOf, rankOf, inOrder, activationOf, openYearOf, firstEntryFits, firstInOrder, ownerFits, entryNextFits, nextInOrder}
-use Rattle.book.proofs.RecordKinds.{kind-from-one, kind-below, entry-cases, not-both, entry-index}
+use Rattle.book.specs.Book.{used, kindAt, isUser, isEntry, ownerOf, nextOf, firstEntryOf, levelOf, yearsEnded, inOrder, activationOf, openYearOf, firstEntryFits, firstInOrder, ownerFits, entryNextFits, nextInOrder}
+use Rattle.book.proofs.RecordKinds.{kind-from-one, kind-below, not-both, entry-index}
+use Rattle.book.proofs.Levels.{entry-in-order}
 use Rattle.descent.specs.Descent.{met, dueEntry, dueYear, MetUser, MetEntry, Passed}
 use Rattle.descent.proofs.Steps.{met-at, user-keeps-entry, user-keeps-year, entry-moves, entry-moves-year, entry-keeps-other, entry-keeps-year}
 use Rattle.descent.proofs.Users.{user-met}
@@ -19,32 +20,24 @@ use Rattle.descent.proofs.Users.{user-met}
 -- what the chain of the user o may lead to from the year y: its end, or an entry of o below n
 pub data Leads (b : List ℕ) (o n y e : ℕ) : Type 0 where
   ended : e ≡ 0 → y ≡ activationOf b o → Leads b o n y e
-  owned : isEntry b e ≡ true → ownerOf b e ≡ o → e < n → (isAdvance b e ≡ true → rankOf b e ≡ y) → (isClosing b e ≡ true → rankOf b e + 1 ≡ y)
-      → Leads b o n y e
+  owned : isEntry b e ≡ true → ownerOf b e ≡ o → e < n → levelOf b e + yearsEnded (kindAt b e) ≡ y → Leads b o n y e
 
 leads-more : (b : List ℕ) (o n y e : ℕ) → Leads b o n y e → Leads b o (suc n) y e
 leads-more b o n y e (ended z a) = ended z a
-leads-more b o n y e (owned h k l a c) = owned h k (omega arith) a c
+leads-more b o n y e (owned h k l due) = owned h k (omega arith) due
 
 leads-in-order : (b : List ℕ) (o n y e : ℕ) → Leads b o n y e → inOrder b (activationOf b o) y e ≡ true
 unfolding inOrder
 leads-in-order b o n y e (ended z a) = rw (eq-eqb e 0 z, eq-eqb y (activationOf b o) a)
-leads-in-order b o n y e (owned h k l a c) = by-kind (entry-cases b e h)
-  where
-    some : eqb e 0 ≡ false
-    some = ne-eqb e 0 (let lo = entry-index b e h .0 in omega arith)
-
-    by-kind : (isAdvance b e ≡ true) ⊎ (isClosing b e ≡ true) → inOrder b (activationOf b o) y e ≡ true
-    by-kind (inl q) = rw (some, q, eq-eqb (rankOf b e) y (a q))
-    by-kind (inr q) = rw (some, q, eq-eqb (rankOf b e + 1) y (c q), or-true (isAdvance b e && eqb (rankOf b e) y))
+leads-in-order b o n y e (owned h k l due) = entry-in-order b e (activationOf b o) y h due
 
 leads-owned : (b : List ℕ) (o n y e : ℕ) → Leads b o n y e → (eqb e 0 || ((isEntry b e && eqb (ownerOf b e) o) && ltb e n)) ≡ true
 leads-owned b o n y e (ended z a) = rw (eq-eqb e 0 z)
-leads-owned b o n y e (owned h k l a c) = rw (h, eq-eqb (ownerOf b e) o k, lt-ltb e n l, or-true (eqb e 0))
+leads-owned b o n y e (owned h k l due) = rw (h, eq-eqb (ownerOf b e) o k, lt-ltb e n l, or-true (eqb e 0))
 
 leads-first : (b : List ℕ) (o n y e : ℕ) → Leads b o n y e → (eqb e 0 || (isEntry b e && eqb (ownerOf b e) o)) ≡ true
 leads-first b o n y e (ended z a) = rw (eq-eqb e 0 z)
-leads-first b o n y e (owned h k l a c) = rw (h, eq-eqb (ownerOf b e) o k, or-true (eqb e 0))
+leads-first b o n y e (owned h k l due) = rw (h, eq-eqb (ownerOf b e) o k, or-true (eqb e 0))
 
 -- what is due of the user o where d records are met and those below n are not
 abbrev Due : List ℕ → ℕ → ℕ → ℕ → Type 0
@@ -81,7 +74,7 @@ module _ (b : List ℕ) (p : Passed b) (o : ℕ) (user : isUser b o ≡ true) wh
       by-owner m rest (yes own) =
           let due : dueEntry b o d ≡ met b d = subst (λ k. dueEntry b k d ≡ met b d) own (m .due) in
           let year : dueYear b (ownerOf b (met b d)) d ≡ dueYear b o d = ap (λ k. dueYear b k d) own in
-          rw due (owned (m .entry) own (omega arith) (λ a. m .advance-year a ∙ year) (λ c. m .closing-year c ∙ year))
+          rw due (owned (m .entry) own (omega arith) (m .year ∙ year))
 
       by-record : MetUser b d ⊎ MetEntry b d → (o < n → Due b o n (suc d)) → Due b o (suc n) d
       by-record (inl m) rest = by-user m rest (decLt o n)
@@ -153,18 +146,18 @@ module _ (b : List ℕ) (p : Passed b) (i d : ℕ) (e : i + suc d ≡ used b) (l
   unfolding ownerFits
   owner-fits = rw (owner-user, lt-ltb (ownerOf b i) i owner-below)
 
-  leads-on : Leads b (ownerOf b i) i (rankOf b i) (nextOf b i)
+  leads-on : Leads b (ownerOf b i) i (levelOf b i) (nextOf b i)
   leads-on =
-      let year : dueYear b (ownerOf b i) (suc d) ≡ rankOf b i = subst (λ k. dueYear b (ownerOf b k) (suc d) ≡ rankOf b k) here (entry-moves-year b d m) in
+      let year : dueYear b (ownerOf b i) (suc d) ≡ levelOf b i = subst (λ k. dueYear b (ownerOf b k) (suc d) ≡ levelOf b k) here (entry-moves-year b d m) in
       let next : dueEntry b (ownerOf b i) (suc d) ≡ nextOf b i = subst (λ k. dueEntry b (ownerOf b k) (suc d) ≡ nextOf b k) here (entry-moves b d m) in
       rw (year, next) at (entry-due b p (ownerOf b i) owner-user i (suc d) e owner-below)
 
   -- "An entry's next is 0 or an entry of the same owner with a smaller index"
   pub entry-next-fits : entryNextFits b i ≡ true
   unfolding entryNextFits
-  entry-next-fits = leads-owned b (ownerOf b i) i (rankOf b i) (nextOf b i) leads-on
+  entry-next-fits = leads-owned b (ownerOf b i) i (levelOf b i) (nextOf b i) leads-on
 
   -- "After an entry of year y stands an advance of y, or the closing of y − 1, or 0 if y is the activation year."
   pub next-in-order : nextInOrder b i ≡ true
   unfolding nextInOrder
-  next-in-order = leads-in-order b (ownerOf b i) i (rankOf b i) (nextOf b i) leads-on
+  next-in-order = leads-in-order b (ownerOf b i) i (levelOf b i) (nextOf b i) leads-on

@@ -11,9 +11,9 @@ use borrow.Author.Tests.{eq-eqb, ne-eqb, lt-ltb}
 use lib.Dec.{eqb, ltb}
 use Rattle.units.specs.Folds.{sumBelow}
 use Rattle.units.proofs.Folds.{sum-cong, sum-none, sum-plus, sum-changed}
-use Rattle.layout.specs.Fields.{userKind, advanceKind, closingKind}
-use Rattle.book.specs.Book.{used, firstUser, hasKind, isUser, isAdvance, isClosing, isEntry, ownerOf, nextOf, hits, pointersTo, pointedOnce}
-use Rattle.book.proofs.RecordKinds.{kind-from-one, kind-below, kind-is, entry-cases, entry-index}
+use Rattle.layout.specs.Fields.{userKind}
+use Rattle.book.specs.Book.{used, firstUser, kindAt, hasKind, isUser, isEntry, ownerOf, nextOf, hits, pointersTo, pointedOnce}
+use Rattle.book.proofs.RecordKinds.{kind-from-one, kind-below, kind-is, entry-kind, entry-index, entry-no-user}
 use Rattle.pointers.specs.Pointers.{nextPointer, firstPointer}
 use Rattle.book.proofs.Hits.{hits-same, hits-other}
 use Rattle.pointers.proofs.Tallies.{tally-all}
@@ -34,11 +34,9 @@ next-of-user b i u = let lo = kind-from-one b userKind i u in rw (ne-eqb i 0 (om
 
 next-of-entry : (b : List ℕ) (i : ℕ) → isEntry b i ≡ true → nextPointer b i ≡ nextOf b i
 unfolding nextPointer
-next-of-entry b i h = let lo = entry-index b i h .0 in by-kind (ne-eqb i 0 (omega arith)) (entry-cases b i h)
-  where
-    by-kind : eqb i 0 ≡ false → (isAdvance b i ≡ true) ⊎ (isClosing b i ≡ true) → nextPointer b i ≡ nextOf b i
-    by-kind some (inl a) = rw (some, kind-is b advanceKind i a)
-    by-kind some (inr c) = rw (some, kind-is b closingKind i c)
+next-of-entry b i h =
+    let lo = entry-index b i h .0 in
+    rw (ne-eqb i 0 (omega arith), ne-eqb (kindAt b i) userKind (entry-no-user b i h), entry-kind b i h)
 
 -- how often the next of record j, and what is due of the user o once d records are met, lead to record k
 abbrev held : List ℕ → ℕ → ℕ → ℕ

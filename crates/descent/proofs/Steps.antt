@@ -4,7 +4,7 @@ use mathlib.Core.Path.{_≡_, refl}
 use mathlib.Core.Bool.{Bool, true, false}
 use mathlib.Core.List.{List}
 use native.Mathlib.Omega.{arith}
-use Rattle.book.specs.Book.{used, isUser, isEntry, ownerOf, nextOf, rankOf}
+use Rattle.book.specs.Book.{used, isUser, isEntry, ownerOf, nextOf, levelOf}
 use Rattle.book.proofs.RecordKinds.{not-both}
 use Rattle.owners.specs.Owners.{owns}
 use Rattle.owners.proofs.Last.{owns-own, owns-no-other}
@@ -53,7 +53,7 @@ module _ (b : List ℕ) (d : ℕ) (m : MetEntry b d) where
   unfolding dueEntry
   entry-moves = rw owned
 
-  pub entry-moves-year : dueYear b (ownerOf b (met b d)) (suc d) ≡ rankOf b (met b d)
+  pub entry-moves-year : dueYear b (ownerOf b (met b d)) (suc d) ≡ levelOf b (met b d)
   unfolding dueYear
   entry-moves-year = rw owned
 

@@ -6,8 +6,8 @@ use mathlib.Core.Path.{_≡_}
 use mathlib.Core.Logic.{_⊎_}
 use mathlib.Core.Bool.{true, cond}
 use mathlib.Core.List.{List}
-use Rattle.layout.specs.Fields.{recordAt, zeros}
-use Rattle.book.specs.Book.{used, usedFits, firstUser, isUser, isAdvance, isClosing, isEntry, ownerOf, rangesFit, zeroBytesFit, nextOf, firstEntryOf, numberOf, rankOf, activationOf, openYearOf}
+use Rattle.layout.specs.Fields.{recordAt, allZero, unnamedOfHead}
+use Rattle.book.specs.Book.{used, usedFits, firstUser, kindAt, isUser, isEntry, ownerOf, rangesFit, zeroBytesFit, nextOf, firstEntryOf, numberOf, levelOf, yearsEnded, activationOf, openYearOf}
 use Rattle.owners.specs.Owners.{owns}
 
 abbrev pub met : List ℕ → ℕ → ℕ
@@ -25,7 +25,7 @@ dueEntry b o (suc d) = cond (owns b o (met b d)) (nextOf b (met b d)) (dueEntry 
 
 unfoldable pub dueYear : List ℕ → ℕ → ℕ → ℕ
 dueYear b o zero = openYearOf b o
-dueYear b o (suc d) = cond (owns b o (met b d)) (rankOf b (met b d)) (dueYear b o d)
+dueYear b o (suc d) = cond (owns b o (met b d)) (levelOf b (met b d)) (dueYear b o d)
 
 -- a user is met where the users' chain leads, at the end of its own chain, with a number that no user met before has
 pub record MetUser (b : List ℕ) (d : ℕ) : Type 0 where
@@ -37,19 +37,18 @@ pub record MetUser (b : List ℕ) (d : ℕ) : Type 0 where
   pub opened : dueYear b (met b d) d ≡ activationOf b (met b d)
   pub unlike : (e : ℕ) → e < d → isUser b (met b e) ≡ true → numberOf b (met b e) ≡ numberOf b (met b d) → ⊥
 
--- an entry is met where its owner's chain leads, in the year that leads there or, a closing, in the year before
+-- an entry is met where its owner's chain leads, with the level that leads there or, a closing, with the one before
 pub record MetEntry (b : List ℕ) (d : ℕ) : Type 0 where
   pub entry : isEntry b (met b d) ≡ true
   pub ranges : rangesFit b (met b d) ≡ true
   pub zero-bytes : zeroBytesFit b (met b d) ≡ true
   pub owner : isUser b (ownerOf b (met b d)) ≡ true
   pub due : dueEntry b (ownerOf b (met b d)) d ≡ met b d
-  pub advance-year : isAdvance b (met b d) ≡ true → rankOf b (met b d) ≡ dueYear b (ownerOf b (met b d)) d
-  pub closing-year : isClosing b (met b d) ≡ true → rankOf b (met b d) + 1 ≡ dueYear b (ownerOf b (met b d)) d
+  pub year : levelOf b (met b d) + yearsEnded (kindAt b (met b d)) ≡ dueYear b (ownerOf b (met b d)) d
 
 -- every record but the head was met, and the users' chain has ended
 pub record Passed (b : List ℕ) : Type 0 where
   pub used-fits : usedFits b ≡ true
-  pub rest : zeros 8 72 (recordAt b 0) ≡ true
+  pub rest : allZero unnamedOfHead (recordAt b 0) ≡ true
   pub each : (d : ℕ) → d + 1 < used b → MetUser b d ⊎ MetEntry b d
   pub end : dueUser b (used b - 1) ≡ 0

@@ -11,7 +11,8 @@ use Rattle.accounts.specs.declared.Account.{Account}
 use Rattle.accounts.specs.Account.{accountElected}
 use Rattle.book.specs.Book.{accountAt}
 use Rattle.soundness.specs.Verdicts.{Accepted}
-use Rattle.calls.specs.Bookings.{findUser, withAccount, elected}
+use Rattle.calls.specs.Bookings.{withAccount, elected}
+use Rattle.book.specs.Find.{findUser}
 use Rattle.calls.specs.Refusals.{refuse, present, dayAndOption, electionOpen, electRefusal}
 use Rattle.calls.specs.Calls.{Call, elect, refusalOf, booked}
 use Rattle.refusals.specs.Objections.{electObjection}

@@ -1,7 +1,7 @@
 // Election (document 01, "Election and advances"): refusals 1 2 6 7 8, then the option.
 ghost use mathlib.Core.Path.{_≡_};
 ghost use Rattle.units.specs.Units.{recordIndex};
-ghost use Rattle.calls.specs.Bookings.{findUser};
+ghost use Rattle.book.specs.Find.{findUser};
 ghost use Rattle.calls.specs.Calls.{elect};
 ghost use Rattle.soundness.specs.Verdicts.{Accepted};
 ghost use Rattle.answers.specs.Answers.{Answered};

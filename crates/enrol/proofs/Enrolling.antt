@@ -13,7 +13,8 @@ use Rattle.accounts.specs.declared.Account.{Account}
 use Rattle.layout.specs.Fields.{recordLength}
 use Rattle.book.specs.Book.{used, detailsFit}
 use Rattle.soundness.specs.Verdicts.{Accepted}
-use Rattle.calls.specs.Bookings.{findUser, newAccount, enrolledAs, enrolled}
+use Rattle.calls.specs.Bookings.{newAccount, enrolledAs, enrolled}
+use Rattle.book.specs.Find.{findUser}
 use Rattle.calls.specs.Refusals.{refuse, hasRoom, numberFree, enrolRefusal}
 use Rattle.calls.specs.Calls.{Call, enrol, refusalOf, booked}
 use Rattle.refusals.specs.Objections.{enrolObjection}

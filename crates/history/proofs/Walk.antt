@@ -13,7 +13,7 @@ use Rattle.records.specs.declared.AdvanceRecord.{AdvanceRecord}
 use Rattle.records.specs.Records.{advanceIn}
 use Rattle.book.specs.Book.{lengthFits, sound, isUser, isAdvance, nextOf, firstEntryOf}
 use Rattle.book.proofs.Faultless.{sound-faultless}
-use Rattle.chains.specs.Chains.{chainFrom, entriesOf}
+use Rattle.book.specs.Chains.{chainFrom, entriesOf}
 use Rattle.chains.specs.Statements.{sumOver, advancePart}
 use Rattle.chains.proofs.Chain.{chain-none}
 use Rattle.chains.proofs.Fit.{advance-sum}

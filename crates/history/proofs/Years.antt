@@ -19,9 +19,9 @@ use Rattle.accounts.proofs.Outcomes.{outcome-credit}
 use Rattle.layout.specs.Fields.{recordAt}
 use Rattle.records.specs.declared.ClosingRecord.{ClosingRecord}
 use Rattle.records.specs.Records.{accountIn, closingIn}
-use Rattle.book.specs.Book.{lengthFits, sound, isUser, isClosing, rankOf, activationOf}
+use Rattle.book.specs.Book.{lengthFits, sound, isUser, isClosing, levelOf, activationOf}
 use Rattle.book.proofs.Faultless.{sound-faultless}
-use Rattle.chains.specs.Chains.{entriesOf}
+use Rattle.book.specs.Chains.{entriesOf}
 use Rattle.chains.proofs.Ranges.{closing-ranges, user-years}
 use Rattle.history.specs.History.{isClosingOf, closingAmong, closingOf, closingAfter, advancesOf, creditOver, creditAfterYears, yearOf}
 
@@ -36,11 +36,11 @@ year-room b i n long good user most =
 found-closing : (b : List ℕ) (year : ℕ) (es : List ℕ) → (closingAmong b year es ≡ 0) ⊎ (isClosing b (closingAmong b year es) ≡ true)
 unfolding closingAmong isClosingOf
 found-closing b year [] = inl refl
-found-closing b year (e ∷ es) = by-test (isClosing b e && eqb (rankOf b e) year) refl (found-closing b year es)
+found-closing b year (e ∷ es) = by-test (isClosing b e && eqb (levelOf b e) year) refl (found-closing b year es)
   where
-    by-test : (t : Bool) → (isClosing b e && eqb (rankOf b e) year) ≡ t → (closingAmong b year es ≡ 0) ⊎ (isClosing b (closingAmong b year es) ≡ true)
+    by-test : (t : Bool) → (isClosing b e && eqb (levelOf b e) year) ≡ t → (closingAmong b year es ≡ 0) ⊎ (isClosing b (closingAmong b year es) ≡ true)
         → (cond t e (closingAmong b year es) ≡ 0) ⊎ (isClosing b (cond t e (closingAmong b year es)) ≡ true)
-    by-test true h rest = inr (and-left (isClosing b e) (eqb (rankOf b e) year) h)
+    by-test true h rest = inr (and-left (isClosing b e) (eqb (levelOf b e) year) h)
     by-test false h rest = rest
 
 pub is-closing : (b : List ℕ) (i n : ℕ) (entry : RecordIndex) → entry ≡ recordIndex (closingAfter b i n) → (entry .0 ≡ 0 → ⊥) → isClosing b (entry .0) ≡ true

@@ -8,14 +8,14 @@ use Rattle.accounts.specs.Closing.{creditAfter}
 use Rattle.layout.specs.Fields.{recordAt}
 use Rattle.records.specs.declared.ClosingRecord.{ClosingRecord}
 use Rattle.records.specs.Records.{closingIn}
-use Rattle.book.specs.Book.{isClosing, rankOf, activationOf}
-use Rattle.chains.specs.Chains.{entriesOf}
+use Rattle.book.specs.Book.{isClosing, levelOf, activationOf}
+use Rattle.book.specs.Chains.{entriesOf}
 use Rattle.chains.specs.Statements.{advancePart, sumOver}
 use Rattle.history.specs.declared.Year.{Year}
 
 -- the closing of a year among these entries, 0 where there is none; and in the chain of the user i
 unfoldable pub isClosingOf : List ℕ → ℕ → ℕ → Bool
-isClosingOf b year e = isClosing b e && eqb (rankOf b e) year
+isClosingOf b year e = isClosing b e && eqb (levelOf b e) year
 
 unfoldable pub closingAmong : List ℕ → ℕ → List ℕ → ℕ
 closingAmong b year [] = 0

@@ -33,7 +33,7 @@ pub struct Year {
 fn is_closing_of(book: &[u8], entry: RecordIndex, year: u16) -> bool
     ensures { λ r. ⌜ r ≡ isClosingOf (now (book .entry)) year (entry .0) ⌝ }
 {
-    view::is_closing(book, entry) & (view::rank_of(book, entry) == year)
+    view::is_closing(book, entry) & (view::level_of(book, entry) == year)
 }
 
 // The closing of a year, 0 where there is none.

@@ -8,13 +8,13 @@ use native.Mathlib.Omega.{arith}
 use borrow.Author.Tests.{leb-true, eq-eqb}
 use lib.Dec.{leb, eqb}
 use lib.ListN.{length, getD, replicate, length-replicate}
-use Rattle.units.proofs.Bools.{and-left, and-right}
+use Rattle.units.proofs.Bools.{and-left, and-right, and-both}
 use Rattle.units.proofs.Folds.{all-of}
 use Rattle.codec.specs.Bytes.{littleEndian, bytesOf, part, number, stored}
 use Rattle.codec.proofs.Numbers.{length-bytes}
 use Rattle.codec.proofs.Stores.{length-stored, part-before, part-after, number-stored}
 use Rattle.layout.proofs.Places.{part-byte}
-use Rattle.layout.specs.Fields.{recordLength, Field, bytes, get, zeros, Cell, _holds_, written, image}
+use Rattle.layout.specs.Fields.{recordLength, Field, bytes, get, zeros, allZero, Cell, _holds_, written, image}
 
 -- a field ends within a record; two fields share no byte
 abbrev pub within : Field → Bool
@@ -30,6 +30,10 @@ allWithin (c ∷ cs) = within (c .field) && allWithin cs
 abbrev pub apartFrom : Field → List Cell → Bool
 apartFrom f [] = true
 apartFrom f (c ∷ cs) = apart f (c .field) && apartFrom f cs
+
+abbrev pub apartFromAll : List Field → List Cell → Bool
+apartFromAll [] cs = true
+apartFromAll (f ∷ fs) cs = apartFrom f cs && apartFromAll fs cs
 
 abbrev pub allApart : List Cell → Bool
 allApart [] = true
@@ -138,3 +142,9 @@ module _ (cs : List Cell) (w : allWithin cs ≡ true) where
           ∙ ap (λ (p : List ℕ). getD p i 0) (part-kept (bytes from n) cs blank blank-length w a)
           ∙ part-byte from n i blank h
           ∙ zero-byte recordLength (from + i)
+
+  pub unnamed-image : (fs : List Field) → apartFromAll fs cs ≡ true → allZero fs (image cs) ≡ true
+  unfolding allZero
+  unnamed-image [] a = refl
+  unnamed-image (f ∷ fs) a =
+      and-both (zeros-image (f .from) (f .size) (and-left (apartFrom f cs) (apartFromAll fs cs) a)) (unnamed-image fs (and-right (apartFrom f cs) (apartFromAll fs cs) a))

@@ -1,8 +1,8 @@
 -- "Book" of document 01: the fields of each record, once. Reading and writing both go by these.
 use Prim.Native.Nat.{ℕ, _+_, _*_, _/_}
-use mathlib.Core.Bool.{Bool}
+use mathlib.Core.Bool.{Bool, true, cond, _&&_}
 use mathlib.Core.List.{List, [], _∷_}
-use lib.Dec.{eqb}
+use lib.Dec.{leb, ltb, eqb}
 use lib.ListN.{length, getD, replicate}
 use Rattle.units.specs.Folds.{allBelow}
 use Rattle.codec.specs.Bytes.{bytesOf, part, number, stored}
@@ -136,9 +136,26 @@ lapsedField = bytes 48 8
 abbrev pub balanceField : Field
 balanceField = bytes 56 8
 
--- n bytes of a record from a place on are zero
+-- "Unnamed bytes are zero in records below u.", by kind; of the head "rest zero"
+abbrev pub unnamedOfHead : List Field
+unnamedOfHead = bytes 8 72 ∷ []
+
+abbrev pub unnamedOfUser : List Field
+unnamedOfUser = bytes 27 5 ∷ bytes 56 24 ∷ []
+
+abbrev pub unnamedOfAdvance : List Field
+unnamedOfAdvance = bytes 16 48 ∷ bytes 68 12 ∷ []
+
+abbrev pub unnamedOfClosing : List Field
+unnamedOfClosing = bytes 68 12 ∷ []
+
+-- n bytes of a record from a place on are zero, and so are the bytes of each field of a list
 unfoldable pub zeros : ℕ → ℕ → List ℕ → Bool
 zeros from n r = allBelow n (λ i. eqb (getD r (from + i) 0) 0)
+
+unfoldable pub allZero : List Field → List ℕ → Bool
+allZero [] r = true
+allZero (f ∷ fs) r = zeros (f .from) (f .size) r && allZero fs r
 
 -- the record at an index of the book, empty past the end; and the book with a record in its place
 unfoldable pub recordAt : List ℕ → ℕ → List ℕ
@@ -150,6 +167,14 @@ putRecord i r b = stored (recordLength * i) r b
 abbrev pub capacity : List ℕ → ℕ
 capacity b = length b / recordLength
 
+-- fields that tile a record: each of its bytes is in exactly one of them
+unfoldable pub timesIn : List Field → ℕ → ℕ
+timesIn [] i = 0
+timesIn (f ∷ fs) i = cond (leb (f .from) i && ltb i (f .from + f .size)) 1 0 + timesIn fs i
+
+unfoldable pub tiles : List Field → Bool
+tiles fs = allBelow recordLength (λ i. eqb (timesIn fs i) 1)
+
 -- a number for a field of an image
 pub record Cell : Type 0 where
   pub field : Field
@@ -158,6 +183,10 @@ pub record Cell : Type 0 where
 infix 5 _holds_
 abbrev pub _holds_ : Field → ℕ → Cell
 f holds n = record { field = f; value = n }
+
+abbrev pub fieldsOf : List Cell → List Field
+fieldsOf [] = []
+fieldsOf (c ∷ cs) = c .field ∷ fieldsOf cs
 
 -- "A record image starts as [0; 80], is filled": the cells are written one after the other
 unfoldable pub written : List Cell → List ℕ → List ℕ

@@ -7,8 +7,6 @@ ghost use lib.Dec.{eqb};
 ghost use lib.ListN.{length};
 ghost use Rattle.layout.specs.Fields.{recordLength, userKind};
 ghost use Rattle.book.specs.Book.{kindAt, isUser, numberOf, rangesFit, zeroBytesFit, userNextFits, numberIsNew, firstEntryFits, entryNextFits, ownerFits, pointersTo, inOrder, firstInOrder, nextInOrder, linksFit, goodRecord, goodHead};
-use layout::kind::ADVANCE;
-use layout::kind::CLOSING;
 use layout::kind::USER;
 use layout::record;
 use units::RecordIndex;
@@ -21,11 +19,11 @@ use view::is_closing;
 use view::is_entry;
 use view::is_user;
 use view::kind_at;
+use view::level_of;
 use view::next_of;
 use view::number_of;
 use view::open_year_of;
 use view::owner_of;
-use view::rank_of;
 
 // WHAT DIFFERS BY KIND: ranges and zero bytes
 
@@ -35,11 +33,10 @@ fn own_rules_fit(book: &[u8], index: RecordIndex) -> bool
 {
     let bytes = record(book, index);
     let owner = record(book, layout::owner_of(bytes));
-    match layout::kind_of(bytes) {
-        USER => book::user_record_fits(bytes),
-        ADVANCE => book::advance_record_fits(bytes, owner),
-        CLOSING => book::closing_record_fits(bytes, owner),
-        _ => false,
+    if layout::kind_of(bytes) == USER {
+        book::user_record_fits(bytes)
+    } else {
+        book::entry_record_fits(bytes, owner)
     }
 }
 
@@ -110,9 +107,9 @@ pub fn in_order(book: &[u8], activation: u16, year: u16, entry: RecordIndex) -> 
     if entry.0 == 0 {
         year == activation
     } else {
-        let rank = rank_of(book, entry);
-        let advance = is_advance(book, entry) & (rank == year);
-        let closing = is_closing(book, entry) & (rank as u32 + 1 == year as u32);
+        let level = level_of(book, entry);
+        let advance = is_advance(book, entry) & (level == year);
+        let closing = is_closing(book, entry) & (level as u32 + 1 == year as u32);
         advance | closing
     }
 }
@@ -132,7 +129,12 @@ pub fn next_in_order(book: &[u8], index: RecordIndex) -> bool
     ensures { λ r. ⌜ r ≡ nextInOrder (now (book .entry)) (index .0) ⌝ }
 {
     let activation = activation_of(book, owner_of(book, index));
-    in_order(book, activation, rank_of(book, index), next_of(book, index))
+    in_order(
+        book,
+        activation,
+        level_of(book, index),
+        next_of(book, index),
+    )
 }
 
 // FAULTS
@@ -166,5 +168,5 @@ pub fn good_head(book: &[u8]) -> bool
 {
     let first = first_user(book);
     let leads = (first.0 == 0) | is_user(book, first);
-    leads & layout::zeros(record(book, RecordIndex(0)), 8, 72)
+    leads & layout::head_rest_zero(record(book, RecordIndex(0)))
 }

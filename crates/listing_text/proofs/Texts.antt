@@ -9,7 +9,7 @@ use lib.Seq.{sets}
 use Rattle.codec.specs.Bytes.{stored}
 use Rattle.codec.proofs.Stores.{sets-stored, length-stored}
 use Rattle.book.specs.Book.{lengthFits, sound}
-use Rattle.chains.specs.Chains.{usersOf}
+use Rattle.book.specs.Chains.{usersOf}
 use Rattle.units.specs.declared.RecordIndex.{RecordIndex}
 use Rattle.soundness.specs.declared.Checked.{Checked}
 use Rattle.soundness.specs.declared.Checked.the-variants.{Length, Sound, Faulty}

@@ -15,7 +15,7 @@ use Rattle.book.specs.Book.{used, firstUser, lengthFits, sound, isUser, nextOf,
 use Rattle.book.proofs.Lengths.{capacity-most}
 use Rattle.book.proofs.Faults.{used-within, used-whole}
 use Rattle.book.proofs.Faultless.{Faultless, sound-faultless}
-use Rattle.chains.specs.Chains.{chainFrom, usersOf}
+use Rattle.book.specs.Chains.{chainFrom, usersOf}
 use Rattle.chains.proofs.Chain.{On, chain-none, chain-from-length}
 use Rattle.book.proofs.RecordKinds.{user-index}
 use Rattle.chains.proofs.Links.{first-user, users-fall}

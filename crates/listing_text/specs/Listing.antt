@@ -6,7 +6,7 @@ use mathlib.Core.Bool.{cond}
 use mathlib.Core.List.{List, [], _∷_, _++_}
 use lib.Dec.{ltb}
 use Rattle.book.specs.Book.{lengthFits, sound, accountAt}
-use Rattle.chains.specs.Chains.{usersOf}
+use Rattle.book.specs.Chains.{usersOf}
 
 -- twenty digits hold every number of 64 bits
 abbrev pub mostDigits : ℕ

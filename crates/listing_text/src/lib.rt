@@ -5,7 +5,7 @@ ghost use Prim.Native.Nat.{_+_, _≤_};
 ghost use lib.ListN.{length};
 ghost use Rattle.codec.specs.Bytes.{stored};
 ghost use Rattle.book.specs.Book.{lengthFits, sound};
-ghost use Rattle.chains.specs.Chains.{usersOf};
+ghost use Rattle.book.specs.Chains.{usersOf};
 ghost use Rattle.listing_text.specs.Listing.{mostDigits, decimal, lines, refused, listing};
 ghost use Rattle.listing_text.specs.Written.{longestField, longestLine, longestRefusal, longestText, field, accountLine, ListingAnswered};
 use accounts::Account;

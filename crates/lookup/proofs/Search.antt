@@ -11,8 +11,8 @@ use Rattle.units.specs.declared.UserNumber.{UserNumber}
 use Rattle.units.specs.Units.{recordIndex, userNumber}
 use Rattle.layout.specs.Fields.{recordAt, get, kindField, numberField, userKind}
 use Rattle.book.specs.Book.{used, kindAt, hasKind, isUser, numberOf}
-use Rattle.calls.specs.Bookings.{findBelow, findUser}
-use Rattle.calls.proofs.Search.{found-none}
+use Rattle.book.specs.Find.{findBelow, findUser}
+use Rattle.book.proofs.Find.{found-none}
 
 -- a record in use, by its kind and number
 pub bears : (b : List ℕ) (i n : ℕ) → 0 < i → i < used b → (r : List ℕ) → r ≡ recordAt b i → (k : ℕ) → k ≡ get kindField r → (m : UserNumber)

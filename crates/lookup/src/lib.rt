@@ -5,7 +5,7 @@ ghost use Rattle.units.specs.Units.{recordIndex};
 ghost use mathlib.Core.Bool.{_&&_};
 ghost use lib.Dec.{eqb};
 ghost use Rattle.book.specs.Book.{used, isUser, numberOf};
-ghost use Rattle.calls.specs.Bookings.{findUser};
+ghost use Rattle.book.specs.Find.{findUser};
 use layout::kind;
 use units::RecordIndex;
 use units::UserNumber;

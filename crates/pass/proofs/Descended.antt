@@ -14,19 +14,20 @@ use lib.Seq.{getD-set-same, getD-set-other}
 use Rattle.units.specs.Limits.{mostRecords}
 use Rattle.units.proofs.Bools.{and-left, and-right}
 use Rattle.units.proofs.Folds.{below-suc}
-use Rattle.layout.specs.Fields.{recordLength, get, zeros, recordAt, kindField, numberField, nextField, ownerField, yearField, userKind, advanceKind, closingKind}
+use Rattle.layout.specs.Fields.{recordLength, get, allZero, unnamedOfHead, unnamedOfUser, recordAt, kindField, numberField, nextField, ownerField, userKind}
 use Rattle.layout.proofs.Cells.{zero-byte}
-use Rattle.records.specs.Records.{accountIn, advanceIn, closingIn}
-use Rattle.book.specs.Book.{used, usedFits, firstUser, kindAt, isUser, isEntry, isAdvance, isClosing, ownerOf, nextOf, firstEntryOf, openYearOf, activationOf, numberOf, rankOf, accountFits, advanceFits, closingFits, rangesFit, zeroBytesFit, lengthFits, detailsFit, openYearFits, runsFit, advancesFit, creditFits, halvesFit, sound}
+use Rattle.records.specs.Records.{accountIn}
+use Rattle.book.specs.Book.{used, usedFits, firstUser, kindAt, isUser, isEntry, accountAt, ownerOf, nextOf, firstEntryOf, openYearOf, activationOf, numberOf, levelIn, levelOf, yearsEnded, accountFits, entryRanges, rangesFit, unnamedOf, zeroBytesFit, lengthFits, detailsFit, openYearFits, runsFit, advancesFit, creditFits, halvesFit, sound}
 use Rattle.book.proofs.Faults.{used-within, used-counted}
-use Rattle.book.proofs.RecordKinds.{has-kind, kind-is, advance-entry, closing-entry, not-both}
+use Rattle.book.proofs.RecordKinds.{has-kind, entry-of-kind, entry-no-user, not-both}
+use Rattle.book.proofs.Faultless.{ranges-entry}
 use Rattle.descent.specs.Descent.{met, dueUser, dueEntry, dueYear, MetUser, MetEntry}
 use Rattle.descent.proofs.Steps.{met-at, user-moves, user-keeps-entry, user-keeps-year, entry-keeps-user, entry-moves, entry-moves-year, entry-keeps-other, entry-keeps-year}
 use Rattle.descent.proofs.Sound.{passed-sound}
-use Rattle.calls.specs.Bookings.{findBelow, findUser}
-use Rattle.calls.proofs.Search.{found-none}
+use Rattle.book.specs.Find.{findBelow, findUser}
+use Rattle.book.proofs.Find.{found-none}
 use Rattle.numbers.specs.Held.{Held, Inserted}
-use Rattle.pass.specs.Steps.{entryDue, yearDue, UserFits, AdvanceFits, ClosingFits, EntryFits, StateAfter, firstMet}
+use Rattle.pass.specs.Steps.{entryDue, yearDue, UserFits, EntryFits, StateAfter, firstMet}
 
 -- the user with a number is found among the records from `left` on, or is still to be looked for below
 pub record Sought (b : List ℕ) (n left found : ℕ) : Type 0 where
@@ -112,18 +113,18 @@ module _ (b : List ℕ) {wanted left expected found : ℕ} {states seen : List �
     user-here : isUser b index ≡ true
     user-here = has-kind b userKind index lo inside kind-here
 
-    own-here : (accountFits (accountIn (recordAt b index)) && (zeros 27 5 (recordAt b index) && zeros 56 24 (recordAt b index))) ≡ true
+    own-here : (accountFits (accountIn (recordAt b index)) && allZero unnamedOfUser (recordAt b index)) ≡ true
     own-here = rw bytes at (f .own)
 
     ranges-here : rangesFit b index ≡ true
     unfolding rangesFit
     ranges-here =
-        rw kind-here (and-left (accountFits (accountIn (recordAt b index))) (zeros 27 5 (recordAt b index) && zeros 56 24 (recordAt b index)) own-here)
+        rw kind-here (and-left (accountFits (accountIn (recordAt b index))) (allZero unnamedOfUser (recordAt b index)) own-here)
 
     zeros-here : zeroBytesFit b index ≡ true
-    unfolding zeroBytesFit
+    unfolding zeroBytesFit unnamedOf
     zeros-here =
-        rw kind-here (and-right (accountFits (accountIn (recordAt b index))) (zeros 27 5 (recordAt b index) && zeros 56 24 (recordAt b index)) own-here)
+        rw kind-here (and-right (accountFits (accountIn (recordAt b index))) (allZero unnamedOfUser (recordAt b index)) own-here)
 
     number-here : number ≡ numberOf b index
     unfolding numberOf
@@ -178,9 +179,9 @@ module _ (b : List ℕ) {wanted left expected found : ℕ} {states seen : List �
     unfolding kindAt
     owner-user = has-kind b userKind home home-lo (let p = inside in omega arith) (rw owner-bytes at (f .user))
 
-    rank-here : get yearField r ≡ rankOf b index
-    unfolding rankOf
-    rank-here = ap (get yearField) bytes
+    level-here : levelIn r ≡ levelOf b index
+    unfolding levelOf
+    level-here = ap levelIn bytes
 
     next-here : get nextField r ≡ nextOf b index
     unfolding nextOf
@@ -192,61 +193,39 @@ module _ (b : List ℕ) {wanted left expected found : ℕ} {states seen : List �
     year-due : yearDue owner state ≡ dueYear b (ownerOf b index) (s .gone)
     year-due = rw (owner-here, owner-bytes, known) (s .year home)
 
-    -- its kind is known, and with it its own rules and its year
-    record Entered : Type 0 where
-      entry : isEntry b index ≡ true
-      ranges : rangesFit b index ≡ true
-      zero-bytes : zeroBytesFit b index ≡ true
-      advance-year : isAdvance b index ≡ true → rankOf b index ≡ dueYear b (ownerOf b index) (s .gone)
-      closing-year : isClosing b index ≡ true → rankOf b index + 1 ≡ dueYear b (ownerOf b index) (s .gone)
+    entry-kind-here : get kindField r ≡ kindAt b index
+    unfolding kindAt
+    entry-kind-here = ap (get kindField) bytes
 
-    advance-entered : AdvanceFits r owner state → Entered
-    unfolding rangesFit zeroBytesFit kindAt
-    advance-entered a =
-        let k : kindAt b index ≡ advanceKind = rw bytes at (a .kind) in
-        let adv : isAdvance b index ≡ true = has-kind b advanceKind index lo inside k in
-        let own : (advanceFits (accountIn (recordAt b (ownerOf b index))) (advanceIn (recordAt b index)) && (zeros 16 48 (recordAt b index) && zeros 68 12 (recordAt b index))) ≡ true =
-        rw (bytes, owner-bytes, ← owner-here) at (a .own) in
-        record {
-          entry = advance-entry b index adv;
-          ranges = rw k (and-left (advanceFits (accountIn (recordAt b (ownerOf b index))) (advanceIn (recordAt b index))) (zeros 16 48 (recordAt b index) && zeros 68 12 (recordAt b index)) own);
-          zero-bytes = rw k (and-right (advanceFits (accountIn (recordAt b (ownerOf b index))) (advanceIn (recordAt b index))) (zeros 16 48 (recordAt b index) && zeros 68 12 (recordAt b index)) own);
-          advance-year = λ _. sym rank-here ∙ a .year ∙ year-due;
-          closing-year = λ q. let z : ⊥ = omega (arith, k, kind-is b closingKind index q) in absurd z;
-        }
+    entry-ranges-here : entryRanges (accountAt b (ownerOf b index)) (recordAt b index) ≡ true
+    entry-ranges-here =
+        rw (owner-here, ← owner-bytes, ← bytes)
+        (and-left (entryRanges (accountIn owner) r) (allZero (unnamedOf (get kindField r)) r) (f .own))
 
-    closing-entered : ClosingFits r owner state → Entered
-    unfolding rangesFit zeroBytesFit kindAt
-    closing-entered a =
-        let k : kindAt b index ≡ closingKind = rw bytes at (a .kind) in
-        let clo : isClosing b index ≡ true = has-kind b closingKind index lo inside k in
-        let own : (closingFits (accountIn (recordAt b (ownerOf b index))) (closingIn (recordAt b index)) && zeros 68 12 (recordAt b index)) ≡ true =
-        rw (bytes, owner-bytes, ← owner-here) at (a .own) in
-        record {
-          entry = closing-entry b index clo;
-          ranges = rw k (and-left (closingFits (accountIn (recordAt b (ownerOf b index))) (closingIn (recordAt b index))) (zeros 68 12 (recordAt b index)) own);
-          zero-bytes = rw k (and-right (closingFits (accountIn (recordAt b (ownerOf b index))) (closingIn (recordAt b index))) (zeros 68 12 (recordAt b index)) own);
-          advance-year = λ q. let z : ⊥ = omega (arith, k, kind-is b advanceKind index q) in absurd z;
-          closing-year = λ _. ap (λ (y : ℕ). y + 1) (sym rank-here) ∙ a .year ∙ year-due;
-        }
+    is-entry : isEntry b index ≡ true
+    unfolding kindAt
+    is-entry = entry-of-kind b index lo inside (ranges-entry (accountAt b (ownerOf b index)) (recordAt b index) entry-ranges-here)
 
-    entered : Entered
-    entered = by-kind (f .by-kind)
-      where
-        by-kind : AdvanceFits r owner state ⊎ ClosingFits r owner state → Entered
-        by-kind (inl a) = advance-entered a
-        by-kind (inr a) = closing-entered a
+    ranges-fit : rangesFit b index ≡ true
+    unfolding rangesFit
+    ranges-fit = rw (ne-eqb (kindAt b index) userKind (entry-no-user b index is-entry)) entry-ranges-here
+
+    zeros-fit : zeroBytesFit b index ≡ true
+    unfolding zeroBytesFit
+    zeros-fit = rw (← entry-kind-here, ← bytes) (and-right (entryRanges (accountIn owner) r) (allZero (unnamedOf (get kindField r)) r) (f .own))
+
+    level-due : levelOf b index + yearsEnded (kindAt b index) ≡ dueYear b (ownerOf b index) (s .gone)
+    level-due = rw (← level-here, ← entry-kind-here) (f .year ∙ year-due)
 
     met-entry : MetEntry b (s .gone)
     met-entry =
         record {
-          entry = rw here (entered .entry);
-          ranges = rw here (entered .ranges);
-          zero-bytes = rw here (entered .zero-bytes);
+          entry = rw here is-entry;
+          ranges = rw here ranges-fit;
+          zero-bytes = rw here zeros-fit;
           owner = rw (here, owner-here) owner-user;
           due = rw here due-here;
-          advance-year = rw here (entered .advance-year);
-          closing-year = rw here (entered .closing-year);
+          year = rw here level-due;
         }
 
     owner-met : ownerOf b (met b (s .gone)) ≡ home
@@ -272,8 +251,8 @@ module _ (b : List ℕ) {wanted left expected found : ℕ} {states seen : List �
       where
         by-owner : Dec (o ≡ home) → yearDue (recordAt b o) (getD (set states home state') o 0) ≡ dueYear b o (suc (s .gone))
         by-owner (yes own) =
-            let moved : dueYear b home (suc (s .gone)) ≡ rankOf b index = rw (here, owner-here) at (entry-moves-year b (s .gone) met-entry) in
-            rw (own, getD-set-same states home state' 0 room, ne-eqb state' 0 known-after) (after-state .year ∙ rank-here ∙ sym moved)
+            let moved : dueYear b home (suc (s .gone)) ≡ levelOf b index = rw (here, owner-here) at (entry-moves-year b (s .gone) met-entry) in
+            rw (own, getD-set-same states home state' 0 room, ne-eqb state' 0 known-after) (after-state .year ∙ level-here ∙ sym moved)
         by-owner (no other) =
             rw (getD-set-other states home o state' 0 other) (s .year o ∙ sym (entry-keeps-year b (s .gone) met-entry o (λ e. other (sym e ∙ owner-met))))
 
@@ -281,7 +260,7 @@ module _ (b : List ℕ) {wanted left expected found : ℕ} {states seen : List �
     no-user = by-value (isUser b index) refl
       where
         by-value : (t : Bool) → isUser b index ≡ t → isUser b index ≡ false
-        by-value true u = absurd (not-both b index u (entered .entry))
+        by-value true u = absurd (not-both b index u is-entry)
         by-value false u = u
 
     pub entry-met : Descended b wanted index expected found (set states home state') seen
@@ -305,7 +284,7 @@ pub number-some : {r : List ℕ} {index expected state : ℕ} → UserFits r ind
 unfolding accountFits accountIn
 number-some {r} f =
     let a = accountIn r in
-    let fits = and-left (accountFits a) (zeros 27 5 r && zeros 56 24 r) (f .own) in
+    let fits = and-left (accountFits a) (allZero unnamedOfUser r) (f .own) in
     let known : (not (eqb (get numberField r) 0) && (detailsFit (a .details) (a .option) && openYearFits a)) ≡ true =
     and-left (not (eqb (get numberField r) 0) && (detailsFit (a .details) (a .option) && openYearFits a))
     ((runsFit a && advancesFit a) && (creditFits a && halvesFit a)) fits in
@@ -322,7 +301,7 @@ roomy b fits u = let most = used-within b u .1 in record { whole = omega arith; 
 
 -- all records but the head are met
 module _ (b : List ℕ) {wanted left expected found : ℕ} {states seen : List ℕ} (s : Descended b wanted left expected found states seen) (l : left ≤ 1) where
-  pub descended : expected ≡ 0 → usedFits b ≡ true → zeros 8 72 (recordAt b 0) ≡ true → sound b ≡ true
+  pub descended : expected ≡ 0 → usedFits b ≡ true → allZero unnamedOfHead (recordAt b 0) ≡ true → sound b ≡ true
   descended e fits rest =
       let p = s .place in
       let q = s .some in

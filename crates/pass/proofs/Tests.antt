@@ -1,7 +1,6 @@
 -- What the tests of a record that passes say.
 use Prim.Native.Nat.{ℕ, _+_}
-use mathlib.Core.Path.{_≡_, sym, ap, _∙_}
-use mathlib.Core.Logic.{_⊎_, inl, inr}
+use mathlib.Core.Path.{_≡_, sym, ap, ap₂, _∙_}
 use mathlib.Core.Bool.{Bool, true, false, not, _&&_}
 use mathlib.Core.List.{List}
 use native.Mathlib.Omega.{arith}
@@ -10,14 +9,14 @@ use lib.Dec.{eqb, ltb}
 use Rattle.units.specs.declared.RecordIndex.{RecordIndex}
 use Rattle.units.specs.Units.{recordIndex}
 use Rattle.units.proofs.Bools.{and-left, and-right}
-use Rattle.layout.specs.Fields.{get, zeros, kindField, nextField, activationYearField, yearField, userKind, advanceKind, closingKind}
-use Rattle.records.specs.Records.{accountIn, advanceIn, closingIn}
-use Rattle.book.specs.Book.{accountFits, advanceFits, closingFits}
-use Rattle.pass.specs.Steps.{entryDue, yearDue, UserFits, AdvanceFits, ClosingFits, EntryFits}
+use Rattle.layout.specs.Fields.{get, allZero, unnamedOfUser, kindField, nextField, activationYearField, userKind}
+use Rattle.records.specs.Records.{accountIn}
+use Rattle.book.specs.Book.{accountFits, entryRanges, unnamedOf, levelIn, yearsEnded}
+use Rattle.pass.specs.Steps.{entryDue, yearDue, UserFits, EntryFits}
 
 pub user-tests : (r : List ℕ) (index : ℕ) {expected state year activation entry : ℕ} {own : Bool} → year ≡ yearDue r state
     → activation ≡ get activationYearField r → entry ≡ entryDue r state → (eqb expected index && (eqb entry 0 && eqb year activation)) ≡ true
-    → own ≡ (accountFits (accountIn r) && (zeros 27 5 r && zeros 56 24 r)) → own ≡ true → UserFits r index expected state
+    → own ≡ (accountFits (accountIn r) && allZero unnamedOfUser r) → own ≡ true → UserFits r index expected state
 user-tests r index {expected} {state} {year} {activation} {entry} y a e t o p =
     let ended = and-right (eqb expected index) (eqb entry 0 && eqb year activation) t in
     record {
@@ -27,7 +26,7 @@ user-tests r index {expected} {state} {year} {activation} {entry} y a e t o p =
       own = sym o ∙ p;
     }
 
-module _ (r owner : List ℕ) (index state : ℕ) {year from entry home : ℕ} {next : RecordIndex} (y : year ≡ get yearField r) (w : from ≡ yearDue owner state)
+module _ (r owner : List ℕ) (index state : ℕ) {year from entry home : ℕ} {next : RecordIndex} (y : year ≡ levelIn r) (w : from ≡ yearDue owner state)
     (e : entry ≡ entryDue owner state) (n : next ≡ recordIndex (get nextField r)) (k : home ≡ get kindField owner)
     (t : not ((eqb entry index && ltb (next .0) index) && (ltb 0 year && eqb home userKind)) ≡ false) where
   abbrev leads : Bool
@@ -42,8 +41,9 @@ module _ (r owner : List ℕ) (index state : ℕ) {year from entry home : ℕ} {
   owned : dated ≡ true
   owned = and-right leads dated (not-false (leads && dated) t)
 
-  of-kind : AdvanceFits r owner state ⊎ ClosingFits r owner state → EntryFits r owner index state
-  of-kind b =
+  pub entry-tests : {kind ended : ℕ} → kind ≡ get kindField r → ended ≡ yearsEnded kind → year + ended ≡ from
+      → {own : Bool} → own ≡ (entryRanges (accountIn owner) r && allZero (unnamedOf (get kindField r)) r) → own ≡ true → EntryFits r owner index state
+  entry-tests q d l o p =
       let below = ltb-true (next .0) index (and-right (eqb entry index) (ltb (next .0) index) led) in
       let some = ltb-true 0 year (and-left (ltb 0 year) (eqb home userKind) owned) in
       record {
@@ -51,23 +51,6 @@ module _ (r owner : List ℕ) (index state : ℕ) {year from entry home : ℕ} {
         due = sym e ∙ eqb-true entry index (and-left (eqb entry index) (ltb (next .0) index) led);
         next = omega (arith, ap (λ (i : RecordIndex). i .0) n);
         some = omega arith;
-        by-kind = b;
+        year = ap₂ (λ (m s : ℕ). m + s) (sym y) (ap yearsEnded (sym q) ∙ sym d) ∙ l ∙ w;
+        own = sym o ∙ p;
       }
-
-  module _ {kind : ℕ} (q : kind ≡ get kindField r) {own : Bool} where
-    pub advance-tests : kind ≡ advanceKind → own ≡ (advanceFits (accountIn owner) (advanceIn r) && (zeros 16 48 r && zeros 68 12 r))
-        → (eqb year from && own) ≡ true → EntryFits r owner index state
-    advance-tests m o p =
-        of-kind
-        (inl record { kind = sym q ∙ m; year = sym y ∙ eqb-true year from (and-left (eqb year from) own p) ∙ w; own = sym o ∙ and-right (eqb year from) own p })
-
-    pub closing-tests : kind ≡ closingKind → own ≡ (closingFits (accountIn owner) (closingIn r) && zeros 68 12 r)
-        → (eqb (year + 1) from && own) ≡ true → EntryFits r owner index state
-    closing-tests m o p =
-        of-kind
-        (inr
-        record {
-          kind = sym q ∙ m;
-          year = ap (λ (j : ℕ). j + 1) (sym y) ∙ eqb-true (year + 1) from (and-left (eqb (year + 1) from) own p) ∙ w;
-          own = sym o ∙ and-right (eqb (year + 1) from) own p;
-        })

@@ -1,19 +1,18 @@
 -- What the pass keeps of each user, and what it tests where it meets a record.
 use Prim.Native.Nat.{ℕ, _+_, _/_, _%_, _<_}
 use mathlib.Core.Path.{_≡_}
-use mathlib.Core.Logic.{_⊎_}
 use mathlib.Core.Bool.{true, cond, _&&_}
 use mathlib.Core.List.{List}
 use lib.Dec.{eqb}
-use Rattle.layout.specs.Fields.{get, zeros, kindField, nextField, firstEntryField, activationYearField, openYearField, yearField, userKind, advanceKind, closingKind}
-use Rattle.records.specs.Records.{accountIn, advanceIn, closingIn}
+use Rattle.layout.specs.Fields.{get, allZero, unnamedOfUser, kindField, nextField, firstEntryField, activationYearField, openYearField, userKind}
+use Rattle.records.specs.Records.{accountIn}
 use Rattle.units.specs.Units.{recordIndex}
-use Rattle.book.specs.Book.{accountFits, advanceFits, closingFits, sound}
-use Rattle.calls.specs.Bookings.{findUser}
+use Rattle.book.specs.Book.{accountFits, entryRanges, unnamedOf, levelIn, yearsEnded, sound}
+use Rattle.book.specs.Find.{findUser}
 use Rattle.pass.specs.declared.Passed.{Passed}
 
 -- The state of a user is 0 until an entry of it is met; then it is the next of that entry times 65,536, which no year reaches,
--- and its year. With the user's record it tells the entry and the year that are due.
+-- and its level. With the user's record it tells the entry and the year that are due.
 abbrev pub years : ℕ
 years = 65536
 
@@ -28,31 +27,22 @@ pub record UserFits (r : List ℕ) (index expected state : ℕ) : Type 0 where
   pub due : expected ≡ index
   pub ended : entryDue r state ≡ 0
   pub opened : yearDue r state ≡ get activationYearField r
-  pub own : (accountFits (accountIn r) && (zeros 27 5 r && zeros 56 24 r)) ≡ true
+  pub own : (accountFits (accountIn r) && allZero unnamedOfUser r) ≡ true
 
--- an entry at an index, by its kind
-pub record AdvanceFits (r owner : List ℕ) (state : ℕ) : Type 0 where
-  pub kind : get kindField r ≡ advanceKind
-  pub year : get yearField r ≡ yearDue owner state
-  pub own : (advanceFits (accountIn owner) (advanceIn r) && (zeros 16 48 r && zeros 68 12 r)) ≡ true
-
-pub record ClosingFits (r owner : List ℕ) (state : ℕ) : Type 0 where
-  pub kind : get kindField r ≡ closingKind
-  pub year : get yearField r + 1 ≡ yearDue owner state
-  pub own : (closingFits (accountIn owner) (closingIn r) && zeros 68 12 r) ≡ true
-
--- its owner's chain leads to it, and on to an entry that is still to be met
+-- an entry at an index: its owner's chain leads to it with its level, or, a closing, with the year after, and on to an entry
+-- that is still to be met
 pub record EntryFits (r owner : List ℕ) (index state : ℕ) : Type 0 where
   pub user : get kindField owner ≡ userKind
   pub due : entryDue owner state ≡ index
   pub next : get nextField r < index
-  pub some : 0 < get yearField r
-  pub by-kind : AdvanceFits r owner state ⊎ ClosingFits r owner state
+  pub some : 0 < levelIn r
+  pub year : levelIn r + yearsEnded (get kindField r) ≡ yearDue owner state
+  pub own : (entryRanges (accountIn owner) r && allZero (unnamedOf (get kindField r)) r) ≡ true
 
 -- the state once the entry is met
 pub record StateAfter (r : List ℕ) (state : ℕ) : Type 0 where
   pub next : state / years ≡ get nextField r
-  pub year : state % years ≡ get yearField r
+  pub year : state % years ≡ levelIn r
 
 -- the record of the user that is looked for, once the record at `index` is met
 unfoldable pub firstMet : ℕ → ℕ → ℕ → ℕ → ℕ

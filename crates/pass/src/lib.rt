@@ -8,8 +8,6 @@ ghost use Rattle.layout.specs.Fields.{recordLength, get, nextField};
 ghost use Rattle.book.specs.Book.{lengthFits};
 ghost use Rattle.pass.specs.Steps.{years, entryDue, yearDue, UserFits, EntryFits, StateAfter, firstMet, PassedOver};
 use book::MOST_RECORDS;
-use layout::kind::ADVANCE;
-use layout::kind::CLOSING;
 use layout::kind::USER;
 use layout::whole_record;
 use numbers::PLACES;
@@ -51,7 +49,7 @@ fn state_after(r: &[u8]) -> u32
     requires { ⌜ get nextField (now r) < years ⌝ }
     ensures { λ s. ⌜ StateAfter (now (r .entry)) s ⌝ }
 {
-    layout::next_of(r).0 * YEARS + layout::year_of(r) as u32
+    layout::next_of(r).0 * YEARS + book::level_of(r) as u32
 }
 
 // A user is met where the users' chain leads, at the end of its own chain.
@@ -73,17 +71,17 @@ fn entry_fits(r: &[u8], owner: &[u8], index: usize, state: u32) -> bool
     requires { ⌜ length (now r) ≡ recordLength ⌝ }
     ensures { λ s. ⌜ (s ≡ true → EntryFits (now (r .entry)) (now (owner .entry)) index state) ⌝ }
 {
-    let year = layout::year_of(r);
+    let level = book::level_of(r);
     let from = year_due(owner, state);
     let due = entry_due(owner, state) as usize == index;
     let leads = due & ((layout::next_of(r).0 as usize) < index);
-    if !(leads & ((0 < year) & (layout::kind_of(owner) == USER))) {
+    if !(leads & ((0 < level) & (layout::kind_of(owner) == USER))) {
         return false;
     }
-    match layout::kind_of(r) {
-        ADVANCE => (year == from) & book::advance_record_fits(r, owner),
-        CLOSING => (year as u32 + 1 == from as u32) & book::closing_record_fits(r, owner),
-        _ => false,
+    if level as u32 + book::years_ended(layout::kind_of(r)) == from as u32 {
+        book::entry_record_fits(r, owner)
+    } else {
+        false
     }
 }
 
@@ -104,7 +102,7 @@ pub fn find(book: &[u8], wanted: UserNumber) -> Passed
     ensures { λ r. ⌜ PassedOver (now (book .entry)) (wanted .0) r ⌝ }
 {
     let head = layout::record(book, RecordIndex(0));
-    if !(view::used_fits(book) & layout::zeros(head, 8, 72)) {
+    if !(view::used_fits(book) & layout::head_rest_zero(head)) {
         return Passed::Unsure;
     }
     let mut states = [0u32; MOST_RECORDS];

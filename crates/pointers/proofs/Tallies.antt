@@ -11,8 +11,8 @@ use Rattle.units.specs.declared.RecordIndex.{RecordIndex}
 use Rattle.units.specs.Units.{recordIndex}
 use Rattle.units.specs.Folds.{sumBelow}
 use Rattle.units.proofs.Folds.{sum-step, sum-cong, sum-capped}
-use Rattle.layout.specs.Fields.{userKind, advanceKind, closingKind}
-use Rattle.book.specs.Book.{used, firstUser, kindAt, nextOf, firstEntryOf, hits, pointersFrom, pointersTo}
+use Rattle.layout.specs.Fields.{userKind}
+use Rattle.book.specs.Book.{used, firstUser, kindAt, entryKind, nextOf, firstEntryOf, hits, pointersFrom, pointersTo}
 use Rattle.pointers.specs.Pointers.{nextPointer, firstPointer}
 use Rattle.book.proofs.Hits.{hits-other, hits-at-most}
 
@@ -56,7 +56,7 @@ unfolding nextPointer pointersFrom
 pointed-from b m j h =
     let null : hits 0 m ≡ 0 = hits-other 0 m (omega arith) in
     ap (λ (p : ℕ). hits (nextPointer b j) m + hits p m) (not-head b j)
-    ∙ by-tests (eqb j 0) (eqb (kindAt b j) userKind) (eqb (kindAt b j) advanceKind || eqb (kindAt b j) closingKind)
+    ∙ by-tests (eqb j 0) (eqb (kindAt b j) userKind) (entryKind (kindAt b j))
     (firstUser b) (nextOf b j) (firstEntryOf b j) m null
 
 pub tally-all : (b : List ℕ) (m : ℕ) → 1 ≤ m → sumBelow (used b) (pointed b m) ≡ pointersTo b m

@@ -4,13 +4,13 @@ use Prim.Native.Nat.{ℕ}
 use mathlib.Core.Bool.{cond, _&&_, _||_}
 use mathlib.Core.List.{List}
 use lib.Dec.{eqb, ltb}
-use Rattle.layout.specs.Fields.{userKind, advanceKind, closingKind}
-use Rattle.book.specs.Book.{firstUser, kindAt, nextOf, firstEntryOf}
+use Rattle.layout.specs.Fields.{userKind}
+use Rattle.book.specs.Book.{firstUser, kindAt, entryKind, nextOf, firstEntryOf}
 
 unfoldable pub nextPointer : List ℕ → ℕ → ℕ
 nextPointer b j =
     cond (eqb j 0) (firstUser b)
-    (cond (eqb (kindAt b j) userKind || (eqb (kindAt b j) advanceKind || eqb (kindAt b j) closingKind)) (nextOf b j) 0)
+    (cond (eqb (kindAt b j) userKind || entryKind (kindAt b j)) (nextOf b j) 0)
 
 unfoldable pub firstPointer : List ℕ → ℕ → ℕ
 firstPointer b j = cond (ltb 0 j && eqb (kindAt b j) userKind) (firstEntryOf b j) 0

@@ -9,8 +9,6 @@ ghost use Rattle.units.specs.Limits.{mostRecords};
 ghost use Rattle.book.specs.Book.{hits, pointersTo, used};
 ghost use Rattle.pointers.specs.Pointers.{nextPointer, firstPointer};
 use book::MOST_RECORDS;
-use layout::kind::ADVANCE;
-use layout::kind::CLOSING;
 use layout::kind::USER;
 use units::RecordIndex;
 use view::first_entry_of;
@@ -22,7 +20,7 @@ fn next_pointer(book: &[u8], index: RecordIndex) -> RecordIndex
     ensures { λ r. ⌜ r ≡ recordIndex (nextPointer (now (book .entry)) (index .0)) ⌝ }
 {
     let kind = kind_at(book, index);
-    let known = (kind == USER) | ((kind == ADVANCE) | (kind == CLOSING));
+    let known = (kind == USER) | book::is_entry_kind(kind);
     if index.0 == 0 {
         first_user(book)
     } else {

@@ -7,8 +7,8 @@ use mathlib.Core.List.{List}
 use lib.Dec.{lit<}
 use lib.ListN.{length}
 use Rattle.units.specs.Units.{ticks, recordIndex}
-use Rattle.layout.specs.Fields.{recordLength, get, zeros, image, advanceKind, kindField, nextField, ownerField, runField, ticksField, yearField}
-use Rattle.layout.proofs.Cells.{cellAt, length-image, read-image, zeros-image}
+use Rattle.layout.specs.Fields.{recordLength, get, allZero, unnamedOfAdvance, image, advanceKind, kindField, nextField, ownerField, runField, ticksField, yearField}
+use Rattle.layout.proofs.Cells.{cellAt, length-image, read-image, unnamed-image}
 use Rattle.layout.proofs.ByteRanges.{Bytes, bytes-image, get-below}
 use Rattle.records.specs.declared.AdvanceRecord.{AdvanceRecord}
 use Rattle.records.specs.Records.{advanceCells, advanceImage, advanceIn}
@@ -41,13 +41,9 @@ module _ (a : AdvanceRecord) where
   bytes-advance-image = bytes-image (advanceCells a)
 
   -- the bytes that no field names
-  pub advance-gap : zeros 16 48 (advanceImage a) ≡ true
+  pub advance-unnamed : allZero unnamedOfAdvance (advanceImage a) ≡ true
   unfolding advanceImage
-  advance-gap = zeros-image (advanceCells a) refl 16 48 refl
-
-  pub advance-tail : zeros 68 12 (advanceImage a) ≡ true
-  unfolding advanceImage
-  advance-tail = zeros-image (advanceCells a) refl 68 12 refl
+  advance-unnamed = unnamed-image (advanceCells a) refl unnamedOfAdvance refl
 
   read : (n : ℕ) → cellAt (advanceCells a) n .value < 256 ^ cellAt (advanceCells a) n .field .size
       → get (cellAt (advanceCells a) n .field) (image (advanceCells a)) ≡ cellAt (advanceCells a) n .value

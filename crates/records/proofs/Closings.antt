@@ -7,8 +7,8 @@ use mathlib.Core.List.{List}
 use lib.Dec.{lit<}
 use lib.ListN.{length}
 use Rattle.units.specs.Units.{ticks, recordIndex}
-use Rattle.layout.specs.Fields.{recordLength, get, zeros, image, closingKind, balanceField, closingOptionField, contributionField, costField, flatRateField, kindField, lapsedField, liquidationField, nextField, ownerField, valueField, yearField}
-use Rattle.layout.proofs.Cells.{cellAt, length-image, read-image, zeros-image}
+use Rattle.layout.specs.Fields.{recordLength, get, allZero, unnamedOfClosing, image, closingKind, balanceField, closingOptionField, contributionField, costField, flatRateField, kindField, lapsedField, liquidationField, nextField, ownerField, valueField, yearField}
+use Rattle.layout.proofs.Cells.{cellAt, length-image, read-image, unnamed-image}
 use Rattle.layout.proofs.ByteRanges.{Bytes, bytes-image, get-below}
 use Rattle.records.specs.declared.ClosingRecord.{ClosingRecord}
 use Rattle.records.specs.Records.{closingCells, closingImage, closingIn}
@@ -53,9 +53,9 @@ module _ (c : ClosingRecord) where
   bytes-closing-image = bytes-image (closingCells c)
 
   -- the bytes that no field names
-  pub closing-tail : zeros 68 12 (closingImage c) ≡ true
+  pub closing-unnamed : allZero unnamedOfClosing (closingImage c) ≡ true
   unfolding closingImage
-  closing-tail = zeros-image (closingCells c) refl 68 12 refl
+  closing-unnamed = unnamed-image (closingCells c) refl unnamedOfClosing refl
 
   read : (n : ℕ) → cellAt (closingCells c) n .value < 256 ^ cellAt (closingCells c) n .field .size
       → get (cellAt (closingCells c) n .field) (image (closingCells c)) ≡ cellAt (closingCells c) n .value

@@ -3,8 +3,8 @@ use Prim.Native.Nat.{ℕ, _^_, _<_}
 use mathlib.Core.Path.{_≡_, refl}
 use mathlib.Core.Bool.{true}
 use lib.ListN.{length}
-use Rattle.layout.specs.Fields.{recordLength, get, zeros, usedField, firstUserField}
-use Rattle.layout.proofs.Cells.{length-image, read-image, zeros-image}
+use Rattle.layout.specs.Fields.{recordLength, get, allZero, unnamedOfHead, usedField, firstUserField}
+use Rattle.layout.proofs.Cells.{length-image, read-image, unnamed-image}
 use Rattle.layout.proofs.ByteRanges.{Bytes, bytes-image}
 use Rattle.records.specs.Records.{headCells, headImage}
 
@@ -17,9 +17,9 @@ module _ (used first : ℕ) where
   unfolding headImage
   bytes-head-image = bytes-image (headCells used first)
 
-  pub head-tail : zeros 8 72 (headImage used first) ≡ true
+  pub head-unnamed : allZero unnamedOfHead (headImage used first) ≡ true
   unfolding headImage
-  head-tail = zeros-image (headCells used first) refl 8 72 refl
+  head-unnamed = unnamed-image (headCells used first) refl unnamedOfHead refl
 
   pub head-used : used < 2 ^ 32 → get usedField (headImage used first) ≡ used
   unfolding headImage

@@ -7,8 +7,8 @@ use mathlib.Core.List.{List}
 use lib.Dec.{lit<}
 use lib.ListN.{length}
 use Rattle.units.specs.Units.{kwh, ticks, userNumber, recordIndex}
-use Rattle.layout.specs.Fields.{recordLength, get, zeros, image, userKind, activationMonthField, activationYearField, advancesField, classField, creditField, firstEntryField, half1Field, half2Field, islandField, kindField, nextField, numberField, openYearField, optionField, plantField, powerField, runsField}
-use Rattle.layout.proofs.Cells.{cellAt, length-image, read-image, zeros-image}
+use Rattle.layout.specs.Fields.{recordLength, get, allZero, unnamedOfUser, image, userKind, activationMonthField, activationYearField, advancesField, classField, creditField, firstEntryField, half1Field, half2Field, islandField, kindField, nextField, numberField, openYearField, optionField, plantField, powerField, runsField}
+use Rattle.layout.proofs.Cells.{cellAt, length-image, read-image, unnamed-image}
 use Rattle.layout.proofs.ByteRanges.{Bytes, bytes-image, get-below}
 use Rattle.records.specs.declared.UserRecord.{UserRecord}
 use Rattle.records.specs.Records.{userCells, userImage, userIn, accountIn}
@@ -63,13 +63,9 @@ module _ (u : UserRecord) where
   bytes-user-image = bytes-image (userCells u)
 
   -- the bytes that no field names
-  pub user-gap : zeros 27 5 (userImage u) ≡ true
+  pub user-unnamed : allZero unnamedOfUser (userImage u) ≡ true
   unfolding userImage
-  user-gap = zeros-image (userCells u) refl 27 5 refl
-
-  pub user-tail : zeros 56 24 (userImage u) ≡ true
-  unfolding userImage
-  user-tail = zeros-image (userCells u) refl 56 24 refl
+  user-unnamed = unnamed-image (userCells u) refl unnamedOfUser refl
 
   read : (n : ℕ) → cellAt (userCells u) n .value < 256 ^ cellAt (userCells u) n .field .size
       → get (cellAt (userCells u) n .field) (image (userCells u)) ≡ cellAt (userCells u) n .value

@@ -1,7 +1,7 @@
 -- A fresh book has the head alone, and is sound.
 use Prim.Native.Nat.{ℕ, zero, suc, _+_, _-_, _*_, _/_, _≤_, _<_}
 use mathlib.Core.Path.{_≡_, refl, _∙_}
-use mathlib.Core.Bool.{true}
+use mathlib.Core.Bool.{true, and-true}
 use mathlib.Core.List.{List}
 use native.Mathlib.Omega.{arith}
 use borrow.Author.Tests.{le-leb, eq-eqb}
@@ -9,7 +9,7 @@ use lib.Dec.{eqb}
 use lib.ListN.{length, getD, replicate, length-replicate, getD-replicate}
 use Rattle.units.proofs.Folds.{all-of}
 use Rattle.codec.proofs.Numbers.{number-four}
-use Rattle.layout.specs.Fields.{recordLength, recordAt, usedField, firstUserField, zeros}
+use Rattle.layout.specs.Fields.{recordLength, recordAt, usedField, firstUserField, zeros, allZero, unnamedOfHead}
 use Rattle.layout.proofs.Places.{get-record, byte-record}
 use Rattle.book.specs.Book.{lengthFits, freshBook, used, usedFits, firstUser, goodHead, sound}
 use Rattle.soundness.specs.Verdicts.{Accepted, freshAfter}
@@ -49,11 +49,12 @@ module _ (n : ℕ) (least : recordLength ≤ n) where
   used-fits-fresh =
       rw (used-fresh, length-fresh) (le-leb 1 (n / recordLength) (omega arith))
 
-  rest-fresh : zeros 8 72 (recordAt (freshBook n) 0) ≡ true
-  unfolding zeros
+  rest-fresh : allZero unnamedOfHead (recordAt (freshBook n) 0) ≡ true
+  unfolding allZero zeros
   rest-fresh =
-      all-of 72 (λ i. eqb (getD (recordAt (freshBook n) 0) (8 + i) 0) 0)
-      (λ i h. eq-eqb (getD (recordAt (freshBook n) 0) (8 + i) 0) 0 (byte-record (freshBook n) 0 (8 + i) (omega arith) ∙ byte-zero (recordLength * 0 + (8 + i)) (omega arith) (omega arith)))
+      rw and-true
+      (all-of 72 (λ i. eqb (getD (recordAt (freshBook n) 0) (8 + i) 0) 0)
+      (λ i h. eq-eqb (getD (recordAt (freshBook n) 0) (8 + i) 0) 0 (byte-record (freshBook n) 0 (8 + i) (omega arith) ∙ byte-zero (recordLength * 0 + (8 + i)) (omega arith) (omega arith))))
 
   head-fresh : goodHead (freshBook n) ≡ true
   unfolding goodHead

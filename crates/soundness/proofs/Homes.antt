@@ -2,18 +2,18 @@
 -- smaller index. A record that has neither is faulty by itself.
 use Prim.Native.Nat.{ℕ, _+_, _≤_, _<_}
 use mathlib.Core.Path.{_≡_, refl, sym, ap, _∙_}
-use mathlib.Core.Bool.{Bool, true, false, not, _&&_, and-false, true≢false}
+use mathlib.Core.Bool.{Bool, true, false, not, _&&_, and-false, true≢false, false≢true}
 use mathlib.Core.List.{List}
 use native.Mathlib.Decide.{decLt}
 use native.Mathlib.Omega.{arith}
 use borrow.Author.Count.{below-more}
 use borrow.Author.Tests.{ne-eqb}
 use Rattle.units.proofs.Bools.{and-left, and-right}
-use Rattle.layout.specs.Fields.{userKind, advanceKind, closingKind}
+use Rattle.layout.specs.Fields.{userKind}
 use Rattle.book.specs.Book.{used, usedFits, kindAt, isUser, isEntry, ownerOf, ownerFits, rangesFit, zeroBytesFit, linksFit, goodRecord, faulty}
 use Rattle.book.proofs.Faults.{faulty-record}
-use Rattle.book.proofs.Faultless.{owner-before}
-use Rattle.book.proofs.RecordKinds.{kind-from-one, kind-below, entry-index, entry-no-user, no-user, no-advance, no-closing}
+use Rattle.book.proofs.Faultless.{owner-before, good-known}
+use Rattle.book.proofs.RecordKinds.{kind-from-one, kind-below, entry-index, entry-no-user, no-user}
 use Rattle.owners.specs.Owners.{owns, lastOwned}
 use Rattle.owners.proofs.Last.{owns-entry, owns-own, last-below, last-owned, none-above}
 
@@ -49,13 +49,12 @@ homes-good b homes i p h = by-user (isUser b i) refl
 
 -- a record of no known kind, and an entry whose owner does not fit, are not good
 module _ (b : List ℕ) (i : ℕ) where
-  no-ranges : (kindAt b i ≡ userKind → ⊥) → (kindAt b i ≡ advanceKind → ⊥) → (kindAt b i ≡ closingKind → ⊥) → rangesFit b i ≡ false
-  unfolding rangesFit
-  no-ranges u a c = rw (ne-eqb (kindAt b i) userKind u, ne-eqb (kindAt b i) advanceKind a, ne-eqb (kindAt b i) closingKind c)
-
-  unknown-bad : (kindAt b i ≡ userKind → ⊥) → (kindAt b i ≡ advanceKind → ⊥) → (kindAt b i ≡ closingKind → ⊥) → goodRecord b i ≡ false
-  unfolding goodRecord
-  unknown-bad u a c = rw (no-ranges u a c)
+  unknown-bad : 1 ≤ i → i < used b → isUser b i ≡ false → isEntry b i ≡ false → goodRecord b i ≡ false
+  unknown-bad lo hi u e = by-good (goodRecord b i) refl
+    where
+      by-good : (t : Bool) → goodRecord b i ≡ t → goodRecord b i ≡ false
+      by-good true g = absurd (false≢true (rw (u, e) at (good-known b i g lo hi)))
+      by-good false g = g
 
   no-links : (kindAt b i ≡ userKind → ⊥) → ownerFits b i ≡ false → linksFit b i ≡ false
   unfolding linksFit
@@ -73,7 +72,7 @@ stray-bad b i p h n o = by-tests (isEntry b i) (ownerFits b i) refl refl o
     by-tests : (e f : Bool) → isEntry b i ≡ e → ownerFits b i ≡ f → (e && f) ≡ false → goodRecord b i ≡ false
     by-tests true true q r z = absurd (true≢false z)
     by-tests true false q r z = ownerless-bad b i (no-user b i p h n) r
-    by-tests false f q r z = unknown-bad b i (no-user b i p h n) (no-advance b i p h q) (no-closing b i p h q)
+    by-tests false f q r z = unknown-bad b i p h n q
 
 -- The entries of a user are met from the last one down: those above e are good, and e is one of them, or 0 after the first.
 pub record EntriesMet (b : List ℕ) (user e : ℕ) : Type 0 where

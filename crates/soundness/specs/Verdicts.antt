@@ -7,7 +7,7 @@ use mathlib.Core.List.{List}
 use lib.ListN.{length}
 use Rattle.units.specs.Units.{recordIndex}
 use Rattle.book.specs.Book.{lengthFits, freshBook, used, goodRecord, faulty, sound}
-use Rattle.calls.specs.Bookings.{findUser}
+use Rattle.book.specs.Find.{findUser}
 use Rattle.soundness.specs.declared.Verdict.{Verdict}
 use Rattle.soundness.specs.declared.Checked.{Checked}
 use Rattle.soundness.specs.declared.Found.{Found}

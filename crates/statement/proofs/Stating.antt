@@ -11,7 +11,7 @@ use Rattle.units.specs.Units.{recordIndex}
 use Rattle.book.specs.Book.{isUser}
 use Rattle.chains.specs.Statements.{statementAt}
 use Rattle.soundness.specs.Verdicts.{Accepted}
-use Rattle.calls.specs.Bookings.{findUser}
+use Rattle.book.specs.Find.{findUser}
 use Rattle.calls.specs.Refusals.{present, statementRefusal}
 use Rattle.calls.specs.Calls.{statement, refusalOf, booked}
 use Rattle.bookings.proofs.Numbers.{found}

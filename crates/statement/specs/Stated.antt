@@ -7,7 +7,7 @@ use lib.IntN.{pos}
 use Rattle.units.specs.Units.{ticks}
 use Rattle.accounts.specs.Account.{balanceBits}
 use Rattle.chains.specs.Statements.{statementAt}
-use Rattle.calls.specs.Bookings.{findUser}
+use Rattle.book.specs.Find.{findUser}
 use Rattle.statements.specs.declared.Sums.{Sums}
 use Rattle.statements.specs.Walk.{sumsOf}
 

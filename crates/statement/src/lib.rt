@@ -1,7 +1,7 @@
 // The statement of a user (document 01, "Election and advances"): refusals 1 2 6, then the sums over its chain.
 ghost use mathlib.Core.Path.{_≡_};
 ghost use Rattle.units.specs.Units.{recordIndex};
-ghost use Rattle.calls.specs.Bookings.{findUser};
+ghost use Rattle.book.specs.Find.{findUser};
 ghost use Rattle.calls.specs.Calls.{statement};
 ghost use Rattle.soundness.specs.Verdicts.{Accepted};
 ghost use Rattle.answers.specs.Answers.{Answered};

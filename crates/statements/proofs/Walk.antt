@@ -10,7 +10,7 @@ use lib.IntN.{+ℤ-idl}
 use Rattle.book.specs.Book.{lengthFits, sound, isUser, isAdvance, isClosing, accountAt, nextOf, firstEntryOf}
 use Rattle.book.proofs.Faultless.{Faultless}
 use Rattle.ledger.specs.Ledger.{Statement}
-use Rattle.chains.specs.Chains.{chainFrom, entriesOf}
+use Rattle.book.specs.Chains.{chainFrom, entriesOf}
 use Rattle.chains.specs.Statements.{closingPart, advancePart, balancePart, sumOver, sumOverℤ, statementAt}
 use Rattle.chains.proofs.Chain.{chain-none}
 use Rattle.book.proofs.RecordKinds.{entry-cases}

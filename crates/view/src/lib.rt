@@ -5,7 +5,7 @@ ghost use Prim.Native.Nat.{_+_, _*_, _≤_};
 ghost use lib.ListN.{length};
 ghost use Rattle.units.specs.Units.{userNumber, recordIndex};
 ghost use Rattle.layout.specs.Fields.{recordLength};
-ghost use Rattle.book.specs.Book.{firstUser, usedFits, kindAt, hasKind, isUser, isAdvance, isClosing, isEntry, ownerOf, accountAt, nextOf, firstEntryOf, numberOf, rankOf, activationOf, openYearOf};
+ghost use Rattle.book.specs.Book.{firstUser, usedFits, kindAt, hasKind, isUser, isAdvance, isClosing, isEntry, ownerOf, accountAt, nextOf, firstEntryOf, numberOf, levelOf, activationOf, openYearOf};
 ghost use Rattle.book.specs.Book.{used as usedIn};
 use accounts::Account;
 use layout::RECORD_LENGTH;
@@ -71,7 +71,7 @@ pub fn is_closing(book: &[u8], index: RecordIndex) -> bool
 pub fn is_entry(book: &[u8], index: RecordIndex) -> bool
     ensures { λ r. ⌜ r ≡ isEntry (now (book .entry)) (index .0) ⌝ }
 {
-    is_advance(book, index) | is_closing(book, index)
+    ((0 < index.0) & (index.0 < used(book))) & book::is_entry_kind(kind_at(book, index))
 }
 
 // FIELDS OF A RECORD
@@ -100,10 +100,10 @@ pub fn number_of(book: &[u8], index: RecordIndex) -> UserNumber
     layout::number_of(record(book, index))
 }
 
-pub fn rank_of(book: &[u8], index: RecordIndex) -> u16
-    ensures { λ r. ⌜ r ≡ rankOf (now (book .entry)) (index .0) ⌝ }
+pub fn level_of(book: &[u8], index: RecordIndex) -> u16
+    ensures { λ r. ⌜ r ≡ levelOf (now (book .entry)) (index .0) ⌝ }
 {
-    layout::year_of(record(book, index))
+    book::level_of(record(book, index))
 }
 
 pub fn activation_of(book: &[u8], index: RecordIndex) -> u16

@@ -5,7 +5,7 @@ use mathlib.Core.Bool.{Bool, _&&_, _||_}
 use mathlib.Core.List.{List}
 use lib.Dec.{eqb}
 use denote.Ref.{now}
-use Rattle.book.specs.Book.{isAdvance, isClosing, rankOf, inOrder}
+use Rattle.book.specs.Book.{keepsYear, isClosing, levelOf, inOrder}
 use borrow.Author.Tests.{ne-eqb}
 use borrow.Author.Needs.{needs}
 use Rattle.links.proofs.in_order.Statement.{statement}
@@ -15,14 +15,14 @@ ended : (b : List ℕ) (activation y e : ℕ) → e ≡ 0 → eqb y activation �
 unfolding inOrder
 ended b activation y e z = rw z
 
-followed : (b : List ℕ) (activation y e : ℕ) {rank : ℕ} {advance closing : Bool} → (e ≡ 0 → ⊥) → rank ≡ rankOf b e
-    → advance ≡ isAdvance b e → closing ≡ isClosing b e
-    → ((advance && eqb rank y) || (closing && eqb (rank + 1) y)) ≡ inOrder b activation y e
+followed : (b : List ℕ) (activation y e : ℕ) {level : ℕ} {keeps closing : Bool} → (e ≡ 0 → ⊥) → level ≡ levelOf b e
+    → keeps ≡ keepsYear b e → closing ≡ isClosing b e
+    → ((keeps && eqb level y) || (closing && eqb (level + 1) y)) ≡ inOrder b activation y e
 unfolding inOrder
 followed b activation y e n r a l = rw (ne-eqb e 0 n, r, a, l)
 
-rank-of-requires : tie.Need-rank-of-requires
-rank-of-requires c κs = search needs
+level-of-requires : tie.Need-level-of-requires
+level-of-requires c κs = search needs
 
 is-advance-requires : tie.Need-is-advance-requires
 is-advance-requires c κs = search needs
@@ -45,13 +45,13 @@ returns-2 : tie.Need-returns-2
 returns-2 c =
     let s = c .before .before .before in
     let a = s .before .before .before .args in
-    followed (now (a .book)) (a .activation) (a .year) (a .entry .0) (s .if1 .left) (c .before .before .rank-of .ensures) (c .before .is-advance .ensures) (c .is-closing .ensures)
+    followed (now (a .book)) (a .activation) (a .year) (a .entry .0) (s .if1 .left) (c .before .before .level-of .ensures) (c .before .is-advance .ensures) (c .is-closing .ensures)
 
 pub in-order-spec : {M : Type 1} → statement M
 in-order-spec =
     tie.close
     (tie.spec
-    rank-of-requires
+    level-of-requires
     is-advance-requires
     is-closing-requires
     cast-closing

@@ -12,7 +12,7 @@ use Rattle.units.specs.declared.RecordIndex.{RecordIndex}
 use Rattle.units.specs.declared.UserNumber.{UserNumber}
 use Rattle.units.specs.Units.{recordIndex}
 use Rattle.units.proofs.Bools.{and-left, and-right, or-left, or-right}
-use Rattle.layout.specs.Fields.{recordLength, zeros, recordAt}
+use Rattle.layout.specs.Fields.{recordLength, allZero, unnamedOfHead, recordAt}
 use Rattle.layout.proofs.Places.{length-record}
 use Rattle.book.specs.Book.{usedFits, firstUser}
 use Rattle.book.proofs.Faults.{used-within}
@@ -24,11 +24,11 @@ use Rattle.pass.proofs.find.Statement.{statement}
 use Rattle.pass.proofs.find.Tie as tie
 
 -- the tests of the head
-head-fits : (b : List ℕ) {head : List ℕ} {within rest : Bool} → head ≡ recordAt b 0 → within ≡ usedFits b → rest ≡ zeros 8 72 head
-    → not (within && rest) ≡ false → (usedFits b ≡ true) × (zeros 8 72 (recordAt b 0) ≡ true)
+head-fits : (b : List ℕ) {head : List ℕ} {within rest : Bool} → head ≡ recordAt b 0 → within ≡ usedFits b → rest ≡ allZero unnamedOfHead head
+    → not (within && rest) ≡ false → (usedFits b ≡ true) × (allZero unnamedOfHead (recordAt b 0) ≡ true)
 head-fits b {head} {within} {rest} h u z t =
     let both = not-false (within && rest) t in
-    (sym u ∙ and-left within rest both, ap (zeros 8 72) (sym h) ∙ sym z ∙ and-right within rest both)
+    (sym u ∙ and-left within rest both, ap (allZero unnamedOfHead) (sym h) ∙ sym z ∙ and-right within rest both)
 
 whole-size : (b : List ℕ) (left : ℕ) → Roomy b left → 1 < left → {r : List ℕ} → r ≡ recordAt b (left - 1) → length r ≡ recordLength
 whole-size b left room some e = let whole = room .whole in ap length e ∙ length-record b (left - 1) (omega arith)
@@ -55,8 +55,8 @@ record-requires c κs = search needs
 used-fits-requires : tie.Need-used-fits-requires Inv-loop μ-loop
 used-fits-requires c κs = search needs
 
-zeros-requires : tie.Need-zeros-requires Inv-loop μ-loop
-zeros-requires c κs = search needs
+head-rest-zero-requires : tie.Need-head-rest-zero-requires Inv-loop μ-loop
+head-rest-zero-requires c κs = search needs
 
 returns : tie.Need-returns Inv-loop μ-loop
 returns c = tt
@@ -74,7 +74,7 @@ loop-holds : tie.Need-loop-holds Inv-loop μ-loop
 loop-holds c =
     let start = c .before .before .before .before .before .before .before in
     let b : List ℕ = now (start .args .book) in
-    let fits : usedFits b ≡ true = head-fits b (c .before .before .before .before .before .«record» .ensures) (c .before .before .before .before .used-fits .ensures) (c .before .before .before .zeros .ensures) (c .before .before .if1 .left) .0 in
+    let fits : usedFits b ≡ true = head-fits b (c .before .before .before .before .before .«record» .ensures) (c .before .before .before .before .used-fits .ensures) (c .before .before .before .head-rest-zero .ensures) (c .before .before .if1 .left) .0 in
     let room : Roomy b (c .used .result) = rw (c .used .ensures) (roomy b (c .before .before .before .before .before .before .before .pre) fits) in
     let first : c .before .first-user .result .0 ≡ firstUser b = ap (λ (i : RecordIndex). i .0) (c .before .first-user .ensures) in
     ((refl, refl), (room, started b (start .args .wanted .0) mostRecords (replicate places 0) (c .used .ensures) (used-within b fits .0) first))
@@ -206,7 +206,7 @@ returns-6 : tie.Need-returns-6 Inv-loop μ-loop
 returns-6 c =
     let l = c .before .before .loop in
     let b : List ℕ = now (c .before .before .before .before .before .before .before .before .before .before .args .book) in
-    let head = head-fits b (c .before .before .before .before .before .before .before .before .«record» .ensures) (c .before .before .before .before .before .before .before .used-fits .ensures) (c .before .before .before .before .before .before .zeros .ensures) (c .before .before .before .before .before .if1 .left) in
+    let head = head-fits b (c .before .before .before .before .before .before .before .before .«record» .ensures) (c .before .before .before .before .before .before .before .used-fits .ensures) (c .before .before .before .before .before .before .head-rest-zero .ensures) (c .before .before .before .before .before .if1 .left) in
     (descended b (l .inv .1 .1) (omega arith) (c .if7 .taken) (head .0) (head .1), ap recordIndex (searched b (l .inv .1 .1) (omega arith)))
 
 returns-7 : tie.Need-returns-7 Inv-loop μ-loop
@@ -220,7 +220,7 @@ find-spec =
     μ-loop
     record-requires
     used-fits-requires
-    zeros-requires
+    head-rest-zero-requires
     returns
     first-user-requires
     used-requires

@@ -14,8 +14,8 @@ next-of-requires c κs = search needs
 mul-result : tie.Need-mul-result
 mul-result c = omega (arith, ap (λ (i : RecordIndex). i .0) (c .before .next-of .ensures), c .before .before .before .pre)
 
-year-of-requires : tie.Need-year-of-requires
-year-of-requires c κs = search needs
+level-of-requires : tie.Need-level-of-requires
+level-of-requires c κs = search needs
 
 cast-result : tie.Need-cast-result
 cast-result c = search needs
@@ -26,9 +26,9 @@ add-result c = omega (arith, ap (λ (i : RecordIndex). i .0) (c .before .before 
 returns : tie.Need-returns
 returns c =
     let next : c .before .before .next-of .result .0 ≡ get nextField (now (c .before .before .before .before .args .r)) = ap (λ (i : RecordIndex). i .0) (c .before .before .next-of .ensures) in
-    record { next = omega (arith, c .year-of .ensures); year = omega (arith, c .year-of .ensures) }
+    record { next = omega (arith, c .level-of .ensures); year = omega (arith, c .level-of .ensures) }
 
 pub state-after-spec : {M : Type 1} → statement M
 state-after-spec =
     tie.close
-    (tie.spec next-of-requires mul-result year-of-requires cast-result add-result returns)
+    (tie.spec next-of-requires mul-result level-of-requires cast-result add-result returns)

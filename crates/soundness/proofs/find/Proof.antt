@@ -8,7 +8,7 @@ use denote.Ref.{now}
 use Rattle.units.specs.declared.RecordIndex.{RecordIndex}
 use Rattle.units.specs.Units.{recordIndex}
 use Rattle.book.specs.Book.{lengthFits}
-use Rattle.calls.specs.Bookings.{findUser}
+use Rattle.book.specs.Find.{findUser}
 use Rattle.pass.specs.declared.Passed.{Passed}
 use Rattle.pass.specs.declared.Passed.the-variants as passes
 use Rattle.pass.specs.Steps.{PassedOver}

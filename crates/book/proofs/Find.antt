@@ -5,8 +5,8 @@ use mathlib.Core.Bool.{Bool, true, false, cond, _&&_}
 use mathlib.Core.List.{List}
 use native.Mathlib.Omega.{arith}
 use lib.Dec.{eqb}
 use Rattle.book.specs.Book.{used, isUser, numberOf}
-use Rattle.calls.specs.Bookings.{findBelow, findUser}
+use Rattle.book.specs.Find.{findBelow, findUser}
 
 pub found-none : (b : List ℕ) (n left : ℕ) → left ≤ 1 → findBelow b n left ≡ 0
 unfolding findBelow
