@@ -16,18 +16,18 @@ use Rattle.book.proofs.Faultless.{sound-faultless}
 use Rattle.soundness.specs.Verdicts.{Accepted}
 use Rattle.calls.specs.Bookings.{runAmount, advanced}
 use Rattle.book.specs.Find.{findUser}
-use Rattle.calls.specs.Refusals.{refuse, hasRoom, present, runOpen, orderFits, advanceRefusal}
-use Rattle.calls.specs.Calls.{Call, advance, refusalOf, booked, paidBy}
-use Rattle.refusals.specs.Objections.{advanceObjection}
+use Rattle.calls.specs.Rules.{testOf, refusedBy as refusedBy}
+use Rattle.calls.specs.Refusals.{lookOf, lookAt, hasRoom, runOpen, orderFits}
+use Rattle.calls.specs.Calls.{Call, advance, namedBy, rulesOf, refusalOf, booked, paidBy}
 use Rattle.bookings.proofs.Ranges.{account-good}
 use Rattle.bookings.proofs.Widths.{account-within}
-use Rattle.bookings.proofs.Accepted.{AdvanceAccepted, advance-accepted}
+use Rattle.calls.proofs.Orders.{fact}
 use Rattle.bookings.proofs.EnrolElect.{named-user}
 use Rattle.bookings.proofs.Accounts.{advanced-fits}
 use Rattle.bookings.proofs.Advance.{RunDue, run-due, run-at-most}
 use Rattle.answers.specs.Answers.{Answered}
-use Rattle.answers.proofs.Answers.{refused, accepted}
-use Rattle.answers.proofs.Rooms.{entry-fits, refuse-apart}
+use Rattle.answers.proofs.Answers.{sound-refusal, refused-by-rule, accepted}
+use Rattle.answers.proofs.Rooms.{entry-fits}
 use Rattle.advance.specs.Advances.{RunFits, ticksAnswered}
 
 -- beside a refusal there are no ticks
@@ -51,43 +51,31 @@ module _ (b : List ℕ) (a : Accepted b) (n y r p e₁ e₂ : ℕ) (user : Recor
   abbrev call : Call
   call = advance n y r p e₁ e₂
 
-  abbrev objected : ℕ
-  objected = advanceObjection (user .0) account y r p e₁ e₂ room
-
-  sound-refusal : objected ≡ advanceRefusal b n y r p e₁ e₂
-  unfolding advanceRefusal advanceObjection present
-  sound-refusal = rw (a .fits, a .isSound, left, read, there)
-
-  not-damaged : objected ≡ 2 → ⊥
-  unfolding advanceObjection
-  not-damaged =
-      refuse-apart (not (eqb (user .0) 0)) 2 6 _ (omega arith)
-      (refuse-apart (runOpen account y r) 2 9 _ (omega arith)
-      (refuse-apart (orderFits p e₁ e₂) 2 10 _ (omega arith) (refuse-apart room 2 3 0 (omega arith) (omega arith))))
-
-  module _ (refusal : ℕ) (objection : refusal ≡ objected) where
-    refusal-is : refusal ≡ refusalOf b call
-    unfolding refusalOf
-    refusal-is = objection ∙ sound-refusal
+  module _ (refusal : ℕ) (objection : (number : ℕ) → refusal ≡ refusedBy (rulesOf (lookOf (user .0) account room) (advance number y r p e₁ e₂))) where
+    by-rule : refusal ≡ refusedBy (rulesOf (lookAt b (namedBy call)) call)
+    unfolding namedBy lookAt
+    by-rule = objection n ∙ rw (left, read, there)
 
     pub advance-refused : (refusal ≡ 0 → ⊥) → Answered b call 0 refusal 0 b
-    advance-refused some = refused b call 0 refusal refusal-is some (λ two. not-damaged (sym objection ∙ two))
+    advance-refused some = refused-by-rule b call 0 refusal a by-rule some
 
     module _ (none : refusal ≡ 0) where
-      met : AdvanceAccepted b n y r p e₁ e₂
-      met = advance-accepted b n y r p e₁ e₂ (sym (objection ∙ sound-refusal) ∙ none)
+      none-refused : refusalOf b call ≡ 0
+      none-refused = sound-refusal b call a ∙ sym by-rule ∙ none
 
       account-is : account ≡ accountAt b (findUser b n)
       account-is = read ∙ ap (λ i. accountAt b (i .0)) there
 
       is-user : isUser b (findUser b n) ≡ true
-      is-user = named-user b n (met .found) .user
+      unfolding testOf rulesOf lookAt namedBy
+      is-user = named-user b n (fact b call none-refused 6) .user
 
       account-fits : accountFits account ≡ true
       account-fits = rw account-is (sound-faultless b (a .fits) (a .isSound) .user (findUser b n) is-user .fits)
 
       is-open : runOpen account y r ≡ true
-      is-open = rw account-is (met .run-open)
+      unfolding testOf rulesOf lookAt namedBy
+      is-open = rw account-is (fact b call none-refused 9)
 
       year-is : y ≡ account .«open_year»
       year-is = run-due account y r is-open .year-is
@@ -96,7 +84,12 @@ module _ (b : List ℕ) (a : Accepted b) (n y r p e₁ e₂ : ℕ) (user : Recor
       halves-fit = account-good account account-fits .halves
 
       pub order-fits : orderFits p e₁ e₂ ≡ true
-      order-fits = met .order
+      unfolding testOf rulesOf lookAt namedBy
+      order-fits = fact b call none-refused 10
+
+      has-room : hasRoom b ≡ true
+      unfolding testOf rulesOf lookAt namedBy
+      has-room = fact b call none-refused 3
 
       module _ (paid : Ticks) (amount : paid ≡ ticks (runAmount account (account .«open_year») r p e₁ e₂)) where
         paid-is : paid .0 ≡ paidBy b n y r p e₁ e₂
@@ -105,16 +98,16 @@ module _ (b : List ℕ) (a : Accepted b) (n y r p e₁ e₂ : ℕ) (user : Recor
 
         pub run-fits : RunFits b (user .0) account r (paid .0)
         run-fits =
-            let w = sums-within account y r p e₁ e₂ account-fits is-open (met .order) in
+            let w = sums-within account y r p e₁ e₂ account-fits is-open order-fits in
             record {
-              entry = entry-fits b a (user .0) account read (rw there is-user) (met .room);
+              entry = entry-fits b a (user .0) account read (rw there is-user) has-room;
               runs = w .0;
               advances = rw amount (w .1);
             }
 
         pub advance-booked : (after : List ℕ) → after ≡ advanced (user .0) (account .«open_year») r (paid .0) b → Answered b call 0 0 0 after
         unfolding booked
-        advance-booked after e = accepted b call 0 after (sym refusal-is ∙ none) (e ∙ rw (sym year-is, paid-is, there))
+        advance-booked after e = accepted b call 0 after none-refused (e ∙ rw (sym year-is, paid-is, there))
 
         pub ticks-answered : paid ≡ ticksAnswered b n y r p e₁ e₂ 0
         unfolding ticksAnswered

@@ -7,10 +7,13 @@ use native.Mathlib.Omega.{arith}
 use borrow.Author.Tests.{eq-eqb, ne-eqb}
 use lib.Dec.{eqb}
 use Rattle.book.specs.Book.{lengthFits, sound, faulty}
-use Rattle.soundness.specs.Verdicts.{Objected}
+use Rattle.soundness.specs.Verdicts.{Accepted, Objected}
 use Rattle.book.proofs.Faults.{faulty-not-sound}
-use Rattle.calls.specs.Refusals.{enrolRefusal, electRefusal, advanceRefusal, closeRefusal, statementRefusal}
-use Rattle.calls.specs.Calls.{Call, enrol, elect, advance, close, statement, refusalOf, booked, bookAfter, Names}
+use Rattle.calls.specs.Rules.{refusedBy}
+use Rattle.calls.specs.Refusals.{lookAt}
+use Rattle.calls.specs.Calls.{Call, namedBy, rulesOf, refusalOf, booked, bookAfter, Names}
+use Rattle.calls.proofs.Rules.{never-answered}
+use Rattle.calls.proofs.Orders.{reserved}
 use Rattle.answers.specs.Answers.{Answered}
 
 module _ (b : List ℕ) (c : Call) where
@@ -37,21 +40,23 @@ module _ (b : List ℕ) (c : Call) where
       }
 
 -- every call looks at 1 and 2 first
-length-refusal : (b : List ℕ) (c : Call) → lengthFits b ≡ false → refusalOf b c ≡ 1
-unfolding refusalOf enrolRefusal electRefusal advanceRefusal closeRefusal statementRefusal
-length-refusal b (enrol n d o) f = rw f
-length-refusal b (elect n o y m d) f = rw f
-length-refusal b (advance n y r p e₁ e₂) f = rw f
-length-refusal b (close s) f = rw f
-length-refusal b (statement n) f = rw f
+module _ (b : List ℕ) (c : Call) where
+  length-refusal : lengthFits b ≡ false → refusalOf b c ≡ 1
+  unfolding refusalOf refusedBy
+  length-refusal f = rw f
 
-unsound-refusal : (b : List ℕ) (c : Call) → lengthFits b ≡ true → sound b ≡ false → refusalOf b c ≡ 2
-unfolding refusalOf enrolRefusal electRefusal advanceRefusal closeRefusal statementRefusal
-unsound-refusal b (enrol n d o) f u = rw (f, u)
-unsound-refusal b (elect n o y m d) f u = rw (f, u)
-unsound-refusal b (advance n y r p e₁ e₂) f u = rw (f, u)
-unsound-refusal b (close s) f u = rw (f, u)
-unsound-refusal b (statement n) f u = rw (f, u)
+  unsound-refusal : lengthFits b ≡ true → sound b ≡ false → refusalOf b c ≡ 2
+  unfolding refusalOf refusedBy
+  unsound-refusal f u = rw (f, u)
+
+  -- then at its own rules, of which none answers 2
+  pub sound-refusal : Accepted b → refusalOf b c ≡ refusedBy (rulesOf (lookAt b (namedBy c)) c)
+  unfolding refusalOf refusedBy
+  sound-refusal a = rw (a .fits, a .isSound)
+
+pub refused-by-rule : (b : List ℕ) (c : Call) (answered n : ℕ) → Accepted b → n ≡ refusedBy (rulesOf (lookAt b (namedBy c)) c) → (n ≡ 0 → ⊥) → Answered b c answered n 0 b
+refused-by-rule b c answered n a e some =
+    refused b c answered n (e ∙ sym (sound-refusal b c a)) some (λ two. never-answered 2 (rulesOf (lookAt b (namedBy c)) c) (reserved (lookAt b (namedBy c)) c .two) (omega arith) (sym e ∙ two))
 
 pub refused-length : (b : List ℕ) (c : Call) (answered : ℕ) → lengthFits b ≡ false → Answered b c answered 1 0 b
 refused-length b c answered f = refused b c answered 1 (sym (length-refusal b c f)) (omega arith) (omega arith)

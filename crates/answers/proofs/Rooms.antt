@@ -15,7 +15,7 @@ use Rattle.book.proofs.RecordKinds.{kind-index}
 use Rattle.book.proofs.Faultless.{sound-faultless}
 use Rattle.soundness.specs.Verdicts.{Accepted}
 use Rattle.book.specs.Find.{findUser}
-use Rattle.calls.specs.Refusals.{refuse, hasRoom}
+use Rattle.calls.specs.Refusals.{hasRoom}
 use Rattle.book.proofs.Find.{found-used}
 use Rattle.bookings.proofs.Good.{room-left}
 use Rattle.answers.specs.Rooms.{EntryFits}
@@ -39,8 +39,3 @@ module _ (b : List ℕ) (a : Accepted b) where
 
   pub entry-fits : (i : ℕ) (account : Account) → account ≡ accountAt b i → isUser b i ≡ true → hasRoom b ≡ true → EntryFits b i account
   entry-fits i account e u h = record { account-is = e; user = user-stands i u; room = room-stands h; index = used-small }
-
--- a refusal of another number
-pub refuse-apart : (fits : Bool) (k n later : ℕ) → (n ≡ k → ⊥) → (later ≡ k → ⊥) → refuse fits n later ≡ k → ⊥
-refuse-apart true k n later p q = q
-refuse-apart false k n later p q = p

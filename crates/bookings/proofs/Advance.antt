@@ -22,8 +22,9 @@ use Rattle.book.specs.Book.{used, isUser, firstEntryOf, accountAt, accountFits,
 use Rattle.book.proofs.Faultless.{Faultless}
 use Rattle.calls.specs.Bookings.{runAmount, advanceEntry, advanced}
 use Rattle.book.specs.Find.{findUser}
-use Rattle.calls.specs.Refusals.{runOpen, orderFits, userAt, advanceRefusal}
-use Rattle.calls.specs.Calls.{paidBy}
+use Rattle.calls.specs.Rules.{testOf}
+use Rattle.calls.specs.Refusals.{lookAt, runOpen, orderFits, userAt}
+use Rattle.calls.specs.Calls.{advance, namedBy, rulesOf, refusalOf, paidBy}
 use Rattle.bookings.proofs.Ranges.{conjuncts}
 use Rattle.bookings.proofs.Widths.{AccountWithin, account-within}
 use Rattle.bookings.proofs.Records.{AdvanceAt}
@@ -33,7 +34,7 @@ use Rattle.bookings.proofs.Written.{entry-added}
 use Rattle.bookings.proofs.Accounts.{advanced-fits, advanced-same}
 use Rattle.bookings.proofs.Entries.{Entered}
 use Rattle.bookings.proofs.NewEntries.{InFront, advance-entered}
-use Rattle.bookings.proofs.Accepted.{AdvanceAccepted, advance-accepted}
+use Rattle.calls.proofs.Orders.{fact, length-fact, sound-fact}
 use Rattle.bookings.proofs.EnrolElect.{named-user}
 
 -- each half pays at most its most, and so does the run
@@ -118,15 +119,16 @@ module _ (b : List ℕ) (g : Good b) (i year run paid : ℕ) (h : isUser b i ≡
       (entry-added b g i account (advanceImage x) h free (length-advance-image x) (bytes-advance-image x)) in
       record { after = kept .0; entry = kept .1 }
 
-pub advance-keeps : (b : List ℕ) (number year run rate estimate1 estimate2 : ℕ) → Bytes b → advanceRefusal b number year run rate estimate1 estimate2 ≡ 0
+pub advance-keeps : (b : List ℕ) (number year run rate estimate1 estimate2 : ℕ) → Bytes b → refusalOf b (advance number year run rate estimate1 estimate2) ≡ 0
     → Advanced b (advanced (findUser b number) year run (paidBy b number year run rate estimate1 estimate2) b) (findUser b number) year run
     (paidBy b number year run rate estimate1 estimate2)
-unfolding paidBy
+unfolding paidBy testOf rulesOf lookAt namedBy
 advance-keeps b number year run rate estimate1 estimate2 bytes h =
-    let e = advance-accepted b number year run rate estimate1 estimate2 h in
-    let g = sound-good b bytes (e .length) (e .is-sound) in
+    let c = advance number year run rate estimate1 estimate2 in
+    let accepted = fact b c h in
+    let g = sound-good b bytes (length-fact b c h) (sound-fact b c h) in
     let i = findUser b number in
-    let user = named-user b number (e .found) .user in
-    let d = run-due (accountAt b i) year run (e .run-open) in
-    advanced-kept b g i year run (runAmount (accountAt b i) year run rate estimate1 estimate2) user (room b g (e .room)) d
-    (run-at-most (accountAt b i) year run rate estimate1 estimate2 (g .faultless .user i user .fits) (d .year-is) (e .order))
+    let user = named-user b number (accepted 6) .user in
+    let d = run-due (accountAt b i) year run (accepted 9) in
+    advanced-kept b g i year run (runAmount (accountAt b i) year run rate estimate1 estimate2) user (room b g (accepted 3)) d
+    (run-at-most (accountAt b i) year run rate estimate1 estimate2 (g .faultless .user i user .fits) (d .year-is) (accepted 10))

@@ -29,7 +29,9 @@ use Rattle.book.specs.Book.{used, isUser, firstEntryOf, accountAt, accountFits,
 use Rattle.book.proofs.Faultless.{Faultless}
 use Rattle.calls.specs.Bookings.{closingEntry, closed, valuesOf}
 use Rattle.book.specs.Find.{findUser}
-use Rattle.calls.specs.Refusals.{yearOpen, userAt, closeRefusal}
+use Rattle.calls.specs.Rules.{testOf}
+use Rattle.calls.specs.Refusals.{lookAt, yearOpen, userAt}
+use Rattle.calls.specs.Calls.{close, namedBy, rulesOf, refusalOf}
 use Rattle.bookings.proofs.Bools.{or-first, or-second}
 use Rattle.bookings.proofs.Ranges.{conjuncts, DetailsWithin}
 use Rattle.bookings.proofs.Widths.{AccountWithin, account-within}
@@ -40,7 +42,7 @@ use Rattle.bookings.proofs.Written.{entry-added}
 use Rattle.bookings.proofs.Accounts.{closed-fits, closed-same}
 use Rattle.bookings.proofs.Entries.{Entered}
 use Rattle.bookings.proofs.NewEntries.{InFront, closing-entered}
-use Rattle.bookings.proofs.Accepted.{CloseAccepted, close-accepted}
+use Rattle.calls.proofs.Orders.{fact, length-fact, sound-fact}
 use Rattle.bookings.proofs.EnrolElect.{named-user}
 
 -- the bits of a balance
@@ -113,15 +115,15 @@ module _ (b : List ℕ) (g : Good b) (i : ℕ) (v : YearValues) (h : isUser b i 
       refl (entry-added b g i account (closingImage x) h free (length-closing-image x) (bytes-closing-image x)) in
       record { after = kept .0; entry = kept .1 }
 
-pub close-keeps : (b s : List ℕ) → Bytes b → ValuesFit (valuesOf b s) → closeRefusal b s ≡ 0
+pub close-keeps : (b s : List ℕ) → Bytes b → ValuesFit (valuesOf b s) → refusalOf b (close s) ≡ 0
     → Closed b (closed (findUser b (sheetUser s)) (valuesOf b s) b) (findUser b (sheetUser s)) (valuesOf b s)
-unfolding yearOpen
+unfolding yearOpen testOf rulesOf lookAt namedBy
 close-keeps b s bytes values h =
-    let e = close-accepted b s h in
-    let g = sound-good b bytes (e .length) (e .is-sound) in
+    let accepted = fact b (close s) h in
+    let g = sound-good b bytes (length-fact b (close s) h) (sound-fact b (close s) h) in
     let i = findUser b (sheetUser s) in
-    let user = named-user b (sheetUser s) (e .found) .user in
-    let open-year = e .year in
+    let user = named-user b (sheetUser s) (accepted 6) .user in
+    let open-year : yearOpen (accountAt b i) (sheetYear s) ≡ true = accepted 12 in
     let year : sheetYear s ≡ accountAt b i .«open_year» = search (conjuncts, eqb-true) in
     let most : sheetYear s ≤ lastActivation = search (conjuncts, leb-true) in
-    closed-kept b g i (valuesOf b s) user (room b g (e .room)) values (omega arith)
+    closed-kept b g i (valuesOf b s) user (room b g (accepted 3)) values (omega arith)

@@ -15,7 +15,7 @@ use Rattle.book.specs.Find.{findUser}
 use Rattle.calls.specs.Calls.{Call, enrol, elect, advance, close, statement, refusalOf, booked, bookAfter}
 use Rattle.bookings.proofs.Good.{Good, sound-good, good-sound}
 use Rattle.bookings.proofs.Frame.{Frame, frame-of-old}
-use Rattle.bookings.proofs.Accepted.{StatementAccepted, statement-accepted}
+use Rattle.calls.proofs.Orders.{length-fact, sound-fact}
 use Rattle.bookings.proofs.Enrolment.{Enrolled}
 use Rattle.bookings.proofs.Rewriting.{Rewritten}
 use Rattle.bookings.proofs.Entries.{Entered}
@@ -47,15 +47,14 @@ unchanged : (b : List ℕ) (i : ℕ) → Frame b b i
 unchanged b i = frame-of-old b b i refl (le-refl (used b)) (λ j lo hi. refl)
 
 pub accepted-keeps : (b : List ℕ) (c : Call) → Bytes b → Brings b c → refusalOf b c ≡ 0 → Kept b (booked b c) (userOf b c)
-unfolding refusalOf booked userOf
+unfolding booked userOf
 accepted-keeps b (enrol n d o) bytes brings h = let k = enrol-keeps b n d o bytes brings h in record { frame = k .frame; good = k .good }
 accepted-keeps b (elect n o y m d) bytes brings h = let k = elect-keeps b n o y m d bytes h in record { frame = k .frame; good = k .good }
 accepted-keeps b (advance n y r p e₁ e₂) bytes brings h =
     let k = advance-keeps b n y r p e₁ e₂ bytes h .after in record { frame = k .frame; good = k .good }
 accepted-keeps b (close s) bytes brings h = let k = close-keeps b s bytes brings h .after in record { frame = k .frame; good = k .good }
 accepted-keeps b (statement n) bytes brings h =
-    let e = statement-accepted b n h in
-    record { frame = unchanged b (findUser b n); good = sound-good b bytes (e .length) (e .is-sound) }
+    record { frame = unchanged b (findUser b n); good = sound-good b bytes (length-fact b (statement n) h) (sound-fact b (statement n) h) }
 
 -- "Every accepted call leaves a sound book sound."
 pub accepted-sound : (b : List ℕ) (c : Call) → Bytes b → Brings b c → refusalOf b c ≡ 0 → sound (booked b c) ≡ true

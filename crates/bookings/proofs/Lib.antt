@@ -19,8 +19,8 @@ pub mod Rewriting
 pub mod Entries
 pub mod Accounts
 pub mod NewEntries
-pub mod Accepted
 pub mod EnrolElect
 pub mod Advance
 pub mod Close
 pub mod EveryCall
+pub mod YearRanges

@@ -96,16 +96,20 @@ module _ (b : List ℕ) (g : Good b) where
         others = λ j lo n. let front : j ≡ 0 → ⊥ = omega arith in q .others j front ∙ p .others j n;
       }
 
-  pub user-enrolled : (number : ℕ) (d : Details) (option : ℕ) → used b < capacity b
-      → UserEnrolled b (enrolled number d option b) (newUser b (newAccount number d option))
-  unfolding enrolled enrolledAs
-  user-enrolled number d option room =
+  pub user-enrolled-as : (a : Account) → used b < capacity b → UserEnrolled b (enrolledAs a b) (newUser b a)
+  unfolding enrolledAs
+  user-enrolled-as a room =
       let s = sizes b g in
-      let u = newUser b (newAccount number d option) in
+      let u = newUser b a in
       let p = put b (used b) (userImage u) (g .bytes) (length-user-image u) (bytes-user-image u) (omega arith) in
       let q = put (putRecord (used b) (userImage u) b) 0 (headImage (used b + 1) (used b)) (p .bytes) (length-head-image (used b + 1) (used b))
       (bytes-head-image (used b + 1) (used b)) (omega (arith, p .length-same, s .from)) in
-      enrolled-by (putRecord (used b) (userImage u) b) (enrolled number d option b) u room p q
+      enrolled-by (putRecord (used b) (userImage u) b) (enrolledAs a b) u room p q
+
+  pub user-enrolled : (number : ℕ) (d : Details) (option : ℕ) → used b < capacity b
+      → UserEnrolled b (enrolled number d option b) (newUser b (newAccount number d option))
+  unfolding enrolled
+  user-enrolled number d option room = user-enrolled-as (newAccount number d option) room
 
   pub account-set : (i : ℕ) (a : Account) → isUser b i ≡ true → AccountSet b (withAccount i a b) i a
   unfolding withAccount

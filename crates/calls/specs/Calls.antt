@@ -2,15 +2,16 @@
 -- answers zeros beside its number, but for the record in 2."
 use Prim.Native.Nat.{ℕ}
 use mathlib.Core.Path.{_≡_}
-use mathlib.Core.Bool.{Bool, true, false, cond}
-use mathlib.Core.List.{List}
+use mathlib.Core.Bool.{true, cond, not}
+use mathlib.Core.List.{List, [], _∷_}
 use lib.Dec.{eqb}
-use Rattle.sheet.specs.YearSheet.{sheetUser}
+use Rattle.sheet.specs.YearSheet.{sheetUser, sheetYear, refused11, refused13, refused14}
 use Rattle.values.specs.declared.Details.{Details}
-use Rattle.book.specs.Book.{faulty, used}
+use Rattle.book.specs.Book.{lengthFits, sound, faulty, detailsFit}
 use Rattle.calls.specs.Bookings.{enrolled, elected, advanced, runAmount, closed, valuesOf}
 use Rattle.book.specs.Find.{findUser}
-use Rattle.calls.specs.Refusals.{userAt, enrolRefusal, electRefusal, advanceRefusal, closeRefusal, statementRefusal}
+use Rattle.calls.specs.Rules.{Rule, _unless_, refusedBy}
+use Rattle.calls.specs.Refusals.{Look, lookAt, numberFree, present, dayAndOption, electionOpen, runOpen, orderFits, yearOpen, userAt}
 
 -- the calls and what they bring
 pub data Call : Type 0 where
@@ -20,12 +21,34 @@ pub data Call : Type 0 where
   close : (sheet : List ℕ) → Call
   statement : (number : ℕ) → Call
 
+-- the number that a call names
+unfoldable pub namedBy : Call → ℕ
+namedBy (enrol n d o) = n
+namedBy (elect n o y m d) = n
+namedBy (advance n y r p e₁ e₂) = n
+namedBy (close s) = sheetUser s
+namedBy (statement n) = n
+
+-- "Order: fresh 1; enrol 1 2 4 5 3; elect 1 2 6 7 8; advance 1 2 6 9 10 3; close 1 2 11 6 12 13 14 3; statement 1 2 6." Each
+-- call looks at the length and the soundness of the book first, then by its own rules at the user that it names.
+abbrev pub sheetRules : Look → List ℕ → List Rule
+sheetRules v s =
+    (6 unless present v) ∷ (12 unless yearOpen (v .account) (sheetYear s)) ∷ (13 unless not (refused13 s))
+    ∷ (14 unless not (refused14 (v .account .details .class) s)) ∷ (3 unless v .room) ∷ []
+
+unfoldable pub rulesOf : Look → Call → List Rule
+rulesOf v (enrol n d o) = (4 unless numberFree v n) ∷ (5 unless detailsFit d o) ∷ (3 unless v .room) ∷ []
+rulesOf v (elect n o y m d) = (6 unless present v) ∷ (7 unless dayAndOption o y m d) ∷ (8 unless electionOpen (v .account) y m d) ∷ []
+rulesOf v (advance n y r p e₁ e₂) =
+    (6 unless present v) ∷ (9 unless runOpen (v .account) y r) ∷ (10 unless orderFits p e₁ e₂) ∷ (3 unless v .room) ∷ []
+rulesOf v (close s) = (11 unless not (refused11 s)) ∷ sheetRules v s
+rulesOf v (statement n) = (6 unless present v) ∷ []
+
+abbrev pub orderOf : List ℕ → Call → List Rule
+orderOf b c = (1 unless lengthFits b) ∷ (2 unless sound b) ∷ rulesOf (lookAt b (namedBy c)) c
+
 unfoldable pub refusalOf : List ℕ → Call → ℕ
-refusalOf b (enrol n d o) = enrolRefusal b n d o
-refusalOf b (elect n o y m d) = electRefusal b n o y m d
-refusalOf b (advance n y r p e₁ e₂) = advanceRefusal b n y r p e₁ e₂
-refusalOf b (close s) = closeRefusal b s
-refusalOf b (statement n) = statementRefusal b n
+refusalOf b c = refusedBy (orderOf b c)
 
 -- the ticks that an advance pays
 unfoldable pub paidBy : List ℕ → ℕ → ℕ → ℕ → ℕ → ℕ → ℕ → ℕ

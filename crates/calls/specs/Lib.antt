@@ -1,3 +1,4 @@
 pub mod Bookings
 pub mod Refusals
+pub mod Rules
 pub mod Calls

@@ -8,14 +8,14 @@ use lib.Dec.{eqb}
 use denote.Ref.{now}
 use Rattle.values.specs.declared.Details.{Details}
 use Rattle.ledger.specs.Ledger.{Ledger}
-use Rattle.calls.specs.Calls.{Call, refusalOf, bookAfter}
+use Rattle.calls.specs.Calls.{Call, namedBy, refusalOf, bookAfter}
 use Rattle.answers.specs.Answers.{Answered}
 use Rattle.enrol.proofs.Contract.{enrol-says}
 use Rattle.elect.proofs.Contract.{elect-says}
 use Rattle.advance.proofs.Contract.{advance-says}
 use Rattle.close.proofs.Contract.{close-says}
 use Rattle.statement.proofs.Contract.{statement-says}
-use Rattle.demand.specs.Demand.{namedBy, posted, valueBy, isAccepted, fed, bookAfterAll, ledgerAfter, valueIn, AllTyped, NeverDamaged}
+use Rattle.demand.specs.Demand.{posted, valueBy, isAccepted, fed, bookAfterAll, ledgerAfter, valueIn, AllTyped, NeverDamaged}
 use Rattle.claims.specs.Runs.{Made, made, Calls, enrols, elects, advances, closes, states, Runs, done, andThen}
 use Rattle.claims.specs.Claims.{isFor, ledgerOf, valueOf, NoneDamaged}
 

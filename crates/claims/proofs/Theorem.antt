@@ -21,9 +21,10 @@ use Rattle.ledger.specs.Ledger.{Ledger, enrolled, statementOf}
 use Rattle.chains.specs.Statements.{statementAt}
 use Rattle.chains.proofs.Fit.{sums-fit}
 use Rattle.book.specs.Find.{findUser}
-use Rattle.calls.specs.Refusals.{statementRefusal}
-use Rattle.calls.specs.Calls.{Call, enrol, elect, advance, close, statement, refusalOf}
-use Rattle.bookings.proofs.Accepted.{statement-accepted}
+use Rattle.calls.specs.Rules.{testOf}
+use Rattle.calls.specs.Refusals.{lookAt}
+use Rattle.calls.specs.Calls.{Call, enrol, elect, advance, close, statement, namedBy, rulesOf, refusalOf}
+use Rattle.calls.proofs.Orders.{fact}
 use Rattle.bookings.proofs.EnrolElect.{named-user}
 use Rattle.statements.specs.declared.Sums.{Sums}
 use Rattle.statements.specs.Walk.{sumsOf}
@@ -31,7 +32,7 @@ use Rattle.statements.proofs.Toward.{mag-size}
 use Rattle.statement.specs.Stated.{sumsStated}
 use Rattle.statement.proofs.Contract.{statement-says}
 use Rattle.statement.proofs.statement.Reads as statement-of
-use Rattle.demand.specs.Demand.{Demand, posted, namedBy, bookAfterAll}
+use Rattle.demand.specs.Demand.{Demand, posted, bookAfterAll}
 use Rattle.demand.proofs.Theorem as demand
 use Rattle.claims.specs.Runs.{Made, Runs}
 use Rattle.claims.specs.Claims.{isFor, ledgerOf, Claim, Enrols, here, later, ThirdDemand}
@@ -61,12 +62,13 @@ unfolding ledgerOf isFor posted namedBy
 has-ledger {number} (here d option ms) l = let q = stays number ms (enrolled d option) in (q .0, rw (eq-eqb number number refl) (q .1))
 has-ledger {number} (later m ms e) l = has-ledger e (cond (isFor number m) (posted (m .call) l) l)
 
-module _ (b : List ℕ) (number : ℕ) (l : Ledger) (known : statementRefusal b number ≡ 0) (right : statementAt b (findUser b number) ≡ statementOf l) where
+module _ (b : List ℕ) (number : ℕ) (l : Ledger) (known : refusalOf b (statement number) ≡ 0) (right : statementAt b (findUser b number) ≡ statementOf l) where
   balance-small : natAbs (statementOf l .balance) ≤ 2 ^ 62
+  unfolding testOf rulesOf lookAt namedBy
   balance-small =
-      let met = statement-accepted b number known in
-      let user = named-user b number (met .found) .user in
-      subst (λ x. natAbs (x .balance) ≤ 2 ^ 62) right (sums-fit b (sound-faultless b (met .length) (met .is-sound)) (met .length) (findUser b number) user .balance)
+      let met = fact b (statement number) known in
+      let user = named-user b number (met 6) .user in
+      subst (λ x. natAbs (x .balance) ≤ 2 ^ 62) right (sums-fit b (sound-faultless b (met 1) (met 2)) (met 1) (findUser b number) user .balance)
 
   sums-right : (refusal : ℕ) → refusal ≡ 0 → sumsStated b number refusal ≡ sumsOf (statementOf l)
   unfolding sumsStated
@@ -78,7 +80,6 @@ module _ (b : List ℕ) (number : ℕ) (l : Ledger) (known : statementRefusal b 
 
   statement-right : (κs : _) (a : _) (r : _) (s : _) → statement-of.Post κs a r s → now (a .0) ≡ b → a .1 .0 .0 ≡ number
       → (r .refusal ≡ 0) × (r .«record» .0 ≡ 0) × (r .sums ≡ sumsOf (statementOf l)) × (toZ w64 (r .sums .balance .0) ≡ statementOf l .balance)
-  unfolding refusalOf
   statement-right κs a r s p is-book is-number =
       let says = statement-says κs a r s p in
       let zero : r .refusal ≡ 0 = says .0 .refusal-is ∙ rw (is-book, is-number, known) in

@@ -14,8 +14,8 @@ use Rattle.values.specs.declared.Details.{Details}
 use Rattle.ledger.specs.Ledger.{Item, Ledger, statementOf}
 use Rattle.ledger.specs.Accounting.{conserved, Standing, lapsedOver, Consecutive}
 use Rattle.statements.specs.Walk.{sumsOf}
-use Rattle.calls.specs.Calls.{enrol}
-use Rattle.demand.specs.Demand.{namedBy, posted, valueBy}
+use Rattle.calls.specs.Calls.{enrol, namedBy}
+use Rattle.demand.specs.Demand.{posted, valueBy}
 use Rattle.statement.proofs.statement.Reads as statement-of
 use Rattle.soundness.proofs.fresh.Reads as fresh-of
 use Rattle.claims.specs.Runs.{Made, made, Runs}

@@ -20,15 +20,15 @@ use Rattle.book.proofs.Faultless.{sound-faultless}
 use Rattle.soundness.specs.Verdicts.{Accepted}
 use Rattle.calls.specs.Bookings.{closingEntry, closed, valuesOf}
 use Rattle.book.specs.Find.{findUser}
-use Rattle.calls.specs.Refusals.{refuse, hasRoom, present, yearOpen, closeRefusal}
-use Rattle.calls.specs.Calls.{Call, close, refusalOf, booked}
-use Rattle.refusals.specs.Objections.{sheetObjection, closeObjection}
+use Rattle.calls.specs.Rules.{testOf, refusedBy as refusedBy}
+use Rattle.calls.specs.Refusals.{lookOf, lookAt, hasRoom, yearOpen}
+use Rattle.calls.specs.Calls.{Call, close, namedBy, rulesOf, refusalOf, booked}
 use Rattle.bookings.proofs.Widths.{account-within}
-use Rattle.bookings.proofs.Accepted.{CloseAccepted, close-accepted}
+use Rattle.calls.proofs.Orders.{fact}
 use Rattle.bookings.proofs.EnrolElect.{named-user}
 use Rattle.answers.specs.Answers.{Answered}
-use Rattle.answers.proofs.Answers.{refused, accepted}
-use Rattle.answers.proofs.Rooms.{entry-fits, refuse-apart}
+use Rattle.answers.proofs.Answers.{sound-refusal, refused-by-rule, accepted}
+use Rattle.answers.proofs.Rooms.{entry-fits}
 use Rattle.close.specs.declared.ClosingSums.{ClosingSums}
 use Rattle.close.specs.Closings.{YearFits, entrySums, noSums, sumsAnswered}
 
@@ -63,42 +63,28 @@ module _ (b : List ℕ) (a : Accepted b) (s : List ℕ) (user : RecordIndex) (ac
   account-is : account ≡ accountAt b (findUser b n)
   account-is = read ∙ ap (λ i. accountAt b (i .0)) there
 
-  abbrev objected : ℕ
-  objected = closeObjection s (user .0) account room
-
-  sound-refusal : objected ≡ closeRefusal b s
-  unfolding closeRefusal closeObjection sheetObjection present
-  sound-refusal = rw (a .fits, a .isSound, left, account-is, there)
-
-  not-damaged : objected ≡ 2 → ⊥
-  unfolding closeObjection sheetObjection
-  not-damaged =
-      refuse-apart (not (refused11 s)) 2 11 _ (omega arith)
-      (refuse-apart (not (eqb (user .0) 0)) 2 6 _ (omega arith)
-      (refuse-apart (yearOpen account (sheetYear s)) 2 12 _ (omega arith)
-      (refuse-apart (not (refused13 s)) 2 13 _ (omega arith)
-      (refuse-apart (not (refused14 (account .details .class) s)) 2 14 _ (omega arith) (refuse-apart room 2 3 0 (omega arith) (omega arith))))))
-
-  module _ (refusal : ℕ) (objection : refusal ≡ objected) where
-    refusal-is : refusal ≡ refusalOf b (close s)
-    unfolding refusalOf
-    refusal-is = objection ∙ sound-refusal
+  module _ (refusal : ℕ) (objection : refusal ≡ refusedBy (rulesOf (lookOf (user .0) account room) (close s))) where
+    by-rule : refusal ≡ refusedBy (rulesOf (lookAt b (namedBy (close s))) (close s))
+    unfolding namedBy lookAt
+    by-rule = objection ∙ rw (left, account-is, there)
 
     pub close-refused : (refusal ≡ 0 → ⊥) → Answered b (close s) 0 refusal 0 b
-    close-refused some = refused b (close s) 0 refusal refusal-is some (λ two. not-damaged (sym objection ∙ two))
+    close-refused some = refused-by-rule b (close s) 0 refusal a by-rule some
 
     module _ (none : refusal ≡ 0) where
-      met : CloseAccepted b s
-      met = close-accepted b s (sym (objection ∙ sound-refusal) ∙ none)
+      none-refused : refusalOf b (close s) ≡ 0
+      none-refused = sound-refusal b (close s) a ∙ sym by-rule ∙ none
 
       is-user : isUser b (findUser b n) ≡ true
-      is-user = named-user b n (met .found) .user
+      unfolding testOf rulesOf lookAt namedBy
+      is-user = named-user b n (fact b (close s) none-refused 6) .user
 
       account-fits : accountFits account ≡ true
       account-fits = rw account-is (sound-faultless b (a .fits) (a .isSound) .user (findUser b n) is-user .fits)
 
       pub passed : Passed s
-      passed = record { past11 = not-true (refused11 s) (met .header); past13 = not-true (refused13 s) (met .numbers) }
+      unfolding testOf rulesOf lookAt namedBy
+      passed = let met = fact b (close s) none-refused in record { past11 = not-true (refused11 s) (met 11); past13 = not-true (refused13 s) (met 13) }
 
       module _ (v : YearValues) (worked : (v ≡ yearValues s (account .details)) × ValuesFit v) where
         values-are : v ≡ valuesOf b s
@@ -106,15 +92,17 @@ module _ (b : List ℕ) (a : Accepted b) (s : List ℕ) (user : RecordIndex) (ac
         values-are = worked .0 ∙ ap (λ x. yearValues s (x .details)) account-is
 
         pub year-fits : YearFits b (user .0) account v
+        unfolding testOf rulesOf lookAt namedBy
         year-fits =
+            let met = fact b (close s) none-refused in
             record {
-              entry = entry-fits b a (user .0) account read (rw there is-user) (met .room);
-              in-range = in-range account v (sheetYear s) account-fits (worked .1) (rw account-is (met .year));
+              entry = entry-fits b a (user .0) account read (rw there is-user) (met 3);
+              in-range = in-range account v (sheetYear s) account-fits (worked .1) (rw account-is (met 12));
             }
 
         pub close-booked : (after : List ℕ) → after ≡ closed (user .0) v b → Answered b (close s) 0 0 0 after
         unfolding booked
-        close-booked after e = accepted b (close s) 0 after (sym refusal-is ∙ none) (e ∙ rw (values-are, there))
+        close-booked after e = accepted b (close s) 0 after none-refused (e ∙ rw (values-are, there))
 
         pub sums-answered : (sums : ClosingSums) → sums ≡ entrySums (closingEntry b (user .0) v) → sums ≡ sumsAnswered b s 0
         unfolding sumsAnswered

@@ -17,8 +17,9 @@ use Rattle.ledger.specs.Ledger.{Ledger}
 use Rattle.ledger.proofs.Kept.{Kept, kept-conserved, kept-standing, kept-lapsed}
 use Rattle.book.specs.Find.{findUser}
 use Rattle.chains.specs.Statements.{statementAt}
-use Rattle.calls.specs.Refusals.{present, statementRefusal}
-use Rattle.calls.specs.Calls.{Call, bookAfter}
+use Rattle.calls.specs.Rules.{refusedBy}
+use Rattle.calls.specs.Refusals.{lookAt}
+use Rattle.calls.specs.Calls.{Call, statement, namedBy, rulesOf, refusalOf, bookAfter}
 use Rattle.demand.specs.Demand.{bookAfterAll, ledgerAfter, fed, valueIn, Typed, AllTyped, Demand}
 use Rattle.bookings.proofs.Good.{Good, good-sound}
 use Rattle.demand.proofs.Agreement.{same-statement}
@@ -62,7 +63,7 @@ module _ (fx : Effects) (n : ℕ) where
   -- from a book without a user
   pub demand : (cs : List Call) (b : List ℕ) → Good b → ((i : ℕ) → isUser b i ≡ true → ⊥) → AllTyped cs → (l : Ledger) → ledgerAfter n b cs none ≡ some l
       → Demand b cs n l
-  unfolding statementRefusal present
+  unfolding refusalOf refusedBy rulesOf lookAt namedBy
   demand cs b g empty t l e =
       let after = run cs b g t (unknown (λ i u q. empty i u)) l e in
       let b′ = bookAfterAll b cs in

@@ -17,9 +17,8 @@ use Rattle.ledger.specs.Ledger.{Ledger, sheetValue}
 use Rattle.ledger.specs.Ledger as ledger
 use Rattle.calls.specs.Bookings.{newAccount, enrolled, elected, runAmount, advanced, advanceEntry, closed, closingEntry, valuesOf}
 use Rattle.book.specs.Find.{findUser}
-use Rattle.calls.specs.Refusals.{enrolRefusal, electRefusal, advanceRefusal, closeRefusal}
-use Rattle.calls.specs.Calls.{Call, enrol, elect, advance, close, statement, refusalOf, booked, paidBy, bookAfter}
-use Rattle.demand.specs.Demand.{namedBy, posted, isAccepted, fed, valueBy, Typed}
+use Rattle.calls.specs.Calls.{Call, enrol, elect, advance, close, statement, namedBy, refusalOf, booked, paidBy, bookAfter}
+use Rattle.demand.specs.Demand.{posted, isAccepted, fed, valueBy, Typed}
 use Rattle.bookings.proofs.Good.{Good}
 use Rattle.bookings.proofs.Numbers.{Found, found, none-found}
 use Rattle.demand.proofs.LedgerSteps.{contribution}
@@ -29,16 +28,16 @@ use Rattle.demand.proofs.CallSteps.{enrol-own, enrol-other, elect-own, 
 
 -- what acceptance of each call brings about
 pub record Effects : Type 0 where
-  pub enrols : (b : List ℕ) → Good b → (n : ℕ) (d : Details) (o : ℕ) → Typed (enrol n d o) → enrolRefusal b n d o ≡ 0
+  pub enrols : (b : List ℕ) → Good b → (n : ℕ) (d : Details) (o : ℕ) → Typed (enrol n d o) → refusalOf b (enrol n d o) ≡ 0
       → (findUser b n ≡ 0) × NewUser b (enrolled n d o b) (newAccount n d o)
-  pub elects : (b : List ℕ) → Good b → (n o y m d : ℕ) → Typed (elect n o y m d) → electRefusal b n o y m d ≡ 0
+  pub elects : (b : List ℕ) → Good b → (n o y m d : ℕ) → Typed (elect n o y m d) → refusalOf b (elect n o y m d) ≡ 0
       → (findUser b n ≡ 0 → ⊥) × NewAccount b (elected (findUser b n) o b) (findUser b n) (accountElected o (accountAt b (findUser b n)))
-  pub advances : (b : List ℕ) → Good b → (n y r p e₁ e₂ : ℕ) → Typed (advance n y r p e₁ e₂) → advanceRefusal b n y r p e₁ e₂ ≡ 0
+  pub advances : (b : List ℕ) → Good b → (n y r p e₁ e₂ : ℕ) → Typed (advance n y r p e₁ e₂) → refusalOf b (advance n y r p e₁ e₂) ≡ 0
       → (findUser b n ≡ 0 → ⊥)
       × ((y ≡ accountAt b (findUser b n) .«open_year»)
       × NewAdvance b (advanced (findUser b n) y r (paidBy b n y r p e₁ e₂) b) (findUser b n)
       (accountAdvanced r (paidBy b n y r p e₁ e₂) (accountAt b (findUser b n))) (advanceEntry b (findUser b n) y r (paidBy b n y r p e₁ e₂)))
-  pub closes : (b : List ℕ) → Good b → (s : List ℕ) → Typed (close s) → closeRefusal b s ≡ 0
+  pub closes : (b : List ℕ) → Good b → (s : List ℕ) → Typed (close s) → refusalOf b (close s) ≡ 0
       → (findUser b (sheetUser s) ≡ 0 → ⊥)
       × ((sheetYear s ≡ accountAt b (findUser b (sheetUser s)) .«open_year»)
       × ((contribution (accountAt b (findUser b (sheetUser s))) s < 2 ^ 63)
@@ -120,9 +119,9 @@ module _ (b : List ℕ) (g : Good b) (number n : ℕ) (there : findUser b number
   held-at o {l} {v} {i} h = subst (Held b n l v) (sym (state-found b g n h) ∙ ap (findUser b) (sym (eqb-true number n o))) h
 
 module _ (fx : Effects) (b : List ℕ) (g : Good b) (n : ℕ) where
-  enrol-moves : (number : ℕ) (d : Details) (o : ℕ) → Typed (enrol number d o) → enrolRefusal b number d o ≡ 0 → {m : Option Ledger} {v : ℕ} → State b n m v
+  enrol-moves : (number : ℕ) (d : Details) (o : ℕ) → Typed (enrol number d o) → refusalOf b (enrol number d o) ≡ 0 → {m : Option Ledger} {v : ℕ} → State b n m v
       → Moved b n m v (enrol number d o)
-  unfolding refusalOf booked namedBy posted valueBy
+  unfolding booked namedBy posted valueBy
   enrol-moves number d o t r {m} {v} st = by-number (eqb number n) refl st
     where
       w : (findUser b number ≡ 0) × NewUser b (enrolled number d o b) (newAccount number d o)
@@ -130,17 +129,17 @@ module _ (fx : Effects) (b : List ℕ) (g : Good b) (n : ℕ) where
 
       by-number : (x : Bool) → eqb number n ≡ x → {k : Option Ledger} {u : ℕ} → State b n k u → Moved b n k u (enrol number d o)
       by-number false other {k} {u} s =
-          for-other b g n k u s (enrol number d o) (eq-eqb (enrolRefusal b number d o) 0 r) other (w .1 .good)
+          for-other b g n k u s (enrol number d o) (eq-eqb (refusalOf b (enrol number d o)) 0 r) other (w .1 .good)
           (enrol-other b (enrolled number d o b) g n number d o (eqb-false number n other) (w .1) s)
       by-number true own (unknown nobody) =
-          for-own b g n none 0 (unknown nobody) (enrol number d o) (eq-eqb (enrolRefusal b number d o) 0 r) own (w .1 .good) 0
+          for-own b g n none 0 (unknown nobody) (enrol number d o) (eq-eqb (refusalOf b (enrol number d o)) 0 r) own (w .1 .good) 0
           (subst (λ k. State (enrolled number d o b) k (some (ledger.enrolled d o)) 0) (eqb-true number n own) (enrol-own b (enrolled number d o b) number d o (w .1)))
           (λ e h. tt) (λ e h. refl)
       by-number true own (known i h) = absurd (none-found b number (w .0) i (h .user) (h .number ∙ sym (eqb-true number n own)))
 
-  elect-moves : (number o y mo d : ℕ) → Typed (elect number o y mo d) → electRefusal b number o y mo d ≡ 0 → {m : Option Ledger} {v : ℕ} → State b n m v
+  elect-moves : (number o y mo d : ℕ) → Typed (elect number o y mo d) → refusalOf b (elect number o y mo d) ≡ 0 → {m : Option Ledger} {v : ℕ} → State b n m v
       → Moved b n m v (elect number o y mo d)
-  unfolding refusalOf booked namedBy posted valueBy ledger.elected
+  unfolding booked namedBy posted valueBy ledger.elected
   elect-moves number o y mo d t r {m} {v} st = by-number (eqb number n) refl st
     where
       w : (findUser b number ≡ 0 → ⊥) × NewAccount b (elected (findUser b number) o b) (findUser b number) (accountElected o (accountAt b (findUser b number)))
@@ -148,18 +147,18 @@ module _ (fx : Effects) (b : List ℕ) (g : Good b) (n : ℕ) where
 
       by-number : (x : Bool) → eqb number n ≡ x → {k : Option Ledger} {u : ℕ} → State b n k u → Moved b n k u (elect number o y mo d)
       by-number false other {k} {u} s =
-          for-other b g n k u s (elect number o y mo d) (eq-eqb (electRefusal b number o y mo d) 0 r) other (w .1 .good)
+          for-other b g n k u s (elect number o y mo d) (eq-eqb (refusalOf b (elect number o y mo d)) 0 r) other (w .1 .good)
           (state-kept b (elected (findUser b number) o b) (findUser b number) (w .1 .frame) g n (w .1 .users) (names-other b g number n (w .0) other) s)
       by-number true own (unknown nobody) = absurd (names-own b g number n (w .0) own nobody)
       by-number true own (known {l} {v = u} j h) =
-          for-own b g n (some l) u (known j h) (elect number o y mo d) (eq-eqb (electRefusal b number o y mo d) 0 r) own (w .1 .good) 0
+          for-own b g n (some l) u (known j h) (elect number o y mo d) (eq-eqb (refusalOf b (elect number o y mo d)) 0 r) own (w .1 .good) 0
           (subst (State (elected (findUser b number) o b) n (some (ledger.elected o l))) (sym (add-zero u))
           (elect-own b (elected (findUser b number) o b) g n (findUser b number) o (w .1) (held-at b g number n (w .0) own h)))
           (λ e p. p) (λ e p. refl)
 
-  advance-moves : (number y r p e₁ e₂ : ℕ) → Typed (advance number y r p e₁ e₂) → advanceRefusal b number y r p e₁ e₂ ≡ 0 → {m : Option Ledger} {v : ℕ} → State b n m v
+  advance-moves : (number y r p e₁ e₂ : ℕ) → Typed (advance number y r p e₁ e₂) → refusalOf b (advance number y r p e₁ e₂) ≡ 0 → {m : Option Ledger} {v : ℕ} → State b n m v
       → Moved b n m v (advance number y r p e₁ e₂)
-  unfolding refusalOf booked namedBy posted valueBy paidBy ledger.advanced
+  unfolding booked namedBy posted valueBy paidBy ledger.advanced
   advance-moves number y r p e₁ e₂ t z {m} {v} st =
       let w = fx .advances b g number y r p e₁ e₂ t z in
       let after = advanced (findUser b number) y r (paidBy b number y r p e₁ e₂) b in
@@ -167,7 +166,7 @@ module _ (fx : Effects) (b : List ℕ) (g : Good b) (n : ℕ) where
       elim [
         | true ↦ λ own. own-case own (w .0) (w .1 .0) (w .1 .1) m v st
         | false ↦ λ other.
-            for-other b g n m v st (advance number y r p e₁ e₂) (eq-eqb (advanceRefusal b number y r p e₁ e₂) 0 z) other (w .1 .1 .entry .good)
+            for-other b g n m v st (advance number y r p e₁ e₂) (eq-eqb (refusalOf b (advance number y r p e₁ e₂)) 0 z) other (w .1 .1 .entry .good)
             (state-kept b after (findUser b number) (w .1 .1 .entry .frame) g n (w .1 .1 .entry .users) (names-other b g number n (w .0) other) st)
       ] in
       by-number (eqb number n) refl
@@ -178,20 +177,20 @@ module _ (fx : Effects) (b : List ℕ) (g : Good b) (n : ℕ) where
           → (k : Option Ledger) (u : ℕ) → State b n k u → Moved b n k u (advance number y r p e₁ e₂)
       own-case own there year w k u (unknown nobody) = absurd (names-own b g number n there own nobody)
       own-case own there year w k u (known {l} j h) =
-          for-own b g n k u (known j h) (advance number y r p e₁ e₂) (eq-eqb (advanceRefusal b number y r p e₁ e₂) 0 z) own (w .entry .good) 0
+          for-own b g n k u (known j h) (advance number y r p e₁ e₂) (eq-eqb (refusalOf b (advance number y r p e₁ e₂)) 0 z) own (w .entry .good) 0
           (subst (State (advanced (findUser b number) y r (paidBy b number y r p e₁ e₂) b) n (some (ledger.advanced y r p e₁ e₂ l))) (sym (add-zero u))
           (advance-own b (advanced (findUser b number) y r (paidBy b number y r p e₁ e₂) b) g n (findUser b number) y r p e₁ e₂ year w (held-at b g number n there own h)))
           (λ e q. q) (λ e q. refl)
 
-  close-moves : (s : List ℕ) → Typed (close s) → closeRefusal b s ≡ 0 → {m : Option Ledger} {v : ℕ} → State b n m v → Moved b n m v (close s)
-  unfolding refusalOf booked namedBy posted valueBy valuesOf ledger.closed
+  close-moves : (s : List ℕ) → Typed (close s) → refusalOf b (close s) ≡ 0 → {m : Option Ledger} {v : ℕ} → State b n m v → Moved b n m v (close s)
+  unfolding booked namedBy posted valueBy valuesOf ledger.closed
   close-moves s t z {m} {v} st =
       let w = fx .closes b g s t z in
       let by-number : (x : Bool) → eqb (sheetUser s) n ≡ x → Moved b n m v (close s) =
       elim [
         | true ↦ λ own. own-case own (w .0) (w .1 .0) (w .1 .1 .0) (w .1 .1 .1 .0) (w .1 .1 .1 .1) m v st
         | false ↦ λ other.
-            for-other b g n m v st (close s) (eq-eqb (closeRefusal b s) 0 z) other (w .1 .1 .1 .1 .entry .good)
+            for-other b g n m v st (close s) (eq-eqb (refusalOf b (close s)) 0 z) other (w .1 .1 .1 .1 .entry .good)
             (state-kept b (closed (findUser b (sheetUser s)) (valuesOf b s) b) (findUser b (sheetUser s)) (w .1 .1 .1 .1 .entry .frame) g n (w .1 .1 .1 .1 .entry .users)
             (names-other b g (sheetUser s) n (w .0) other) st)
       ] in
@@ -204,7 +203,7 @@ module _ (fx : Effects) (b : List ℕ) (g : Good b) (n : ℕ) where
           → (k : Option Ledger) (u : ℕ) → State b n k u → Moved b n k u (close s)
       own-case own there year small field w k u (unknown nobody) = absurd (names-own b g (sheetUser s) n there own nobody)
       own-case own there year small field w k u (known {l} j h) =
-          for-own b g n k u (known j h) (close s) (eq-eqb (closeRefusal b s) 0 z) own (w .entry .good) (sheetValue (l .details) s)
+          for-own b g n k u (known j h) (close s) (eq-eqb (refusalOf b (close s)) 0 z) own (w .entry .good) (sheetValue (l .details) s)
           (close-own b (closed (findUser b (sheetUser s)) (valuesOf b s) b) g n (findUser b (sheetUser s)) s year small field w (held-at b g (sheetUser s) n there own h))
           (λ e q. q) (λ e q. ap (λ (d : Details). sheetValue d s) q)
 
@@ -224,14 +223,13 @@ module _ (fx : Effects) (b : List ℕ) (g : Good b) (n : ℕ) where
 
   -- any call
   pub moves : (c : Call) → Typed c → {m : Option Ledger} {v : ℕ} → State b n m v → Moved b n m v c
-  unfolding refusalOf
   moves c t {m} {v} st = by-answer (eqb (refusalOf b c) 0) refl
     where
       accepted : (k : Call) → Typed k → eqb (refusalOf b k) 0 ≡ true → Moved b n m v k
-      accepted (enrol number d o) t r = enrol-moves number d o t (eqb-true (enrolRefusal b number d o) 0 r) st
-      accepted (elect number o y mo d) t r = elect-moves number o y mo d t (eqb-true (electRefusal b number o y mo d) 0 r) st
-      accepted (advance number y r p e₁ e₂) t z = advance-moves number y r p e₁ e₂ t (eqb-true (advanceRefusal b number y r p e₁ e₂) 0 z) st
-      accepted (close s) t r = close-moves s t (eqb-true (closeRefusal b s) 0 r) st
+      accepted (enrol number d o) t r = enrol-moves number d o t (eqb-true (refusalOf b (enrol number d o)) 0 r) st
+      accepted (elect number o y mo d) t r = elect-moves number o y mo d t (eqb-true (refusalOf b (elect number o y mo d)) 0 r) st
+      accepted (advance number y r p e₁ e₂) t z = advance-moves number y r p e₁ e₂ t (eqb-true (refusalOf b (advance number y r p e₁ e₂)) 0 z) st
+      accepted (close s) t r = close-moves s t (eqb-true (refusalOf b (close s)) 0 r) st
       accepted (statement number) t r = statement-moves number r st
 
       by-answer : (x : Bool) → eqb (refusalOf b c) 0 ≡ x → Moved b n m v c

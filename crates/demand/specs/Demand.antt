@@ -9,27 +9,17 @@ use mathlib.Core.Option.{Option, none, some}
 use lib.Dec.{eqb}
 use lib.IntN.{pos}
 use lib.ListN.{getD}
-use Rattle.sheet.specs.YearSheet.{sheetUser}
 use Rattle.values.specs.declared.Details.{Details}
 use Rattle.ledger.specs.Ledger.{Item, Ledger, enrolled, elected, advanced, closed, sheetValue, statementOf}
 use Rattle.ledger.specs.Accounting.{conserved, Standing, lapsedOver, Consecutive}
 use Rattle.chains.specs.Statements.{statementAt}
 use Rattle.book.specs.Find.{findUser}
-use Rattle.calls.specs.Refusals.{statementRefusal}
-use Rattle.calls.specs.Calls.{Call, enrol, elect, advance, close, statement, refusalOf, bookAfter}
+use Rattle.calls.specs.Calls.{Call, enrol, elect, advance, close, statement, namedBy, refusalOf, bookAfter}
 
 -- the book after a list of calls
 unfoldable pub bookAfterAll : List ℕ → List Call → List ℕ
 bookAfterAll b [] = b
 bookAfterAll b (c ∷ cs) = bookAfterAll (bookAfter b c) cs
-
--- the number that a call names
-unfoldable pub namedBy : Call → ℕ
-namedBy (enrol n d o) = n
-namedBy (elect n o y m d) = n
-namedBy (advance n y r p e₁ e₂) = n
-namedBy (close s) = sheetUser s
-namedBy (statement n) = n
 
 -- a ledger after an accepted call for its number; there is none before the enrolment
 unfoldable pub posted : Call → Option Ledger → Option Ledger
@@ -82,7 +72,7 @@ AllTyped (c ∷ cs) = Typed c × AllTyped cs
 -- THE DEMAND, of the book b, a list of calls, a number and the ledger fed by the list
 pub record Demand (b : List ℕ) (cs : List Call) (number : ℕ) (l : Ledger) : Type 0 where
   -- "the statement of each user it enrolled answers exactly what the ledger of document 01 gives from the accepted calls"
-  pub answered : statementRefusal (bookAfterAll b cs) number ≡ 0
+  pub answered : refusalOf (bookAfterAll b cs) (statement number) ≡ 0
   pub statement : statementAt (bookAfterAll b cs) (findUser (bookAfterAll b cs) number) ≡ statementOf l
   -- "advances of closed years plus balances, less flat-rate parts, plus liquidations, plus lapsed credit, plus standing
   -- credit equals the value of all injected energy in the sheets accepted for the closed years"

@@ -11,42 +11,39 @@ use Rattle.units.specs.Units.{recordIndex}
 use Rattle.values.specs.declared.Details.{Details}
 use Rattle.accounts.specs.declared.Account.{Account}
 use Rattle.layout.specs.Fields.{recordLength}
-use Rattle.book.specs.Book.{used, detailsFit}
+use Rattle.book.specs.Book.{used, accountAt}
 use Rattle.soundness.specs.Verdicts.{Accepted}
 use Rattle.calls.specs.Bookings.{newAccount, enrolledAs, enrolled}
 use Rattle.book.specs.Find.{findUser}
-use Rattle.calls.specs.Refusals.{refuse, hasRoom, numberFree, enrolRefusal}
-use Rattle.calls.specs.Calls.{Call, enrol, refusalOf, booked}
-use Rattle.refusals.specs.Objections.{enrolObjection}
-use Rattle.bookings.proofs.Accepted.{enrol-accepted}
+use Rattle.calls.specs.Rules.{testOf, refusedBy as refusedBy}
+use Rattle.calls.specs.Refusals.{lookOf, lookAt, hasRoom}
+use Rattle.calls.specs.Calls.{Call, enrol, namedBy, rulesOf, refusalOf, booked}
+use Rattle.calls.proofs.Orders.{fact}
 use Rattle.answers.specs.Answers.{Answered}
-use Rattle.answers.proofs.Answers.{refused, accepted}
-use Rattle.answers.proofs.Rooms.{room-stands, used-small, refuse-apart}
+use Rattle.answers.proofs.Answers.{sound-refusal, refused-by-rule, accepted}
+use Rattle.answers.proofs.Rooms.{room-stands, used-small}
 
 module _ (b : List ℕ) (a : Accepted b) (n : ℕ) (d : Details) (o : ℕ) (user : RecordIndex) (room : Bool) (there : user ≡ recordIndex (findUser b n)) (left : room ≡ hasRoom b) where
-  sound-refusal : enrolObjection n (user .0) d o room ≡ enrolRefusal b n d o
-  unfolding enrolRefusal enrolObjection numberFree
-  sound-refusal = rw (a .fits, a .isSound, there, left)
+  abbrev c : Call
+  c = enrol n d o
 
-  not-damaged : enrolObjection n (user .0) d o room ≡ 2 → ⊥
-  unfolding enrolObjection
-  not-damaged =
-      refuse-apart (not (eqb n 0) && eqb (user .0) 0) 2 4 _ (omega arith)
-      (refuse-apart (detailsFit d o) 2 5 _ (omega arith) (refuse-apart room 2 3 0 (omega arith) (omega arith)))
+  module _ (r : ℕ) (objection : (x : Account) → r ≡ refusedBy (rulesOf (lookOf (user .0) x room) c)) where
+    by-rule : r ≡ refusedBy (rulesOf (lookAt b (namedBy c)) c)
+    unfolding namedBy lookAt
+    by-rule = objection (accountAt b (findUser b n)) ∙ rw (left, there)
 
-  module _ (r : ℕ) (objection : r ≡ enrolObjection n (user .0) d o room) where
-    refusal-is : r ≡ refusalOf b (enrol n d o)
-    unfolding refusalOf
-    refusal-is = objection ∙ sound-refusal
+    none-refused : r ≡ 0 → refusalOf b c ≡ 0
+    none-refused none = sound-refusal b c a ∙ sym by-rule ∙ none
 
-    pub enrol-refused : (r ≡ 0 → ⊥) → Answered b (enrol n d o) (used b) r 0 b
-    enrol-refused some = refused b (enrol n d o) (used b) r refusal-is some (λ two. not-damaged (sym objection ∙ two))
+    pub enrol-refused : (r ≡ 0 → ⊥) → Answered b c (used b) r 0 b
+    enrol-refused some = refused-by-rule b c (used b) r a by-rule some
 
     pub enrol-booked : r ≡ 0 → (named : ℕ) → named ≡ used b → (account : Account) → account ≡ newAccount n d o → (after : List ℕ) → after ≡ enrolledAs account b
         → Answered b (enrol n d o) (used b) 0 named after
     unfolding booked enrolled
     enrol-booked none named e account f after g =
-        rw e (accepted b (enrol n d o) (used b) after (sym refusal-is ∙ none) (g ∙ ap (λ x. enrolledAs x b) f))
+        rw e (accepted b (enrol n d o) (used b) after (none-refused none) (g ∙ ap (λ x. enrolledAs x b) f))
 
     pub enrol-room : r ≡ 0 → (recordLength * used b + recordLength ≤ length b) × (used b + 1 < 2 ^ 32)
-    enrol-room none = (room-stands b a (enrol-accepted b n d o (sym (objection ∙ sound-refusal) ∙ none) .room), used-small b a)
+    unfolding testOf rulesOf lookAt namedBy
+    enrol-room none = (room-stands b a (fact b c (none-refused none) 3), used-small b a)

@@ -1,7 +1,11 @@
 // The refusals of each call once the book is sound (document 01, "Who brings which number").
 ghost use mathlib.Core.Path.{_≡_};
-ghost use Rattle.calls.specs.Refusals.{refuse, hasRoom, dayAndOption, electionOpen, runOpen, orderFits, yearOpen};
-ghost use Rattle.refusals.specs.Objections.{enrolObjection, electObjection, advanceObjection, sheetObjection, closeObjection};
+ghost use Prim.Native.Nat.{ℕ};
+ghost use mathlib.Core.Bool.{Bool, cond, false};
+ghost use Rattle.accounts.specs.declared.Account.{Account as AccountOf};
+ghost use Rattle.calls.specs.Rules.{refusedBy};
+ghost use Rattle.calls.specs.Refusals.{lookOf, hasRoom, dayAndOption, electionOpen, runOpen, orderFits, yearOpen};
+ghost use Rattle.calls.specs.Calls.{enrol, elect, advance, close, sheetRules, rulesOf};
 use accounts::Account;
 use book::LAST_ACTIVATION;
 use book::LAST_OPEN_YEAR;
@@ -19,7 +23,7 @@ const LAST_YEAR: u32 = LAST_ACTIVATION as u32;
 const MAX_ESTIMATE: u64 = MAX_HALF_KWH as u64;
 
 fn refuse(fits: bool, number: u32, later: u32) -> u32
-    ensures { λ r. ⌜ r ≡ refuse fits number later ⌝ }
+    ensures { λ r. ⌜ r ≡ cond fits later number ⌝ }
 {
     if fits { later } else { number }
 }
@@ -72,7 +76,7 @@ pub fn enrol_objection(
     option: u8,
     room: bool,
 ) -> u32
-    ensures { λ r. ⌜ r ≡ enrolObjection (number .0) (user .0) details option room ⌝ }
+    ensures { λ r. ⌜ ((a : AccountOf) → r ≡ refusedBy (rulesOf (lookOf (user .0) a room) (enrol (number .0) details option))) ⌝ }
 {
     let free = !(number.0 == 0) & (user.0 == 0);
     refuse(
@@ -91,7 +95,7 @@ pub fn elect_objection(
     month: u32,
     day: u32,
 ) -> u32
-    ensures { λ r. ⌜ r ≡ electObjection (user .0) a option year month day ⌝ }
+    ensures { λ r. ⌜ ((number : ℕ) (room : Bool) → r ≡ refusedBy (rulesOf (lookOf (user .0) a room) (elect number option year month day))) ⌝ }
 {
     let window = refuse(election_open(a, year, month, day), 8, 0);
     refuse(
@@ -112,7 +116,7 @@ pub fn advance_objection(
     estimate2: WideKwh,
     room: bool,
 ) -> u32
-    ensures { λ r. ⌜ r ≡ advanceObjection (user .0) a year run (price .0) (estimate1 .0) (estimate2 .0) room ⌝ }
+    ensures { λ r. ⌜ ((number : ℕ) → r ≡ refusedBy (rulesOf (lookOf (user .0) a room) (advance number year run (price .0) (estimate1 .0) (estimate2 .0)))) ⌝ }
 {
     let order = refuse(
         order_fits(price, estimate1, estimate2),
@@ -124,7 +128,7 @@ pub fn advance_objection(
 
 // 6 12 13 14 3
 fn sheet_objection(s: &[u8], user: RecordIndex, a: Account, room: bool) -> u32
-    ensures { λ r. ⌜ r ≡ sheetObjection (now (s .entry)) (user .0) a room ⌝ }
+    ensures { λ r. ⌜ r ≡ refusedBy (sheetRules (lookOf (user .0) a room) (now (s .entry))) ⌝ }
 {
     let excess = refuse(
         !sheet::domestic_excess(a.details.class, s),
@@ -138,7 +142,7 @@ fn sheet_objection(s: &[u8], user: RecordIndex, a: Account, room: bool) -> u32
 
 // 11, then the rest of a sheet that has its length
 pub fn close_objection(s: &[u8], user: RecordIndex, a: Account, room: bool) -> u32
-    ensures { λ r. ⌜ r ≡ closeObjection (now (s .entry)) (user .0) a room ⌝ }
+    ensures { λ r. ⌜ r ≡ refusedBy (rulesOf (lookOf (user .0) a room) (close (now (s .entry)))) ⌝ }
 {
     if sheet::header_wrong(s) {
         return 11;

@@ -12,8 +12,9 @@ use Rattle.book.specs.Book.{isUser}
 use Rattle.chains.specs.Statements.{statementAt}
 use Rattle.soundness.specs.Verdicts.{Accepted}
 use Rattle.book.specs.Find.{findUser}
-use Rattle.calls.specs.Refusals.{present, statementRefusal}
-use Rattle.calls.specs.Calls.{statement, refusalOf, booked}
+use Rattle.calls.specs.Rules.{refusedBy}
+use Rattle.calls.specs.Refusals.{lookAt}
+use Rattle.calls.specs.Calls.{statement, namedBy, rulesOf, refusalOf, booked}
 use Rattle.bookings.proofs.Numbers.{found}
 use Rattle.statements.specs.declared.Sums.{Sums}
 use Rattle.statements.specs.Walk.{sumsOf}
@@ -31,13 +32,13 @@ module _ (b : List ℕ) (a : Accepted b) (n : ℕ) (user : RecordIndex) (there :
   index-is = rw there
 
   pub unknown : user .0 ≡ 0 → Answered b (statement n) 0 6 0 b
-  unfolding refusalOf statementRefusal present
+  unfolding refusalOf refusedBy rulesOf lookAt namedBy
   unknown none =
       refused b (statement n) 0 6 (rw (a .fits, a .isSound, eq-eqb (findUser b n) 0 (sym index-is ∙ none))) (omega arith) (omega arith)
 
   module _ (some : user .0 ≡ 0 → ⊥) where
     pub known : Answered b (statement n) 0 0 0 b
-    unfolding refusalOf statementRefusal present booked
+    unfolding refusalOf refusedBy rulesOf lookAt namedBy booked
     known =
         accepted b (statement n) 0 b (rw (a .fits, a .isSound, ne-eqb (findUser b n) 0 (λ z. some (index-is ∙ z)))) refl
 

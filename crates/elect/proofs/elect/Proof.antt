@@ -1,66 +1,79 @@
--- By the check of the book, then as a sound one.
+-- By the look at the book, then by the rules of an election.
 use denote.Ref.{now}
-use mathlib.Core.Path.{subst}
-use Rattle.soundness.specs.Verdicts.{BookSearched}
 use Rattle.calls.specs.Calls as calls
-use Rattle.answers.proofs.Answers.{refused-length, refused-unsound}
+use Rattle.answers.proofs.Rooms.{found-stands}
+use Rattle.elect.proofs.Electing.{elect-refused, elect-booked}
 use borrow.Author.Needs.{needs}
 use Rattle.elect.proofs.elect.Statement.{statement}
 use Rattle.elect.proofs.elect.Tie as tie
 
-find-requires : tie.Need-find-requires
-find-requires c κs = search needs
-
-enum-told : tie.Need-enum-told
-enum-told c = search needs
-
-enum-known-index : tie.Need-enum-known-index
-enum-known-index c = search needs
-
-enum-known-user : tie.Need-enum-known-user
-enum-known-user c = search needs
-
-elect-sound-requires : tie.Need-elect-sound-requires
-elect-sound-requires c κs =
-    let a = c .before .before .before .before .before .before .before .args in
-    subst (BookSearched (now (a .book)) (a .number .0)) (c .before .before .user .given .1) (c .before .before .before .before .find .ensures)
+look-requires : tie.Need-look-requires
+look-requires c κs = search needs
 
 same-length : tie.Need-same-length
 same-length c = search needs
 
 returns : tie.Need-returns
 returns c =
-    let a = c .before .before .before .before .before .args in
-    let b = now (a .book) in
-    refused-length b (calls.elect (a .number .0) (a .option) (a .year) (a .month) (a .day)) 0 (subst (BookSearched b (a .number .0)) (c .enum-told .given .1) (c .before .before .find .ensures))
+    let a = c .before .before .before .before .before .before .args in
+    c .before .before .before .look .ensures .damaged (c .if1 .taken) (calls.elect (a .number .0) (a .option) (a .year) (a .month) (a .day)) 0
+
+account-at-requires : tie.Need-account-at-requires
+account-at-requires c κs =
+    let a = c .before .before .before .before .before .before .before .before .args in
+    let looked = c .before .before .before .before .before .look .ensures in
+    let none = c .before .before .if1 .left in
+    found-stands (now (a .book)) (looked .is-sound none) (a .number .0) _ (looked .found none)
+
+elect-objection-requires : tie.Need-elect-objection-requires
+elect-objection-requires c κs = search needs
 
 same-length-2 : tie.Need-same-length-2
 same-length-2 c = search needs
 
 returns-2 : tie.Need-returns-2
 returns-2 c =
-    let a = c .before .before .before .before .before .before .args in
-    let b = now (a .book) in
-    refused-unsound b (calls.elect (a .number .0) (a .option) (a .year) (a .month) (a .day)) 0 _ (subst (BookSearched b (a .number .0)) (c .before .index .given .1) (c .before .before .before .find .ensures))
+    let a = c .before .before .before .before .before .before .before .before .before .before .before .args in
+    let looked = c .before .before .before .before .before .before .before .before .look .ensures in
+    let none = c .before .before .before .before .before .if1 .left in
+    let read = c .before .before .account-at in
+    let judged = c .before .elect-objection in
+    elect-refused (now (a .book)) (looked .is-sound none) (a .number .0) (a .option) (a .year) (a .month) (a .day) _ (read .result) (looked .found none) (read .ensures) (judged .result) (judged .ensures) (c .if2 .taken)
+
+elected-requires : tie.Need-elected-requires
+elected-requires c κs = search needs
+
+write-account-requires : tie.Need-write-account-requires
+write-account-requires c κs =
+    let a = c .before .before .before .before .before .before .before .before .before .before .before .before .before .args in
+    let looked = c .before .before .before .before .before .before .before .before .before .before .look .ensures in
+    let none = c .before .before .before .before .before .before .before .if1 .left in
+    found-stands (now (a .book)) (looked .is-sound none) (a .number .0) _ (looked .found none)
 
 same-length-3 : tie.Need-same-length-3
 same-length-3 c = search needs
 
 returns-3 : tie.Need-returns-3
-returns-3 c = search needs
+returns-3 c =
+    let a = c .before .before .before .before .before .before .before .before .before .before .before .before .before .before .before .before .args in
+    let looked = c .before .before .before .before .before .before .before .before .before .before .before .before .before .look .ensures in
+    let none = c .before .before .before .before .before .before .before .before .before .before .if1 .left in
+    let read = c .before .before .before .before .before .before .before .account-at in
+    let judged = c .before .before .before .before .before .before .elect-objection in
+    elect-booked (now (a .book)) (looked .is-sound none) (a .number .0) (a .option) (a .year) (a .month) (a .day) _ (read .result) (looked .found none) (read .ensures) (judged .result) (judged .ensures) (c .before .before .before .before .before .if2 .left) (c .before .before .before .elected .result) (c .before .before .before .elected .ensures) _ (c .before .before .write-account .ensures)
 
 pub elect-spec : {M : Type 1} → statement M
 elect-spec =
     tie.close
     (tie.spec
-    find-requires
-    enum-told
-    enum-known-index
-    enum-known-user
-    elect-sound-requires
+    look-requires
     same-length
     returns
+    account-at-requires
+    elect-objection-requires
     same-length-2
     returns-2
+    elected-requires
+    write-account-requires
     same-length-3
     returns-3)

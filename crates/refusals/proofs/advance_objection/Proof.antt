@@ -1,5 +1,6 @@
 -- In the order of the call.
-use Rattle.refusals.specs.Objections.{advanceObjection}
+use Rattle.calls.specs.Rules.{refusedBy}
+use Rattle.calls.specs.Calls.{rulesOf}
 use borrow.Author.Needs.{needs}
 use Rattle.refusals.proofs.advance_objection.Statement.{statement}
 use Rattle.refusals.proofs.advance_objection.Tie as tie
@@ -23,8 +24,8 @@ refuse-requires-4 : tie.Need-refuse-requires-4
 refuse-requires-4 c κs = search needs
 
 returns : tie.Need-returns
-unfolding advanceObjection
-returns c = cc
+unfolding refusedBy rulesOf
+returns c = λ number. cc
 
 pub advance-objection-spec : {M : Type 1} → statement M
 advance-objection-spec =

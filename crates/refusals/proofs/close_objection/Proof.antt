@@ -1,24 +1,26 @@
 -- The header first.
 use Prim.Native.Nat.{ℕ}
-use mathlib.Core.Path.{_≡_, sym, _∙_}
+use mathlib.Core.Path.{_≡_, ap, sym, _∙_}
 use mathlib.Core.Bool.{Bool, true, false}
 use mathlib.Core.List.{List}
 use denote.Ref.{now}
 use Rattle.sheet.specs.YearSheet.{refused11}
 use Rattle.sheet.proofs.Limits.{passed-length}
 use Rattle.accounts.specs.declared.Account.{Account}
-use Rattle.refusals.specs.Objections.{sheetObjection, closeObjection}
+use Rattle.calls.specs.Rules.{refusedBy}
+use Rattle.calls.specs.Refusals.{lookOf}
+use Rattle.calls.specs.Calls.{close, sheetRules, rulesOf}
 use borrow.Author.Needs.{needs}
 use Rattle.refusals.proofs.close_objection.Statement.{statement}
 use Rattle.refusals.proofs.close_objection.Tie as tie
 
-wrong-header : (s : List ℕ) (user : ℕ) (a : Account) (room : Bool) → refused11 s ≡ true → 11 ≡ closeObjection s user a room
-unfolding closeObjection
+wrong-header : (s : List ℕ) (user : ℕ) (a : Account) (room : Bool) → refused11 s ≡ true → 11 ≡ refusedBy (rulesOf (lookOf user a room) (close s))
+unfolding refusedBy rulesOf
 wrong-header s user a room w = rw w
 
 right-header : (s part : List ℕ) (user : ℕ) (a : Account) (room : Bool) → part ≡ s → refused11 s ≡ false
-    → sheetObjection part user a room ≡ closeObjection s user a room
-unfolding closeObjection
+    → refusedBy (sheetRules (lookOf user a room) part) ≡ refusedBy (rulesOf (lookOf user a room) (close s))
+unfolding refusedBy rulesOf
 right-header s part user a room e w = rw (w, e)
 
 header-wrong-requires : tie.Need-header-wrong-requires

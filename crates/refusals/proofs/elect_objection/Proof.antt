@@ -1,5 +1,6 @@
 -- In the order of the call.
-use Rattle.refusals.specs.Objections.{electObjection}
+use Rattle.calls.specs.Rules.{refusedBy}
+use Rattle.calls.specs.Calls.{rulesOf}
 use borrow.Author.Needs.{needs}
 use Rattle.refusals.proofs.elect_objection.Statement.{statement}
 use Rattle.refusals.proofs.elect_objection.Tie as tie
@@ -20,8 +21,8 @@ refuse-requires-3 : tie.Need-refuse-requires-3
 refuse-requires-3 c κs = search needs
 
 returns : tie.Need-returns
-unfolding electObjection
-returns c = cc
+unfolding refusedBy rulesOf
+returns c = λ number room. cc
 
 pub elect-objection-spec : {M : Type 1} → statement M
 elect-objection-spec =

@@ -1,5 +1,6 @@
 -- In the order of the call.
-use Rattle.refusals.specs.Objections.{enrolObjection}
+use Rattle.calls.specs.Rules.{refusedBy}
+use Rattle.calls.specs.Calls.{rulesOf}
 use borrow.Author.Needs.{needs}
 use Rattle.refusals.proofs.enrol_objection.Statement.{statement}
 use Rattle.refusals.proofs.enrol_objection.Tie as tie
@@ -17,8 +18,8 @@ refuse-requires-3 : tie.Need-refuse-requires-3
 refuse-requires-3 c κs = search needs
 
 returns : tie.Need-returns
-unfolding enrolObjection
-returns c = cc
+unfolding refusedBy rulesOf
+returns c = λ a. cc
 
 pub enrol-objection-spec : {M : Type 1} → statement M
 enrol-objection-spec =

@@ -1,5 +1,5 @@
 -- In the order of the call.
-use Rattle.refusals.specs.Objections.{sheetObjection}
+use Rattle.calls.specs.Rules.{refusedBy}
 use borrow.Author.Needs.{needs}
 use Rattle.refusals.proofs.sheet_objection.Statement.{statement}
 use Rattle.refusals.proofs.sheet_objection.Tie as tie
@@ -32,7 +32,7 @@ refuse-requires-5 : tie.Need-refuse-requires-5
 refuse-requires-5 c κs = search needs
 
 returns : tie.Need-returns
-unfolding sheetObjection
+unfolding refusedBy
 returns c = cc
 
 pub sheet-objection-spec : {M : Type 1} → statement M

@@ -1,0 +1,40 @@
+-- By what the search says.
+use denote.Ref.{now}
+use mathlib.Core.Path.{subst}
+use Rattle.soundness.specs.Verdicts.{BookSearched}
+use Rattle.answers.proofs.Looks.{looked-length, looked-faulty, looked-sound}
+use borrow.Author.Needs.{needs}
+use Rattle.answers.proofs.look.Statement.{statement}
+use Rattle.answers.proofs.look.Tie as tie
+
+find-requires : tie.Need-find-requires
+find-requires c κs = search needs
+
+enum-told : tie.Need-enum-told
+enum-told c = search needs
+
+enum-known-index : tie.Need-enum-known-index
+enum-known-index c = search needs
+
+enum-known-user : tie.Need-enum-known-user
+enum-known-user c = search needs
+
+returns : tie.Need-returns
+returns c =
+    let a = c .before .before .before .before .args in
+    looked-length (now (a .book)) (a .number .0) (subst (BookSearched (now (a .book)) (a .number .0)) (c .enum-told .given .1) (c .before .before .find .ensures))
+
+returns-2 : tie.Need-returns-2
+returns-2 c =
+    let a = c .before .before .before .before .before .args in
+    looked-faulty (now (a .book)) (a .number .0) _ (subst (BookSearched (now (a .book)) (a .number .0)) (c .before .index .given .1) (c .before .before .before .find .ensures))
+
+returns-3 : tie.Need-returns-3
+returns-3 c =
+    let a = c .before .before .before .before .before .args in
+    looked-sound (now (a .book)) (a .number .0) _ (subst (BookSearched (now (a .book)) (a .number .0)) (c .before .user .given .1) (c .before .before .before .find .ensures))
+
+pub look-spec : {M : Type 1} → statement M
+look-spec =
+    tie.close
+    (tie.spec find-requires enum-told enum-known-index enum-known-user returns returns-2 returns-3)

@@ -1,0 +1,16 @@
+-- What every call knows once it has looked at the book: refusal 1 or 2 is its answer, or the book is sound and the user with the
+-- number, 0 for none, is found.
+use Prim.Native.Nat.{ℕ}
+use mathlib.Core.Path.{_≡_}
+use mathlib.Core.List.{List}
+use Rattle.units.specs.declared.RecordIndex.{RecordIndex}
+use Rattle.units.specs.Units.{recordIndex}
+use Rattle.soundness.specs.Verdicts.{Accepted}
+use Rattle.book.specs.Find.{findUser}
+use Rattle.calls.specs.Calls.{Call}
+use Rattle.answers.specs.Answers.{Answered}
+
+pub record LookedAt (b : List ℕ) (n refusal named : ℕ) (user : RecordIndex) : Type 0 where
+  pub damaged : (refusal ≡ 0 → ⊥) → (c : Call) (answered : ℕ) → Answered b c answered refusal named b
+  pub is-sound : refusal ≡ 0 → Accepted b
+  pub found : refusal ≡ 0 → user ≡ recordIndex (findUser b n)
