@@ -21,7 +21,7 @@ use Rattle.accounts.specs.Closing.{contributionOf, liquidationOf, lapsedOf, cre
 use Rattle.layout.specs.Fields.{get, zeros, recordAt, putRecord, written, allZero}
 use Rattle.records.specs.Records.{headImage, userImage, closingImage, accountIn, closingIn}
 use Rattle.book.specs.Book.{lengthFits, freshBook, used, firstUser, usedFits, kindAt, hasKind, isEntry, detailsFit, openYearFits, runMade, dueIfMade, runsFit, halvesMade, advancesFit, creditFits, halvesFit, accountFits, yearFits, balanceFits, closingFits, ownerOf, rangesFit, zeroBytesFit, nextOf, firstEntryOf, numberOf, userNextFits, numberIsNew, firstEntryFits, entryNextFits, ownerFits, hits, pointersFrom, pointersTo, pointedOnce, levelOf, inOrder, activationOf, openYearOf, firstInOrder, nextInOrder, linksFit, goodRecord, goodHead, faulty, sound, entryKind, entryRanges, unnamedOf, levelIn}
-use Rattle.calls.specs.Bookings.{newAccount, enrolledAs, enrolled, withAccount, withEntry, elected, closingEntry, closed, valuesOf}
+use Rattle.calls.specs.Changes.{newAccount, enrolledAs, enrolled, withAccount, withEntry, elected, closingEntry, closed, valuesOf}
 use Rattle.book.specs.Find.{findBelow, findUser}
 use Rattle.calls.specs.Calls.{Call, enrol, elect, close, namedBy, rulesOf, refusalOf, booked, bookAfter}
 use Rattle.calls.specs.Rules.{refusedBy}

@@ -4,7 +4,7 @@ use accounts::Balance;
 use advance::Advanced;
 use answers::Booked;
 use close::Closed;
-use close::ClosingSums;
+use accounts::ClosingSums;
 use libc::STDIN_FILENO;
 use libc::STDOUT_FILENO;
 use listing_text::Listed;
