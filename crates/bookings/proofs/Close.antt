@@ -20,7 +20,6 @@ use Rattle.accounts.specs.Closing.{contributionOf, liquidationOf, lapsedOf, bal
 use Rattle.accounts.proofs.Closing.{contribution-capped, liquidation-capped, lapsed-at-most}
 use Rattle.accounts.proofs.Balances.{balance-bits-in-range, balance-fits}
 use Rattle.book.specs.Book.{accountFits, yearFits, balanceFits, closingFits}
-
 use Rattle.bookings.proofs.Bools.{or-first, or-second}
 use Rattle.bookings.proofs.Widths.{account-within}
 use Rattle.bookings.proofs.Accounts.{closed-fits}
