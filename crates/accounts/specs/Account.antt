@@ -13,6 +13,7 @@ use Rattle.accounts.specs.declared.Outcome.{Outcome}
 use Rattle.accounts.specs.declared.Outcome.the-variants.{Carried, Liquidated}
 use Rattle.accounts.specs.declared.Settlement.{Settlement}
 use Rattle.accounts.specs.declared.Closed.{Closed}
+use Rattle.accounts.specs.declared.ClosingSums.{ClosingSums}
 use Rattle.accounts.specs.Closing.{liquidates, contributionOf, liquidationOf, lapsedOf, creditAfter, balanceOf}
 
 -- a signed amount in two's complement
@@ -98,6 +99,19 @@ closedOf v a =
       account = accountClosed v a;
       settlement =
           settlementOf (a .option) (a .credit .0) (a .advances .0) (v .value .0) (v .cost .0) (v .«flat_rate» .0);
+    }
+
+-- the sums that the closing of an account's open year comes to, with these values
+unfoldable pub settled : Account → YearValues → ClosingSums
+settled a v =
+    record {
+      value = v .value;
+      cost = v .cost;
+      «flat_rate» = v .«flat_rate»;
+      contribution = ticks (contributionOf (a .option) (a .credit .0) (v .value .0) (v .cost .0) (v .«flat_rate» .0));
+      liquidation = ticks (liquidationOf (a .option) (v .value .0) (v .cost .0));
+      lapsed = ticks (lapsedOf (a .option) (a .credit .0));
+      balance = balanceBits (balanceOf (contributionOf (a .option) (a .credit .0) (v .value .0) (v .cost .0) (v .«flat_rate» .0)) (a .advances .0));
     }
 
 -- the ranges of "Book" in which every sum of a closing fits, k the credit before it, ..

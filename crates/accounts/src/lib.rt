@@ -53,6 +53,17 @@ pub struct Closed {
     pub settlement: Settlement,
 }
 
+// The seven sums of a closing: what its entry keeps and its call answers.
+pub struct ClosingSums {
+    pub value: Ticks,
+    pub cost: Ticks,
+    pub flat_rate: Ticks,
+    pub contribution: Ticks,
+    pub liquidation: Ticks,
+    pub lapsed: Ticks,
+    pub balance: Balance,
+}
+
 // The smaller of two amounts.
 fn smaller(a: Ticks, b: Ticks) -> Ticks
     ensures { λ r. ⌜ r .0 ≡ min (a .0) (b .0) ⌝ }

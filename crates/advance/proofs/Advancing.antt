@@ -14,15 +14,16 @@ use Rattle.accounts.specs.Account.{accountAdvanced}
 use Rattle.book.specs.Book.{isUser, accountAt, accountFits, halvesFit}
 use Rattle.book.proofs.Faultless.{sound-faultless}
 use Rattle.soundness.specs.Verdicts.{Accepted}
-use Rattle.calls.specs.Bookings.{runAmount, advanced}
+use Rattle.records.specs.Entries.{advanceEntry}
+use Rattle.calls.specs.Changes.{enters, applied, runAmount}
 use Rattle.book.specs.Find.{findUser}
 use Rattle.calls.specs.Rules.{testOf, refusedBy as refusedBy}
 use Rattle.calls.specs.Refusals.{lookOf, lookAt, hasRoom, runOpen, orderFits}
-use Rattle.calls.specs.Calls.{Call, advance, namedBy, rulesOf, refusalOf, booked, paidBy}
+use Rattle.calls.specs.Calls.{Call, advance, namedBy, rulesOf, refusalOf, changeOf, booked}
 use Rattle.bookings.proofs.Ranges.{account-good}
 use Rattle.bookings.proofs.Widths.{account-within}
 use Rattle.calls.proofs.Orders.{fact}
-use Rattle.bookings.proofs.EnrolElect.{named-user}
+use Rattle.bookings.proofs.CallsFit.{named-user}
 use Rattle.bookings.proofs.Accounts.{advanced-fits}
 use Rattle.bookings.proofs.Advance.{RunDue, run-due, run-at-most}
 use Rattle.answers.specs.Answers.{Answered}
@@ -92,9 +93,11 @@ module _ (b : List ℕ) (a : Accepted b) (n y r p e₁ e₂ : ℕ) (user : Recor
       has-room = fact b call none-refused 3
 
       module _ (paid : Ticks) (amount : paid ≡ ticks (runAmount account (account .«open_year») r p e₁ e₂)) where
-        paid-is : paid .0 ≡ paidBy b n y r p e₁ e₂
-        unfolding paidBy
+        paid-is : paid .0 ≡ runAmount (accountAt b (findUser b n)) y r p e₁ e₂
         paid-is = rw (amount, year-is, account-is)
+
+        paid-ticks : paid ≡ ticks (runAmount (accountAt b (findUser b n)) y r p e₁ e₂)
+        paid-ticks = ap ticks paid-is
 
         pub run-fits : RunFits b (user .0) account r (paid .0)
         run-fits =
@@ -105,9 +108,11 @@ module _ (b : List ℕ) (a : Accepted b) (n y r p e₁ e₂ : ℕ) (user : Recor
               advances = rw amount (w .1);
             }
 
-        pub advance-booked : (after : List ℕ) → after ≡ advanced (user .0) (account .«open_year») r (paid .0) b → Answered b call 0 0 0 after
-        unfolding booked
-        advance-booked after e = accepted b call 0 after none-refused (e ∙ rw (sym year-is, paid-is, there))
+        pub advance-booked : (after : List ℕ) → after ≡ applied (user .0) (enters (accountAdvanced r (paid .0) account) (advanceEntry (account .«open_year») r paid)) b → Answered b call 0 0 0 after
+        unfolding booked changeOf namedBy
+        advance-booked after e =
+            let in-year = ap (λ (z : ℕ). applied (user .0) (enters (accountAdvanced r (paid .0) account) (advanceEntry z r paid)) b) (sym year-is) in
+            accepted b call 0 after none-refused (e ∙ in-year ∙ rw (paid-ticks, account-is, there))
 
         pub ticks-answered : paid ≡ ticksAnswered b n y r p e₁ e₂ 0
         unfolding ticksAnswered

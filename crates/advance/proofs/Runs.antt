@@ -16,7 +16,8 @@ use Rattle.accounts.specs.declared.Account.{Account}
 use Rattle.accounts.specs.Account.{accountAdvanced}
 use Rattle.records.specs.Records.{advanceImage}
 use Rattle.book.specs.Book.{halvesFit, halvesOf, firstEntryOf, accountAt}
-use Rattle.calls.specs.Bookings.{runAmount, advanceEntry, withEntry, advanced}
+use Rattle.records.specs.Entries.{advanceEntry, entryImage}
+use Rattle.calls.specs.Changes.{enters, withEntry, applied, runAmount}
 use Rattle.calls.specs.Refusals.{orderFits}
 use Rattle.bookings.proofs.Ranges.{conjuncts}
 
@@ -48,10 +49,10 @@ module _ (a : Account) (p e₁ e₂ : ℕ) where
   unfolding runAmount halvesOf
   run-paid run first second f s h e paid amount = rw (amount, e, f, s)
 
-pub run-booked : (b : List ℕ) (user : RecordIndex) (a : Account) (run : ℕ) (paid : Ticks) → a ≡ accountAt b (user .0) → (first : RecordIndex)
+pub run-booked : (b : List ℕ) (user : RecordIndex) (a : Account) (run : ℕ) (paid : Ticks) (first : RecordIndex)
     → first ≡ recordIndex (firstEntryOf b (user .0)) → (entry : List ℕ)
     → entry ≡ advanceImage (record { next = first; run = run; year = a .«open_year»; ticks = paid; owner = user }) → (next : Account)
     → next ≡ accountAdvanced run (paid .0) a → (after : List ℕ) → after ≡ withEntry (user .0) next entry b
-    → after ≡ advanced (user .0) (a .«open_year») run (paid .0) b
-unfolding advanced advanceEntry
-run-booked b user a run paid read first f entry e next n after w = rw (w, n, e, f, sym read)
+    → after ≡ applied (user .0) (enters (accountAdvanced run (paid .0) a) (advanceEntry (a .«open_year») run paid)) b
+unfolding applied entryImage
+run-booked b user a run paid first f entry e next n after w = rw (w, n, e, f)

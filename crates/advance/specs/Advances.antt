@@ -6,12 +6,13 @@ use lib.Dec.{eqb}
 use Rattle.units.specs.Units.{ticks}
 use Rattle.units.specs.declared.Ticks.{Ticks}
 use Rattle.accounts.specs.declared.Account.{Account}
-use Rattle.calls.specs.Calls.{paidBy}
+use Rattle.calls.specs.Refusals.{userAt}
+use Rattle.calls.specs.Changes.{runAmount}
 use Rattle.answers.specs.Rooms.{EntryFits}
 
 -- "advance answers the ticks", and zero beside a refusal
 unfoldable pub ticksAnswered : List ℕ → ℕ → ℕ → ℕ → ℕ → ℕ → ℕ → ℕ → Ticks
-ticksAnswered b number year run rate estimate1 estimate2 refusal = ticks (cond (eqb refusal 0) (paidBy b number year run rate estimate1 estimate2) 0)
+ticksAnswered b number year run rate estimate1 estimate2 refusal = ticks (cond (eqb refusal 0) (runAmount (userAt b number) year run rate estimate1 estimate2) 0)
 
 -- the run of the user i, whose account is a, fits into the account and its entry into the book
 pub record RunFits (b : List ℕ) (i : ℕ) (a : Account) (run paid : ℕ) : Type 0 where

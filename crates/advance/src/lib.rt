@@ -4,7 +4,9 @@ ghost use mathlib.Core.Bool.{true, cond};
 ghost use lib.Dec.{eqb};
 ghost use Rattle.units.specs.Units.{recordIndex, ticks};
 ghost use Rattle.book.specs.Book.{halvesFit};
-ghost use Rattle.calls.specs.Bookings.{runAmount, advanced};
+ghost use Rattle.accounts.specs.Account.{accountAdvanced};
+ghost use Rattle.records.specs.Entries.{advanceEntry};
+ghost use Rattle.calls.specs.Changes.{enters, applied, runAmount};
 ghost use Rattle.book.specs.Find.{findUser};
 ghost use Rattle.calls.specs.Refusals.{orderFits};
 ghost use Rattle.calls.specs.Calls.{advance};
@@ -52,7 +54,7 @@ fn run_amount(a: Account, run: u8, price: Rate, estimate1: WideKwh, estimate2: W
 // "Each run adds one entry, joins the advances field and sets its bit."
 fn book_run(book: &mut [u8], user: RecordIndex, account: Account, run: u8, paid: Ticks)
     requires { ⌜ RunFits (now book) (user .0) account run (paid .0) ⌝ }
-    ensures { λ _. ⌜ now (book .exit) ≡ advanced (user .0) (account .«open_year») run (paid .0) (now (book .entry)) ⌝ }
+    ensures { λ _. ⌜ now (book .exit) ≡ applied (user .0) (enters (accountAdvanced run (paid .0) account) (advanceEntry (account .«open_year») run paid)) (now (book .entry)) ⌝ }
 {
     let entry = records::advance_image(AdvanceRecord {
         next: view::first_entry_of(book, user),

@@ -1,12 +1,12 @@
 -- The account that a booking writes fits its ranges: of a new user, after an election, after an advance, after a closing.
-use Prim.Native.Nat.{ℕ, _+_, _-_, _*_, _/_, _%_, _^_, _≤_, _<_}
-use mathlib.Core.Path.{_≡_, refl, sym, ap, subst, _∙_}
-use mathlib.Core.Bool.{Bool, true, false, cond, not, _&&_, _||_}
+use Prim.Native.Nat.{ℕ, _+_, _-_, _*_, _≤_, _<_}
+use mathlib.Core.Path.{_≡_, refl, subst}
+use mathlib.Core.Bool.{Bool, true, false, cond, not, _||_}
 use native.Mathlib.Nat.{le-refl}
 use native.Mathlib.Omega.{arith}
 use borrow.Author.Tests.{leb-true, le-leb, lt-ltb, eqb-true}
-use lib.Dec.{leb, ltb, eqb}
-use Rattle.units.proofs.Bools.{and-left, and-right, and-both}
+use lib.Dec.{leb, eqb}
+use Rattle.units.proofs.Bools.{and-both}
 use Rattle.units.specs.Limits.{maxYearTicks, maxHalfTicks, maxHalfKwh, lastActivation, lastOpenYear}
 use Rattle.calendar.specs.ElectionAndAdvances.{june, october, january, due, halvesCount}
 use Rattle.values.specs.declared.Details.{Details}
@@ -17,9 +17,9 @@ use Rattle.accounts.specs.Account.{accountElected, accountAdvanced, accountClos
 use Rattle.accounts.specs.Closing.{creditAfter}
 use Rattle.accounts.proofs.Closing.{credit-capped}
 use Rattle.book.specs.Book.{detailsFit, openYearFits, halvesOf, runMade, dueIfMade, runsFit, halvesMade, advancesFit, creditFits, halvesFit, accountFits, isRun}
-use Rattle.calls.specs.Bookings.{newAccount}
-use Rattle.bookings.proofs.Ranges.{conjuncts, AccountGood, account-good, account-fits, DetailsWithin, details-within}
-use Rattle.bookings.proofs.Widths.{AccountWithin, account-within}
+use Rattle.calls.specs.Changes.{newAccount}
+use Rattle.bookings.proofs.Ranges.{conjuncts, account-good, account-fits, details-within}
+use Rattle.bookings.proofs.Widths.{account-within}
 use Rattle.bookings.proofs.Runs.{Run, June, October, January, is-run, bits-below, bit-joins}
 use Rattle.bookings.proofs.Frame.{SameUser}
 use Rattle.bookings.proofs.Bools.{or-second}

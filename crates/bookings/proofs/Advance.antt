@@ -1,41 +1,27 @@
--- An accepted advance keeps a sound book sound: the amount of a run is bounded by the halves that it pays.
-use Prim.Native.Nat.{ℕ, _+_, _*_, _^_, _≤_, _<_}
-use mathlib.Core.Path.{_≡_, refl, sym, ap, subst, _∙_}
-use mathlib.Core.Bool.{Bool, true, false, cond, not, _&&_}
-use mathlib.Core.List.{List}
+-- An accepted run: its amount is bounded by the halves that it pays, so that account and entry are in their ranges.
+use Prim.Native.Nat.{ℕ, _*_, _≤_}
+use mathlib.Core.Path.{_≡_, refl, sym, subst}
+use mathlib.Core.Bool.{Bool, true, false, cond}
 use native.Mathlib.Omega.{arith}
 use borrow.Author.Tests.{leb-true, le-leb, eqb-true, not-true}
-use lib.Dec.{eqb, leb}
-use Rattle.units.proofs.Bools.{and-left, and-right, and-both, cond-capped}
+use lib.Dec.{eqb}
+use Rattle.units.proofs.Bools.{and-both, cond-capped}
 use Rattle.units.specs.Units.{ticks}
-use Rattle.units.specs.Limits.{maxPrice, maxHalfKwh, maxHalfTicks, maxYearTicks, lastActivation}
+use Rattle.units.specs.Limits.{maxPrice, maxHalfKwh, maxHalfTicks, maxYearTicks}
 use Rattle.calendar.specs.declared.Halves.{Halves}
 use Rattle.calendar.specs.ElectionAndAdvances.{halvesPaid, halvesCount, due, amountOf}
 use Rattle.calendar.proofs.Amounts.{half-at-most, halves-at-most, run-of-shares}
 use Rattle.accounts.specs.declared.Account.{Account}
 use Rattle.accounts.specs.Account.{accountAdvanced}
-use Rattle.layout.specs.Fields.{capacity}
-use Rattle.layout.proofs.ByteRanges.{Bytes}
-use Rattle.records.specs.Records.{accountIn, advanceImage}
-use Rattle.records.proofs.Advances.{length-advance-image, bytes-advance-image}
-use Rattle.book.specs.Book.{used, isUser, firstEntryOf, accountAt, accountFits, openYearOf, halvesOf, runMade, isRun, yearFits, advanceFits}
-use Rattle.book.proofs.Faultless.{Faultless}
-use Rattle.calls.specs.Bookings.{runAmount, advanceEntry, advanced}
-use Rattle.book.specs.Find.{findUser}
-use Rattle.calls.specs.Rules.{testOf}
-use Rattle.calls.specs.Refusals.{lookAt, runOpen, orderFits, userAt}
-use Rattle.calls.specs.Calls.{advance, namedBy, rulesOf, refusalOf, paidBy}
+use Rattle.book.specs.Book.{accountFits, halvesOf, runMade, isRun, yearFits, advanceFits}
+use Rattle.calls.specs.Changes.{runAmount}
+use Rattle.calls.specs.Refusals.{runOpen, orderFits}
 use Rattle.bookings.proofs.Ranges.{conjuncts}
-use Rattle.bookings.proofs.Widths.{AccountWithin, account-within}
-use Rattle.bookings.proofs.Records.{AdvanceAt}
-use Rattle.bookings.proofs.Good.{Good, sound-good, room}
-use Rattle.bookings.proofs.Numbers.{Found}
-use Rattle.bookings.proofs.Written.{entry-added}
-use Rattle.bookings.proofs.Accounts.{advanced-fits, advanced-same}
-use Rattle.bookings.proofs.Entries.{Entered}
-use Rattle.bookings.proofs.NewEntries.{InFront, advance-entered}
-use Rattle.calls.proofs.Orders.{fact, length-fact, sound-fact}
-use Rattle.bookings.proofs.EnrolElect.{named-user}
+use Rattle.bookings.proofs.Widths.{account-within}
+use Rattle.bookings.proofs.Accounts.{advanced-fits}
+use Rattle.records.specs.Entries.{advanceEntry, advanceRecord}
+use Rattle.bookings.proofs.Changes.{Joins, an-advance}
+use Rattle.units.specs.Units.{ticks}
 
 -- each half pays at most its most, and so does the run
 amount-at-most : (h : Halves) (price h₁ h₂ : ℕ) → price ≤ maxPrice → h₁ ≤ maxHalfKwh → h₂ ≤ maxHalfKwh → amountOf h price h₁ h₂ ≤ maxHalfTicks * halvesCount h
@@ -81,54 +67,25 @@ run-at-most a year run rate estimate1 estimate2 fits e order =
     none : Bool
     none = eqb (a .«open_year») (a .details .year)
 
--- the entry's own ranges
-advance-ranges : (b : List ℕ) (i year run paid : ℕ) (a : Account) → a .«open_year» ≡ year → accountFits a ≡ true → isRun run ≡ true → paid ≤ maxYearTicks
-    → advanceFits a (advanceEntry b i year run paid) ≡ true
-unfolding advanceFits yearFits advanceEntry
-advance-ranges b i year run paid a e fits is most =
-    let w = account-within a fits in
-    and-both (and-both (le-leb (a .details .year) year (omega (arith, w .from))) (le-leb year (a .«open_year») (omega arith)))
-    (and-both is (le-leb paid maxYearTicks most))
+-- the account and the entry of an accepted run
+pub record RunBooked (a : Account) (year run paid : ℕ) : Type 0 where
+  pub fits : accountFits (accountAdvanced run paid a) ≡ true
+  pub joins : Joins (accountAdvanced run paid a) (a .«open_year») (advanceEntry year run (ticks paid))
 
--- what is known of the book after an advance
-pub record Advanced (b b′ : List ℕ) (i year run paid : ℕ) : Type 0 where
-  pub after : Entered b b′ i (accountAdvanced run paid (accountAt b i))
-  pub entry : AdvanceAt b′ (used b) (advanceEntry b i year run paid)
-
--- an advance of an open run to a user of a good book
-module _ (b : List ℕ) (g : Good b) (i year run paid : ℕ) (h : isUser b i ≡ true) (free : used b < capacity b) (d : RunDue (accountAt b i) year run)
-    (most : paid ≤ maxHalfTicks * halvesCount (halvesOf (accountAt b i) run)) where
-  abbrev account : Account
-  account = accountAdvanced run paid (accountAt b i)
-
-  account-fits : accountFits account ≡ true
-  account-fits = advanced-fits (accountAt b i) run paid (g .faultless .user i h .fits) (d .is) (d .unmade) (d .due-now) most
-
-  in-front : InFront b i (firstEntryOf b i) i year
-  unfolding openYearOf accountIn
-  in-front = record { next-is = refl; owner-is = refl; year-is = d .year-is }
-
-  advanced-kept : Advanced b (advanced i year run paid b) i year run paid
-  unfolding advanced accountAdvanced advanceEntry openYearOf accountIn
-  advanced-kept =
-      let x = advanceEntry b i year run paid in
-      let two = halves-at-most (halvesOf (accountAt b i) run) in
-      let kept =
-      advance-entered b (advanced i year run paid b) i account g h (advanced-same (accountAt b i) run paid) account-fits free x in-front
-      (advance-ranges b i year run paid account (sym (d .year-is)) account-fits (d .is) (omega arith)) refl
-      (entry-added b g i account (advanceImage x) h free (length-advance-image x) (bytes-advance-image x)) in
-      record { after = kept .0; entry = kept .1 }
-
-pub advance-keeps : (b : List ℕ) (number year run rate estimate1 estimate2 : ℕ) → Bytes b → refusalOf b (advance number year run rate estimate1 estimate2) ≡ 0
-    → Advanced b (advanced (findUser b number) year run (paidBy b number year run rate estimate1 estimate2) b) (findUser b number) year run
-    (paidBy b number year run rate estimate1 estimate2)
-unfolding paidBy testOf rulesOf lookAt namedBy
-advance-keeps b number year run rate estimate1 estimate2 bytes h =
-    let c = advance number year run rate estimate1 estimate2 in
-    let accepted = fact b c h in
-    let g = sound-good b bytes (length-fact b c h) (sound-fact b c h) in
-    let i = findUser b number in
-    let user = named-user b number (accepted 6) .user in
-    let d = run-due (accountAt b i) year run (accepted 9) in
-    advanced-kept b g i year run (runAmount (accountAt b i) year run rate estimate1 estimate2) user (room b g (accepted 3)) d
-    (run-at-most (accountAt b i) year run rate estimate1 estimate2 (g .faultless .user i user .fits) (d .year-is) (accepted 10))
+pub run-booked : (a : Account) (year run rate estimate1 estimate2 : ℕ) → accountFits a ≡ true → runOpen a year run ≡ true → orderFits rate estimate1 estimate2 ≡ true
+    → RunBooked a year run (runAmount a year run rate estimate1 estimate2)
+unfolding advanceFits yearFits accountAdvanced
+run-booked a year run rate estimate1 estimate2 before is-open order =
+    let paid = runAmount a year run rate estimate1 estimate2 in
+    let d = run-due a year run is-open in
+    let most = run-at-most a year run rate estimate1 estimate2 before (d .year-is) order in
+    let two = halves-at-most (halvesOf a run) in
+    let w = account-within a before in
+    let ranges : advanceFits (accountAdvanced run paid a) (advanceRecord 0 0 year run (ticks paid)) ≡ true =
+    and-both (and-both (le-leb (a .details .year) year (omega (arith, w .from, d .year-is))) (le-leb year (a .«open_year») (omega (arith, d .year-is))))
+    (and-both (d .is) (le-leb paid maxYearTicks (omega arith))) in
+    record {
+      fits = advanced-fits a run paid before (d .is) (d .unmade) (d .due-now) most;
+      joins =
+          subst (λ y. Joins (accountAdvanced run paid a) y (advanceEntry year run (ticks paid))) (d .year-is) (an-advance ranges (sym (d .year-is)));
+    }

@@ -19,8 +19,9 @@ pub mod Rewriting
 pub mod Entries
 pub mod Accounts
 pub mod NewEntries
-pub mod EnrolElect
 pub mod Advance
 pub mod Close
 pub mod EveryCall
 pub mod YearRanges
+pub mod Changes
+pub mod CallsFit

@@ -1,30 +1,30 @@
 -- An advance of the open year and a closing of it, at the front of their user's chain: the record is good, and with it the
 -- book.
 use Prim.Native.Nat.{ℕ, _+_, _^_, _≤_, _<_}
-use mathlib.Core.Path.{_≡_, refl, sym, ap, subst, _∙_}
-use mathlib.Core.Bool.{Bool, true, false, cond, _&&_, _||_}
+use mathlib.Core.Path.{_≡_, sym, _∙_}
+use mathlib.Core.Bool.{true, _&&_}
 use mathlib.Core.List.{List}
 use native.Mathlib.Omega.{arith}
 use borrow.Author.Tests.{eq-eqb, ne-eqb}
 use lib.Dec.{eqb}
 use Rattle.units.proofs.Bools.{and-both}
 use Rattle.accounts.specs.declared.Account.{Account}
-use Rattle.layout.specs.Fields.{recordAt, capacity, userKind, advanceKind, closingKind, firstEntryField}
+use Rattle.layout.specs.Fields.{capacity, userKind, advanceKind, closingKind, firstEntryField}
 use Rattle.layout.proofs.ByteRanges.{field-below}
 use Rattle.records.specs.declared.AdvanceRecord.{AdvanceRecord}
 use Rattle.records.specs.declared.ClosingRecord.{ClosingRecord}
-use Rattle.records.specs.Records.{advanceImage, closingImage, advanceIn, closingIn}
-use Rattle.book.specs.Book.{used, firstUser, accountFits, advanceFits, closingFits, accountAt, isUser, isAdvance, isClosing, firstEntryOf, ownerOf, levelOf, openYearOf, activationOf, inOrder, kindAt, entryRanges, zeroBytesFit, unnamedOf}
+use Rattle.records.specs.Records.{advanceImage, closingImage}
+use Rattle.book.specs.Book.{used, firstUser, accountFits, advanceFits, closingFits, accountAt, isUser, isAdvance, isClosing, firstEntryOf, levelOf, openYearOf, activationOf, inOrder, kindAt, entryRanges, zeroBytesFit, unnamedOf, isEntry}
 use Rattle.book.proofs.RecordKinds.{kind-index, advance-entry, closing-entry}
-use Rattle.book.proofs.Faultless.{Faultless, EntryGood, entry-ranges}
+use Rattle.book.proofs.Faultless.{EntryGood, entry-ranges}
 use Rattle.bookings.proofs.Bools.{or-first, or-second}
 use Rattle.bookings.proofs.Widths.{advance-widths, closing-widths}
-use Rattle.bookings.proofs.Records.{UserAt, EntryAt, AdvanceAt, advance-at, ClosingAt, closing-at}
-use Rattle.bookings.proofs.Good.{Good, Sizes, sizes}
-use Rattle.bookings.proofs.Written.{HeadAt, EntryAdded}
+use Rattle.bookings.proofs.Records.{EntryAt, AdvanceAt, advance-at, ClosingAt, closing-at}
+use Rattle.bookings.proofs.Good.{Good, sizes}
+use Rattle.bookings.proofs.Written.{EntryAdded}
 use Rattle.bookings.proofs.Frame.{SameUser}
 use Rattle.bookings.proofs.Pointers.{from-entry}
-use Rattle.bookings.proofs.RecordsKept.{GoodAt, an-entry}
+use Rattle.bookings.proofs.RecordsKept.{an-entry}
 use Rattle.bookings.proofs.Entries.{NewEntry, Entered, entered-user, entry-links, entered}
 use Rattle.bookings.proofs.Grown.{new-kind}
 
@@ -93,8 +93,8 @@ module _ (b b′ : List ℕ) (i : ℕ) (a : Account) (g : Good b) (h : isUser b 
           links = entry-links b b′ i a (advanceImage x) g h same fits e new-advance;
         }
 
-    pub advance-entered : Entered b b′ i a × AdvanceAt b′ (used b) x
-    advance-entered = (entered b b′ i a (advanceImage x) g h same fits e new-advance room (an-entry (advance-entry b′ (used b) is-advance) advance-good), advance)
+    pub advance-entered : Entered b b′ i a × ((isEntry b′ (used b) ≡ true) × AdvanceAt b′ (used b) x)
+    advance-entered = (entered b b′ i a (advanceImage x) g h same fits e new-advance room (an-entry (advance-entry b′ (used b) is-advance) advance-good), (advance-entry b′ (used b) is-advance, advance))
 
   -- a closing of the open year, which the next follows
   module _ (x : ClosingRecord) (front : InFront b i (x .next .0) (x .owner .0) (x .year)) (ranges : closingFits a x ≡ true) (balance : x .balance .0 < 2 ^ 64)
@@ -130,5 +130,5 @@ module _ (b b′ : List ℕ) (i : ℕ) (a : Account) (g : Good b) (h : isUser b 
           links = entry-links b b′ i a (closingImage x) g h same fits e new-closing;
         }
 
-    pub closing-entered : Entered b b′ i a × ClosingAt b′ (used b) x
-    closing-entered = (entered b b′ i a (closingImage x) g h same fits e new-closing room (an-entry (closing-entry b′ (used b) is-closing) closing-good), closing)
+    pub closing-entered : Entered b b′ i a × ((isEntry b′ (used b) ≡ true) × ClosingAt b′ (used b) x)
+    closing-entered = (entered b b′ i a (closingImage x) g h same fits e new-closing room (an-entry (closing-entry b′ (used b) is-closing) closing-good), (closing-entry b′ (used b) is-closing, closing))

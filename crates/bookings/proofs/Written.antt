@@ -1,12 +1,11 @@
 -- The records of a book after each of the three ways of writing: a user enrolled, an account set, an entry added.
-use Prim.Native.Nat.{ℕ, _+_, _*_, _/_, _^_, _≤_, _<_}
-use mathlib.Core.Path.{_≡_, refl, sym, ap, _∙_}
-use mathlib.Core.Bool.{Bool, true}
+use Prim.Native.Nat.{ℕ, _+_, _*_, _^_, _≤_, _<_}
+use mathlib.Core.Path.{_≡_, ap, _∙_}
+use mathlib.Core.Bool.{true}
 use mathlib.Core.List.{List}
 use native.Mathlib.Omega.{arith}
 use lib.ListN.{length}
 use Rattle.units.specs.Units.{recordIndex}
-use Rattle.values.specs.declared.Details.{Details}
 use Rattle.accounts.specs.declared.Account.{Account}
 use Rattle.layout.specs.Fields.{recordLength, get, allZero, unnamedOfHead, recordAt, putRecord, capacity, usedField, firstUserField, userKind}
 use Rattle.layout.proofs.Places.{length-put, record-put-same, record-put-other}
@@ -17,8 +16,8 @@ use Rattle.records.proofs.Heads.{length-head-image, bytes-head-image, head-unna
 use Rattle.records.proofs.Users.{length-user-image, bytes-user-image}
 use Rattle.book.specs.Book.{used, firstUser, isUser, nextOf, firstEntryOf}
 use Rattle.book.proofs.RecordKinds.{kind-index}
-use Rattle.calls.specs.Bookings.{newAccount, enrolledAs, enrolled, withAccount, withEntry}
-use Rattle.bookings.proofs.Good.{Good, Sizes, sizes}
+use Rattle.calls.specs.Changes.{enrolledAs, withAccount, withEntry}
+use Rattle.bookings.proofs.Good.{Good, sizes}
 
 -- the head of b holds u and the first user, and nothing else
 pub record HeadAt (b : List ℕ) (count first : ℕ) : Type 0 where
@@ -96,20 +95,15 @@ module _ (b : List ℕ) (g : Good b) where
         others = λ j lo n. let front : j ≡ 0 → ⊥ = omega arith in q .others j front ∙ p .others j n;
       }
 
-  pub user-enrolled-as : (a : Account) → used b < capacity b → UserEnrolled b (enrolledAs a b) (newUser b a)
+  pub user-enrolled : (a : Account) → used b < capacity b → UserEnrolled b (enrolledAs a b) (newUser b a)
   unfolding enrolledAs
-  user-enrolled-as a room =
+  user-enrolled a room =
       let s = sizes b g in
       let u = newUser b a in
       let p = put b (used b) (userImage u) (g .bytes) (length-user-image u) (bytes-user-image u) (omega arith) in
       let q = put (putRecord (used b) (userImage u) b) 0 (headImage (used b + 1) (used b)) (p .bytes) (length-head-image (used b + 1) (used b))
       (bytes-head-image (used b + 1) (used b)) (omega (arith, p .length-same, s .from)) in
       enrolled-by (putRecord (used b) (userImage u) b) (enrolledAs a b) u room p q
-
-  pub user-enrolled : (number : ℕ) (d : Details) (option : ℕ) → used b < capacity b
-      → UserEnrolled b (enrolled number d option b) (newUser b (newAccount number d option))
-  unfolding enrolled
-  user-enrolled number d option room = user-enrolled-as (newAccount number d option) room
 
   pub account-set : (i : ℕ) (a : Account) → isUser b i ≡ true → AccountSet b (withAccount i a b) i a
   unfolding withAccount

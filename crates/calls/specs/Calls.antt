@@ -8,7 +8,12 @@ use lib.Dec.{eqb}
 use Rattle.sheet.specs.YearSheet.{sheetUser, sheetYear, refused11, refused13, refused14}
 use Rattle.values.specs.declared.Details.{Details}
 use Rattle.book.specs.Book.{lengthFits, sound, faulty, detailsFit}
-use Rattle.calls.specs.Bookings.{enrolled, elected, advanced, runAmount, closed, valuesOf}
+use Rattle.units.specs.Units.{ticks}
+use Rattle.values.specs.YearsValues.{yearValues}
+use Rattle.accounts.specs.declared.Account.{Account}
+use Rattle.accounts.specs.Account.{accountElected, accountAdvanced, accountClosed, settled}
+use Rattle.records.specs.Entries.{advanceEntry, closingEntry}
+use Rattle.calls.specs.Changes.{Change, nothing, opens, sets, enters, applied, newAccount, runAmount}
 use Rattle.book.specs.Find.{findUser}
 use Rattle.calls.specs.Rules.{Rule, _unless_, refusedBy}
 use Rattle.calls.specs.Refusals.{Look, lookAt, numberFree, present, dayAndOption, electionOpen, runOpen, orderFits, yearOpen, userAt}
@@ -50,17 +55,20 @@ orderOf b c = (1 unless lengthFits b) ∷ (2 unless sound b) ∷ rulesOf (lookAt
 unfoldable pub refusalOf : List ℕ → Call → ℕ
 refusalOf b c = refusedBy (orderOf b c)
 
--- the ticks that an advance pays
-unfoldable pub paidBy : List ℕ → ℕ → ℕ → ℕ → ℕ → ℕ → ℕ → ℕ
-paidBy b number year run rate estimate1 estimate2 = runAmount (userAt b number) year run rate estimate1 estimate2
+-- what an accepted call changes, by the account of the user that it names: "An election sets the option"; "Each run adds one
+-- entry, joins the advances field and sets its bit."; a closing is entered with its sums
+unfoldable pub changeOf : Account → Call → Change
+changeOf a (enrol n d o) = opens (newAccount n d o)
+changeOf a (elect n o y m d) = sets (accountElected o a)
+changeOf a (advance n y r p e₁ e₂) =
+    let paid = runAmount a y r p e₁ e₂ in enters (accountAdvanced r paid a) (advanceEntry y r (ticks paid))
+changeOf a (close s) =
+    let v = yearValues s (a .details) in enters (accountClosed v a) (closingEntry (a .«open_year») (a .option) (settled a v))
+changeOf a (statement n) = nothing
 
 -- the book after an accepted call
 unfoldable pub booked : List ℕ → Call → List ℕ
-booked b (enrol n d o) = enrolled n d o b
-booked b (elect n o y m d) = elected (findUser b n) o b
-booked b (advance n y r p e₁ e₂) = advanced (findUser b n) y r (paidBy b n y r p e₁ e₂) b
-booked b (close s) = closed (findUser b (sheetUser s)) (valuesOf b s) b
-booked b (statement n) = b
+booked b c = applied (findUser b (namedBy c)) (changeOf (userAt b (namedBy c)) c) b
 
 -- the book after a call
 unfoldable pub bookAfter : List ℕ → Call → List ℕ

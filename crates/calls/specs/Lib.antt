@@ -1,4 +1,6 @@
-pub mod Bookings
-pub mod Refusals
 pub mod Rules
+pub mod Changes
+pub mod Refusals
 pub mod Calls
+pub mod Typed
+pub mod Laws

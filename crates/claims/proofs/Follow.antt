@@ -15,7 +15,8 @@ use Rattle.elect.proofs.Contract.{elect-says}
 use Rattle.advance.proofs.Contract.{advance-says}
 use Rattle.close.proofs.Contract.{close-says}
 use Rattle.statement.proofs.Contract.{statement-says}
-use Rattle.demand.specs.Demand.{posted, valueBy, isAccepted, fed, bookAfterAll, ledgerAfter, valueIn, AllTyped, NeverDamaged}
+use Rattle.demand.specs.Demand.{posted, valueBy, isAccepted, fed, bookAfterAll, ledgerAfter, valueIn, NeverDamaged}
+use Rattle.calls.specs.Typed.{AllTyped}
 use Rattle.claims.specs.Runs.{Made, made, Calls, enrols, elects, advances, closes, states, Runs, done, andThen}
 use Rattle.claims.specs.Claims.{isFor, ledgerOf, valueOf, NoneDamaged}
 

@@ -11,12 +11,14 @@ use Rattle.units.specs.Units.{recordIndex, userNumber, ticks}
 use Rattle.units.specs.declared.Rate.{Rate}
 use Rattle.units.specs.declared.WideKwh.{WideKwh}
 use Rattle.book.specs.Book.{used}
-use Rattle.calls.specs.Calls.{Call, enrol, elect, advance, close, statement, refusalOf, booked, bookAfter}
+use Rattle.calls.specs.Calls.{Call, enrol, elect, advance, close, statement, refusalOf, changeOf, booked, bookAfter}
+use Rattle.calls.specs.Changes.{applied}
 use Rattle.answers.specs.Answers.{Answered}
 use Rattle.advance.specs.Advances.{ticksAnswered}
 use Rattle.close.specs.Closings.{sumsAnswered}
 use Rattle.statement.specs.Stated.{sumsStated}
-use Rattle.demand.specs.Demand.{bookAfterAll, AllTyped, NeverDamaged}
+use Rattle.demand.specs.Demand.{bookAfterAll, NeverDamaged}
+use Rattle.calls.specs.Typed.{AllTyped}
 use Rattle.claims.specs.Runs.{Made, made, Calls, enrols, elects, advances, closes, states, Runs, done, andThen}
 
 -- a buffer that holds these bytes
@@ -28,7 +30,7 @@ module _ (b : List ℕ) where
   right c answered other = record { refusal-is = refl; names = record { damaged = λ two. absurd (other two); else = λ p. refl }; book-is = refl }
 
   stated-left : (n : ℕ) → bookAfter b (statement n) ≡ b
-  unfolding bookAfter booked
+  unfolding bookAfter booked applied changeOf
   stated-left n = by-value (eqb (refusalOf b (statement n)) 0)
     where
       by-value : (t : Bool) → cond t b b ≡ b

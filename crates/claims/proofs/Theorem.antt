@@ -25,7 +25,7 @@ use Rattle.calls.specs.Rules.{testOf}
 use Rattle.calls.specs.Refusals.{lookAt}
 use Rattle.calls.specs.Calls.{Call, enrol, elect, advance, close, statement, namedBy, rulesOf, refusalOf}
 use Rattle.calls.proofs.Orders.{fact}
-use Rattle.bookings.proofs.EnrolElect.{named-user}
+use Rattle.bookings.proofs.CallsFit.{named-user}
 use Rattle.statements.specs.declared.Sums.{Sums}
 use Rattle.statements.specs.Walk.{sumsOf}
 use Rattle.statements.proofs.Toward.{mag-size}

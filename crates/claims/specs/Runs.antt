@@ -5,7 +5,7 @@ use Prim.Native.Nat.{ℕ}
 use mathlib.Core.List.{List, [], _∷_}
 use denote.Ref.{now}
 use Rattle.calls.specs.Calls.{Call, enrol, elect, advance, close, statement}
-use Rattle.demand.specs.Demand.{Typed}
+use Rattle.calls.specs.Typed.{Typed}
 use Rattle.enrol.proofs.enrol.Reads as enrol-of
 use Rattle.elect.proofs.elect.Reads as elect-of
 use Rattle.advance.proofs.advance.Reads as advance-of

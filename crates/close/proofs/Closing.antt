@@ -18,19 +18,21 @@ use Rattle.accounts.specs.Account.{InRange}
 use Rattle.book.specs.Book.{isUser, accountAt, accountFits}
 use Rattle.book.proofs.Faultless.{sound-faultless}
 use Rattle.soundness.specs.Verdicts.{Accepted}
-use Rattle.calls.specs.Bookings.{closingEntry, closed, valuesOf}
+use Rattle.calls.specs.Changes.{enters, applied}
 use Rattle.book.specs.Find.{findUser}
 use Rattle.calls.specs.Rules.{testOf, refusedBy as refusedBy}
 use Rattle.calls.specs.Refusals.{lookOf, lookAt, hasRoom, yearOpen}
-use Rattle.calls.specs.Calls.{Call, close, namedBy, rulesOf, refusalOf, booked}
+use Rattle.calls.specs.Calls.{Call, close, namedBy, rulesOf, refusalOf, changeOf, booked}
 use Rattle.bookings.proofs.Widths.{account-within}
 use Rattle.calls.proofs.Orders.{fact}
-use Rattle.bookings.proofs.EnrolElect.{named-user}
+use Rattle.bookings.proofs.CallsFit.{named-user}
 use Rattle.answers.specs.Answers.{Answered}
 use Rattle.answers.proofs.Answers.{sound-refusal, refused-by-rule, accepted}
 use Rattle.answers.proofs.Rooms.{entry-fits}
-use Rattle.close.specs.declared.ClosingSums.{ClosingSums}
-use Rattle.close.specs.Closings.{YearFits, entrySums, noSums, sumsAnswered}
+use Rattle.accounts.specs.declared.ClosingSums.{ClosingSums}
+use Rattle.accounts.specs.Account.{accountClosed, settled}
+use Rattle.records.specs.Entries.{closingEntry}
+use Rattle.close.specs.Closings.{YearFits, noSums, sumsAnswered}
 
 -- beside a refusal there are no sums
 pub no-sums-answered : (b s : List ℕ) (refusal : ℕ) → (refusal ≡ 0 → ⊥) → (sums : ClosingSums) → sums ≡ noSums → sums ≡ sumsAnswered b s refusal
@@ -87,8 +89,7 @@ module _ (b : List ℕ) (a : Accepted b) (s : List ℕ) (user : RecordIndex) (ac
       passed = let met = fact b (close s) none-refused in record { past11 = not-true (refused11 s) (met 11); past13 = not-true (refused13 s) (met 13) }
 
       module _ (v : YearValues) (worked : (v ≡ yearValues s (account .details)) × ValuesFit v) where
-        values-are : v ≡ valuesOf b s
-        unfolding valuesOf
+        values-are : v ≡ yearValues s (accountAt b (findUser b n) .details)
         values-are = worked .0 ∙ ap (λ x. yearValues s (x .details)) account-is
 
         pub year-fits : YearFits b (user .0) account v
@@ -100,10 +101,12 @@ module _ (b : List ℕ) (a : Accepted b) (s : List ℕ) (user : RecordIndex) (ac
               in-range = in-range account v (sheetYear s) account-fits (worked .1) (rw account-is (met 12));
             }
 
-        pub close-booked : (after : List ℕ) → after ≡ closed (user .0) v b → Answered b (close s) 0 0 0 after
-        unfolding booked
-        close-booked after e = accepted b (close s) 0 after none-refused (e ∙ rw (values-are, there))
+        pub close-booked : (after : List ℕ)
+            → after ≡ applied (user .0) (enters (accountClosed v account) (closingEntry (account .«open_year») (account .option) (settled account v))) b
+            → Answered b (close s) 0 0 0 after
+        unfolding booked changeOf namedBy
+        close-booked after e = accepted b (close s) 0 after none-refused (e ∙ rw (values-are, account-is, there))
 
-        pub sums-answered : (sums : ClosingSums) → sums ≡ entrySums (closingEntry b (user .0) v) → sums ≡ sumsAnswered b s 0
+        pub sums-answered : (sums : ClosingSums) → sums ≡ settled account v → sums ≡ sumsAnswered b s 0
         unfolding sumsAnswered
-        sums-answered sums e = e ∙ rw (values-are, there)
+        sums-answered sums e = e ∙ rw (values-are, account-is)

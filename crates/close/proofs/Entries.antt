@@ -1,6 +1,6 @@
 -- A closing's entry in the book.
 use Prim.Native.Nat.{ℕ}
-use mathlib.Core.Path.{_≡_, ap, sym, _∙_}
+use mathlib.Core.Path.{_≡_, ap, _∙_}
 use mathlib.Core.List.{List}
 use Rattle.units.specs.declared.RecordIndex.{RecordIndex}
 use Rattle.units.specs.declared.Ticks.{Ticks}
@@ -9,16 +9,17 @@ use Rattle.values.specs.declared.YearValues.{YearValues}
 use Rattle.accounts.specs.declared.Account.{Account}
 use Rattle.accounts.specs.declared.Closed.{Closed}
 use Rattle.accounts.specs.declared.Settlement.{Settlement}
-use Rattle.accounts.specs.Account.{liquidationIn, lapsedIn, settlementOf, accountClosed, closedOf}
+use Rattle.accounts.specs.Account.{liquidationIn, lapsedIn, settlementOf, accountClosed, closedOf, settled}
 use Rattle.accounts.proofs.Outcomes.{outcome-liquidation, outcome-lapsed}
 use Rattle.records.specs.declared.ClosingRecord.{ClosingRecord}
 use Rattle.records.specs.Records.{closingImage}
-use Rattle.book.specs.Book.{firstEntryOf, accountAt}
-use Rattle.calls.specs.Bookings.{closingEntry, withEntry, closed}
+use Rattle.records.specs.Entries.{closingEntry, closingRecord, entryImage}
+use Rattle.book.specs.Book.{firstEntryOf}
+use Rattle.calls.specs.Changes.{enters, withEntry, applied}
 
-module _ (b : List ℕ) (user : RecordIndex) (a : Account) (v : YearValues) (read : a ≡ accountAt b (user .0)) where
+module _ (user : RecordIndex) (a : Account) (v : YearValues) where
   -- the entry made of a settlement
-  pub entry-is : (first : RecordIndex) → first ≡ recordIndex (firstEntryOf b (user .0)) → (s : Settlement) → s ≡ closedOf v a .settlement → (paidOut lapsed : Ticks)
+  pub entry-is : (first : RecordIndex) (s : Settlement) → s ≡ closedOf v a .settlement → (paidOut lapsed : Ticks)
       → paidOut .0 ≡ liquidationIn (s .outcome) → lapsed .0 ≡ lapsedIn (s .outcome)
       → record {
         next = first;
@@ -33,16 +34,18 @@ module _ (b : List ℕ) (user : RecordIndex) (a : Account) (v : YearValues) (rea
         balance = s .balance;
         owner = user;
       }
-      ≡ closingEntry b (user .0) v
-  unfolding closingEntry closedOf settlementOf
-  entry-is first f s e paidOut lapsed p l =
+      ≡ closingRecord (first .0) (user .0) (a .«open_year») (a .option) (settled a v)
+  unfolding settled closedOf settlementOf
+  entry-is first s e paidOut lapsed p l =
       let option = a .option in
       let k = a .credit .0 in
       let out = ap ticks (p ∙ ap (λ x. liquidationIn (x .outcome)) e ∙ outcome-liquidation option k (v .value .0) (v .cost .0)) in
       let gone = ap ticks (l ∙ ap (λ x. lapsedIn (x .outcome)) e ∙ outcome-lapsed option k (v .value .0) (v .cost .0)) in
-      rw (out, gone, e, f, read)
+      rw (out, gone, e)
 
-  pub year-booked : (after : Closed) → after ≡ closedOf v a → (entry : ClosingRecord) → entry ≡ closingEntry b (user .0) v → (image : List ℕ) → image ≡ closingImage entry
-      → (b′ : List ℕ) → b′ ≡ withEntry (user .0) (after .account) image b → b′ ≡ closed (user .0) v b
-  unfolding closed closedOf
-  year-booked after e entry f image g b′ w = rw (w, g, f, e, read)
+  pub year-booked : (b : List ℕ) (first : RecordIndex) → first ≡ recordIndex (firstEntryOf b (user .0)) → (after : Closed) → after ≡ closedOf v a → (entry : ClosingRecord)
+      → entry ≡ closingRecord (first .0) (user .0) (a .«open_year») (a .option) (settled a v) → (image : List ℕ) → image ≡ closingImage entry
+      → (b′ : List ℕ) → b′ ≡ withEntry (user .0) (after .account) image b
+      → b′ ≡ applied (user .0) (enters (accountClosed v a) (closingEntry (a .«open_year») (a .option) (settled a v))) b
+  unfolding applied entryImage closedOf
+  year-booked b first f after e entry is image g b′ w = rw (w, g, is, e, f)

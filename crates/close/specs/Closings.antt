@@ -8,24 +8,13 @@ use Rattle.units.specs.Units.{ticks}
 use Rattle.sheet.specs.YearSheet.{sheetUser}
 use Rattle.values.specs.declared.YearValues.{YearValues}
 use Rattle.accounts.specs.declared.Account.{Account}
-use Rattle.accounts.specs.Account.{balanceBits, InRange}
+use Rattle.accounts.specs.Account.{balanceBits, settled, InRange}
 use Rattle.records.specs.declared.ClosingRecord.{ClosingRecord}
-use Rattle.calls.specs.Bookings.{closingEntry, valuesOf}
+use Rattle.values.specs.YearsValues.{yearValues}
+use Rattle.calls.specs.Refusals.{userAt}
 use Rattle.book.specs.Find.{findUser}
 use Rattle.answers.specs.Rooms.{EntryFits}
-use Rattle.close.specs.declared.ClosingSums.{ClosingSums}
-
-unfoldable pub entrySums : ClosingRecord → ClosingSums
-entrySums c =
-    record {
-      value = c .value;
-      cost = c .cost;
-      «flat_rate» = c .«flat_rate»;
-      contribution = c .contribution;
-      liquidation = c .liquidation;
-      lapsed = c .lapsed;
-      balance = c .balance;
-    }
+use Rattle.accounts.specs.declared.ClosingSums.{ClosingSums}
 
 unfoldable pub noSums : ClosingSums
 noSums =
@@ -40,7 +29,7 @@ noSums =
     }
 
 unfoldable pub sumsAnswered : List ℕ → List ℕ → ℕ → ClosingSums
-sumsAnswered b s refusal = cond (eqb refusal 0) (entrySums (closingEntry b (findUser b (sheetUser s)) (valuesOf b s))) noSums
+sumsAnswered b s refusal = cond (eqb refusal 0) (settled (userAt b (sheetUser s)) (yearValues s (userAt b (sheetUser s) .details))) noSums
 
 -- the year of the user i, whose account is a, can be closed with these values, and its entry fits into the book
 pub record YearFits (b : List ℕ) (i : ℕ) (a : Account) (v : YearValues) : Type 0 where

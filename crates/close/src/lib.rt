@@ -1,36 +1,24 @@
 // Closing a year (document 01, "Closing"): refusals 1 2 11 6 12 13 14 3, then the year's entry in front of the user's chain.
 ghost use mathlib.Core.Path.{_≡_};
-ghost use mathlib.Core.List.{List};
-ghost use Prim.Native.Nat.{ℕ};
 ghost use Rattle.units.specs.Units.{recordIndex};
 ghost use Rattle.sheet.specs.YearSheet.{sheetUser};
-ghost use Rattle.accounts.specs.Account.{closedOf};
-ghost use Rattle.book.specs.Book.{firstEntryOf, accountAt};
-ghost use Rattle.calls.specs.Bookings.{closingEntry, closed};
+ghost use Rattle.accounts.specs.Account.{accountClosed, closedOf, settled};
+ghost use Rattle.records.specs.Entries.{closingEntry, closingRecord, sumsIn};
+ghost use Rattle.calls.specs.Changes.{enters, applied};
 ghost use Rattle.book.specs.Find.{findUser};
 ghost use Rattle.calls.specs.Calls.{close};
 ghost use Rattle.soundness.specs.Verdicts.{Accepted};
 ghost use Rattle.answers.specs.Answers.{Answered};
-ghost use Rattle.close.specs.Closings.{YearFits, entrySums, noSums, sumsAnswered};
+ghost use Rattle.close.specs.Closings.{YearFits, noSums, sumsAnswered};
 use accounts::Account;
 use accounts::Balance;
+use accounts::ClosingSums;
 use accounts::Settlement;
 use records::ClosingRecord;
 use soundness::Found;
 use units::RecordIndex;
 use units::Ticks;
 use values::YearValues;
-
-// The sums of a closing's entry.
-pub struct ClosingSums {
-    pub value: Ticks,
-    pub cost: Ticks,
-    pub flat_rate: Ticks,
-    pub contribution: Ticks,
-    pub liquidation: Ticks,
-    pub lapsed: Ticks,
-    pub balance: Balance,
-}
 
 pub struct Closed {
     pub refusal: u32,
@@ -53,7 +41,7 @@ fn no_sums() -> ClosingSums
 }
 
 fn entry_sums(entry: ClosingRecord) -> ClosingSums
-    ensures { λ r. ⌜ r ≡ entrySums entry ⌝ }
+    ensures { λ r. ⌜ r ≡ sumsIn entry ⌝ }
 {
     let value = entry.value;
     let cost = entry.cost;
@@ -81,7 +69,7 @@ fn closing_entry(
     values: YearValues,
     settlement: Settlement,
 ) -> ClosingRecord
-    ensures { λ r. ⌜ ((b : List ℕ) → account ≡ accountAt b (user .0) → first ≡ recordIndex (firstEntryOf b (user .0)) → settlement ≡ closedOf values account .settlement → r ≡ closingEntry b (user .0) values) ⌝ }
+    ensures { λ r. ⌜ (settlement ≡ closedOf values account .settlement → r ≡ closingRecord (first .0) (user .0) (account .«open_year») (account .option) (settled account values)) ⌝ }
 {
     let value = values.value;
     let cost = values.cost;
@@ -114,8 +102,8 @@ fn book_year(
     values: YearValues,
 ) -> ClosingSums
     requires { ⌜ YearFits (now book) (user .0) account values ⌝ }
-    ensures { λ _. ⌜ now (book .exit) ≡ closed (user .0) values (now (book .entry)) ⌝ }
-    ensures { λ r. ⌜ r ≡ entrySums (closingEntry (now (book .entry)) (user .0) values) ⌝ }
+    ensures { λ _. ⌜ now (book .exit) ≡ applied (user .0) (enters (accountClosed values account) (closingEntry (account .«open_year») (account .option) (settled account values))) (now (book .entry)) ⌝ }
+    ensures { λ r. ⌜ r ≡ settled account values ⌝ }
 {
     let first = view::first_entry_of(book, user);
     let after = account.closed(values);

@@ -1,12 +1,6 @@
-pub mod Agreement
-pub mod LedgerSteps
-pub mod Histories
-pub mod Found
-pub mod Effects
-pub mod States
-pub mod CallSteps
-pub mod OneCall
+pub mod Statements
+pub mod Ledgers
+pub mod Accepted
 pub mod Lists
 pub mod Undamaged
-pub mod CallEffects
 pub mod Theorem

@@ -17,14 +17,10 @@ use Rattle.soundness.proofs.FreshBooks.{fresh-accepted, used-fresh}
 use Rattle.ledger.specs.Ledger.{Ledger}
 use Rattle.calls.specs.Calls.{Call}
 use Rattle.bookings.proofs.Good.{Good, sound-good}
-use Rattle.demand.specs.Demand.{ledgerAfter, AllTyped, Demand, NeverDamaged}
-use Rattle.demand.proofs.CallEffects.{enrols, elects, advances, closes}
-use Rattle.demand.proofs.OneCall.{Effects}
+use Rattle.calls.specs.Typed.{AllTyped}
+use Rattle.demand.specs.Demand.{ledgerAfter, Demand, NeverDamaged}
 use Rattle.demand.proofs.Lists as lists
 use Rattle.demand.proofs.Undamaged as undamaged
-
-effects : Effects
-effects = record { enrols = enrols; elects = elects; advances = advances; closes = closes }
 
 fresh-bytes : (n : ℕ) → Bytes (freshBook n)
 unfolding freshBook
@@ -50,8 +46,8 @@ module _ (b : List ℕ) (fits : lengthFits b ≡ true) where
   -- whatever is called, each user's statement is the ledger's, and the ledger's sums are right
   pub third-demand : (cs : List Call) → AllTyped cs → (number : ℕ) (l : Ledger) → ledgerAfter number (freshBook (length b)) cs none ≡ some l
       → Demand (freshBook (length b)) cs number l
-  third-demand cs typed number l fed = lists.demand effects number cs (freshBook (length b)) fresh-good fresh-empty typed l fed
+  third-demand cs typed number l fed = lists.demand number cs (freshBook (length b)) fresh-good fresh-empty typed l fed
 
   -- and no call finds the book damaged
   pub never-damaged : (cs : List Call) → AllTyped cs → NeverDamaged (freshBook (length b)) cs
-  never-damaged cs typed = undamaged.never-damaged effects cs (freshBook (length b)) fresh-good fresh-empty typed
+  never-damaged cs typed = undamaged.never-damaged cs (freshBook (length b)) fresh-good typed

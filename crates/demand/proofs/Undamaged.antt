@@ -12,10 +12,10 @@ use Rattle.calls.specs.Refusals.{lookAt}
 use Rattle.calls.specs.Calls.{Call, enrol, elect, advance, close, statement, namedBy, rulesOf, refusalOf, bookAfter}
 use Rattle.calls.proofs.Rules.{never-answered}
 use Rattle.calls.proofs.Orders.{reserved}
-use Rattle.demand.specs.Demand.{Typed, AllTyped, NeverDamaged}
+use Rattle.calls.specs.Typed.{AllTyped}
+use Rattle.bookings.proofs.EveryCall.{call-good}
+use Rattle.demand.specs.Demand.{NeverDamaged}
 use Rattle.bookings.proofs.Good.{Good, good-sound}
-use Rattle.demand.proofs.States.{State, unknown}
-use Rattle.demand.proofs.OneCall.{Effects, moves}
 
 -- neither 1 nor 2
 pub record Undamaged (n : ℕ) : Type 0 where
@@ -31,14 +31,10 @@ good-refusal b g c =
     rw (g .length, good-sound b g)
     (record { notLength = never-answered 1 (rulesOf v c) (own .one) (omega arith); notFaulty = never-answered 2 (rulesOf v c) (own .two) (omega arith) })
 
-module _ (fx : Effects) where
-  along : (cs : List Call) (b : List ℕ) → Good b → AllTyped cs → (n : ℕ) {m : Option Ledger} {v : ℕ} → State b n m v → NeverDamaged b cs
-  unfolding NeverDamaged AllTyped
-  along [] b g t n st = tt
-  along (c ∷ cs) b g t n st =
-      let one = moves fx b g n c (t .0) st in
-      let here = good-refusal b g c in
-      (here .notLength, here .notFaulty, along cs (bookAfter b c) (one .good) (t .1) n (one .state))
-
-  pub never-damaged : (cs : List Call) (b : List ℕ) → Good b → ((i : ℕ) → isUser b i ≡ true → ⊥) → AllTyped cs → NeverDamaged b cs
-  never-damaged cs b g empty t = along cs b g t 0 (unknown (λ i u q. empty i u))
+-- along a list every book is good
+pub never-damaged : (cs : List Call) (b : List ℕ) → Good b → AllTyped cs → NeverDamaged b cs
+unfolding NeverDamaged AllTyped
+never-damaged [] b g t = tt
+never-damaged (c ∷ cs) b g t =
+    let here = good-refusal b g c in
+    (here .notLength, here .notFaulty, never-damaged cs (bookAfter b c) (call-good b g c (t .0)) (t .1))

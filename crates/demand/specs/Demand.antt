@@ -1,14 +1,13 @@
 -- The mission's third demand, about every list of calls from a fresh book: "Each call gets the book as the last one left
 -- it", and "A user's ledger is fed the arguments of the list's calls for its number that answered 0, in order, and nothing
 -- from the book." (document 01, "Ledger")
-use Prim.Native.Nat.{ℕ, _+_, _^_, _<_}
+use Prim.Native.Nat.{ℕ, _+_}
 use mathlib.Core.Path.{_≡_}
 use mathlib.Core.Bool.{Bool, true, false, cond, _&&_}
 use mathlib.Core.List.{List, [], _∷_}
 use mathlib.Core.Option.{Option, none, some}
 use lib.Dec.{eqb}
 use lib.IntN.{pos}
-use lib.ListN.{getD}
 use Rattle.values.specs.declared.Details.{Details}
 use Rattle.ledger.specs.Ledger.{Item, Ledger, enrolled, elected, advanced, closed, sheetValue, statementOf}
 use Rattle.ledger.specs.Accounting.{conserved, Standing, lapsedOver, Consecutive}
@@ -55,19 +54,6 @@ valueBy d (statement n) = 0
 unfoldable pub valueIn : ℕ → Details → List ℕ → List Call → ℕ
 valueIn number d b [] = 0
 valueIn number d b (c ∷ cs) = cond (isAccepted number b c) (valueBy d c) 0 + valueIn number d (bookAfter b c) cs
-
--- arguments as the interface's types hold them
-unfoldable pub Typed : Call → Type 0
-Typed (enrol n d o) =
-    (n < 2 ^ 32) × (o < 2 ^ 8) × (d .class < 2 ^ 8) × (d .plant < 2 ^ 8) × (d .power < 2 ^ 32) × (d .year < 2 ^ 16) × (d .month < 2 ^ 8) × (d .island < 2 ^ 8)
-Typed (elect n o y m d) = (n < 2 ^ 32) × (o < 2 ^ 8) × (y < 2 ^ 32) × (m < 2 ^ 32) × (d < 2 ^ 32)
-Typed (advance n y r p e₁ e₂) = (n < 2 ^ 32) × (y < 2 ^ 32) × (r < 2 ^ 8) × (p < 2 ^ 64) × (e₁ < 2 ^ 64) × (e₂ < 2 ^ 64)
-Typed (close s) = (k : ℕ) → getD s k 0 < 256
-Typed (statement n) = n < 2 ^ 32
-
-unfoldable pub AllTyped : List Call → Type 0
-AllTyped [] = Unit {0}
-AllTyped (c ∷ cs) = Typed c × AllTyped cs
 
 -- THE DEMAND, of the book b, a list of calls, a number and the ledger fed by the list
 pub record Demand (b : List ℕ) (cs : List Call) (number : ℕ) (l : Ledger) : Type 0 where

@@ -11,11 +11,11 @@ use Rattle.accounts.specs.declared.Account.{Account}
 use Rattle.accounts.specs.Account.{accountElected}
 use Rattle.book.specs.Book.{accountAt}
 use Rattle.soundness.specs.Verdicts.{Accepted}
-use Rattle.calls.specs.Bookings.{withAccount, elected}
+use Rattle.calls.specs.Changes.{withAccount, applied}
 use Rattle.book.specs.Find.{findUser}
 use Rattle.calls.specs.Rules.{refusedBy}
 use Rattle.calls.specs.Refusals.{lookOf, lookAt, hasRoom}
-use Rattle.calls.specs.Calls.{Call, elect, namedBy, rulesOf, booked}
+use Rattle.calls.specs.Calls.{Call, elect, namedBy, rulesOf, changeOf, booked}
 use Rattle.answers.specs.Answers.{Answered}
 use Rattle.answers.proofs.Answers.{sound-refusal, refused-by-rule, accepted}
 
@@ -37,6 +37,6 @@ module _ (b : List ℕ) (a : Accepted b) (n o y m d : ℕ) (user : RecordIndex) 
 
     pub elect-booked : r ≡ 0 → (next : Account) → next ≡ accountElected o account → (after : List ℕ) → after ≡ withAccount (user .0) next b
         → Answered b (elect n o y m d) 0 0 0 after
-    unfolding booked elected
+    unfolding booked applied changeOf namedBy
     elect-booked none next f after g =
         accepted b (elect n o y m d) 0 after (sound-refusal b c a ∙ sym by-rule ∙ none) (g ∙ rw (f, read, there))

@@ -13,11 +13,11 @@ use Rattle.accounts.specs.declared.Account.{Account}
 use Rattle.layout.specs.Fields.{recordLength}
 use Rattle.book.specs.Book.{used, accountAt}
 use Rattle.soundness.specs.Verdicts.{Accepted}
-use Rattle.calls.specs.Bookings.{newAccount, enrolledAs, enrolled}
+use Rattle.calls.specs.Changes.{newAccount, enrolledAs, applied}
 use Rattle.book.specs.Find.{findUser}
 use Rattle.calls.specs.Rules.{testOf, refusedBy as refusedBy}
 use Rattle.calls.specs.Refusals.{lookOf, lookAt, hasRoom}
-use Rattle.calls.specs.Calls.{Call, enrol, namedBy, rulesOf, refusalOf, booked}
+use Rattle.calls.specs.Calls.{Call, enrol, namedBy, rulesOf, refusalOf, changeOf, booked}
 use Rattle.calls.proofs.Orders.{fact}
 use Rattle.answers.specs.Answers.{Answered}
 use Rattle.answers.proofs.Answers.{sound-refusal, refused-by-rule, accepted}
@@ -40,7 +40,7 @@ module _ (b : List ℕ) (a : Accepted b) (n : ℕ) (d : Details) (o : ℕ) (user
 
     pub enrol-booked : r ≡ 0 → (named : ℕ) → named ≡ used b → (account : Account) → account ≡ newAccount n d o → (after : List ℕ) → after ≡ enrolledAs account b
         → Answered b (enrol n d o) (used b) 0 named after
-    unfolding booked enrolled
+    unfolding booked applied changeOf namedBy
     enrol-booked none named e account f after g =
         rw e (accepted b (enrol n d o) (used b) after (none-refused none) (g ∙ ap (λ x. enrolledAs x b) f))
 

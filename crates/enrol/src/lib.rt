@@ -2,7 +2,7 @@
 ghost use mathlib.Core.Path.{_≡_};
 ghost use Rattle.units.specs.Units.{recordIndex};
 ghost use Rattle.book.specs.Book.{used};
-ghost use Rattle.calls.specs.Bookings.{newAccount};
+ghost use Rattle.calls.specs.Changes.{newAccount};
 ghost use Rattle.book.specs.Find.{findUser};
 ghost use Rattle.calls.specs.Calls.{enrol};
 ghost use Rattle.soundness.specs.Verdicts.{Accepted};

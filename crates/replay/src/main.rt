@@ -1,10 +1,10 @@
 // Replays a script of calls on a book: one call a line on standard input, one answer a line on standard output, numbers in
 // decimal with one blank between. A line that is no call is answered `error` and changes nothing.
 use accounts::Balance;
+use accounts::ClosingSums;
 use advance::Advanced;
 use answers::Booked;
 use close::Closed;
-use close::ClosingSums;
 use libc::STDIN_FILENO;
 use libc::STDOUT_FILENO;
 use listing_text::Listed;

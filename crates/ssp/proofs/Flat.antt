@@ -8,7 +8,7 @@ use mir.Val.{Fits, toZ, ofZ}
 use mir.Facts.{ofZ-toZ}
 use Rattle.calls.specs.Calls.{close, statement}
 use Rattle.answers.specs.Answers.{Answered}
-use Rattle.close.specs.declared.ClosingSums.{ClosingSums}
+use Rattle.accounts.specs.declared.ClosingSums.{ClosingSums}
 use Rattle.close.specs.Closings.{sumsAnswered}
 use Rattle.statements.specs.declared.Sums as statements
 use Rattle.statement.specs.Stated.{sumsStated}

@@ -3,7 +3,7 @@ use Prim.Native.Nat.{ℕ}
 use mir.Syntax.{w64}
 use mir.Val.{toZ}
 use Rattle.values.specs.declared.Details.{Details}
-use Rattle.close.specs.declared.ClosingSums.{ClosingSums}
+use Rattle.accounts.specs.declared.ClosingSums.{ClosingSums}
 use Rattle.statements.specs.declared.Sums as statements
 use Rattle.ssp.specs.declared.Closed.{Closed}
 use Rattle.ssp.specs.declared.Sums.{Sums}

@@ -4,7 +4,8 @@ use Prim.Native.Nat.{ℕ}
 use mathlib.Core.Path.{_≡_, ap}
 use mathlib.Core.List.{List}
 use Rattle.calls.specs.Calls.{Call}
-use Rattle.demand.specs.Demand.{bookAfterAll, AllTyped, NeverDamaged}
+use Rattle.demand.specs.Demand.{bookAfterAll, NeverDamaged}
+use Rattle.calls.specs.Typed.{AllTyped}
 use Rattle.claims.specs.Runs as beneath
 use Rattle.claims.specs.Runs.{Made}
 use Rattle.claims.proofs.Possible as beneath-possible

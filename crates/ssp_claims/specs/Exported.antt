@@ -8,7 +8,7 @@ use denote.Ref.{now}
 use Rattle.ledger.specs.Ledger.{statementOf}
 use Rattle.statements.specs.Walk.{sumsOf}
 use Rattle.calls.specs.Calls.{enrol, elect, advance, close, statement}
-use Rattle.demand.specs.Demand.{Typed}
+use Rattle.calls.specs.Typed.{Typed}
 use Rattle.claims.specs.Runs.{Made, made}
 use Rattle.claims.specs.Claims.{UserRight, Enrols, NoneDamaged}
 use Rattle.ssp.specs.Flat.{detailsOf, flatSums}

@@ -14,7 +14,8 @@ use Rattle.soundness.specs.Verdicts.{Accepted}
 use Rattle.book.specs.Find.{findUser}
 use Rattle.calls.specs.Rules.{refusedBy}
 use Rattle.calls.specs.Refusals.{lookAt}
-use Rattle.calls.specs.Calls.{statement, namedBy, rulesOf, refusalOf, booked}
+use Rattle.calls.specs.Calls.{statement, namedBy, rulesOf, refusalOf, changeOf, booked}
+use Rattle.calls.specs.Changes.{applied}
 use Rattle.bookings.proofs.Numbers.{found}
 use Rattle.statements.specs.declared.Sums.{Sums}
 use Rattle.statements.specs.Walk.{sumsOf}
@@ -38,7 +39,7 @@ module _ (b : List ℕ) (a : Accepted b) (n : ℕ) (user : RecordIndex) (there :
 
   module _ (some : user .0 ≡ 0 → ⊥) where
     pub known : Answered b (statement n) 0 0 0 b
-    unfolding refusalOf refusedBy rulesOf lookAt namedBy booked
+    unfolding refusalOf refusedBy rulesOf lookAt namedBy booked applied changeOf
     known =
         accepted b (statement n) 0 b (rw (a .fits, a .isSound, ne-eqb (findUser b n) 0 (λ z. some (index-is ∙ z)))) refl
 

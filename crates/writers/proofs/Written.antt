@@ -8,7 +8,7 @@ use Rattle.accounts.specs.declared.Account.{Account}
 use Rattle.layout.specs.Fields.{putRecord}
 use Rattle.records.specs.Records.{headImage, userImage}
 use Rattle.book.specs.Book.{used, firstUser, nextOf}
-use Rattle.calls.specs.Bookings.{withEntry}
+use Rattle.calls.specs.Changes.{withEntry}
 
 pub entry-written : (b b₁ b₂ b₃ entry user head : List ℕ) (i new : ℕ) (a : Account) (next newest : RecordIndex)
     → new ≡ used b → newest ≡ recordIndex (firstUser b) → next ≡ recordIndex (nextOf b i)

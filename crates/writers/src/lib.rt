@@ -4,7 +4,7 @@ ghost use Prim.Native.Nat.{_+_, _*_, _≤_, _<_, _^_};
 ghost use lib.ListN.{length};
 ghost use Rattle.layout.specs.Fields.{recordLength};
 ghost use Rattle.book.specs.Book.{used};
-ghost use Rattle.calls.specs.Bookings.{enrolledAs, withAccount, withEntry};
+ghost use Rattle.calls.specs.Changes.{enrolledAs, withAccount, withEntry};
 use accounts::Account;
 use records::UserRecord;
 use units::RecordIndex;

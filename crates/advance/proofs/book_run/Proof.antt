@@ -32,7 +32,7 @@ returns : tie.Need-returns
 returns c =
     let s = c .before .before .before .before .before .before .before .before .before in
     let a = s .args in
-    run-booked (now (a .book)) (a .user) (a .account) (a .run) (a .paid) (s .pre .entry .account-is) (c .before .before .before .before .before .before .first-entry-of .result) (c .before .before .before .before .before .before .first-entry-of .ensures) (c .before .before .before .before .before .advance-image .result) (c .before .before .before .before .before .advance-image .ensures) (c .before .before .before .advanced .result) (c .before .before .before .advanced .ensures) _ (c .before .before .write-entry .ensures)
+    run-booked (now (a .book)) (a .user) (a .account) (a .run) (a .paid) (c .before .before .before .before .before .before .first-entry-of .result) (c .before .before .before .before .before .before .first-entry-of .ensures) (c .before .before .before .before .before .advance-image .result) (c .before .before .before .before .before .advance-image .ensures) (c .before .before .before .advanced .result) (c .before .before .before .advanced .ensures) _ (c .before .before .write-entry .ensures)
 
 pub book-run-spec : {M : Type 1} → statement M
 book-run-spec =

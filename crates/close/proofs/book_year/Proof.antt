@@ -3,7 +3,7 @@ use denote.Ref.{now}
 use mathlib.Core.Path.{ap, _∙_}
 use lib.ListN.{length}
 use Rattle.records.proofs.Closings.{length-closing-image}
-use Rattle.close.specs.Closings.{entrySums}
+use Rattle.records.specs.Entries.{sumsIn}
 use Rattle.close.proofs.Entries.{year-booked}
 use borrow.Author.Needs.{needs}
 use Rattle.close.proofs.book_year.Statement.{statement}
@@ -33,6 +33,7 @@ same-length : tie.Need-same-length
 same-length c = search needs
 
 returns : tie.Need-returns
+unfolding sumsIn
 returns c =
     let s = c .before .before .before .before .before .before .before .before .before .before .before in
     let a = s .args in
@@ -41,9 +42,9 @@ returns c =
     let after = c .before .before .before .before .before .before .before .closed in
     let entry = c .before .before .before .before .before .before .closing-entry in
     let image = c .before .before .before .before .before .closing-image in
-    let is = entry .ensures b (s .pre .entry .account-is) (first .ensures) (ap (λ x. x .settlement) (after .ensures)) in (
-      year-booked b (a .user) (a .account) (a .values) (s .pre .entry .account-is) (after .result) (after .ensures) (entry .result) is (image .result) (image .ensures) _ (c .before .before .before .write-entry .ensures),
-      c .entry-sums .ensures ∙ ap entrySums is,
+    let is = entry .ensures (ap (λ x. x .settlement) (after .ensures)) in (
+      year-booked (a .user) (a .account) (a .values) b (first .result) (first .ensures) (after .result) (after .ensures) (entry .result) is (image .result) (image .ensures) _ (c .before .before .before .write-entry .ensures),
+      c .entry-sums .ensures ∙ ap sumsIn is,
     )
 
 pub book-year-spec : {M : Type 1} → statement M

@@ -13,7 +13,7 @@ lapsed-in-requires c κs = search needs
 returns : tie.Need-returns
 returns c =
     let a = c .before .before .before .before .before .before .before .args in
-    λ b read f e. entry-is b (a .user) (a .account) (a .values) read (a .first) f (a .settlement) e (c .before .liquidation-in .result) (c .lapsed-in .result) (c .before .liquidation-in .ensures) (c .lapsed-in .ensures)
+    λ e. entry-is (a .user) (a .account) (a .values) (a .first) (a .settlement) e (c .before .liquidation-in .result) (c .lapsed-in .result) (c .before .liquidation-in .ensures) (c .lapsed-in .ensures)
 
 pub closing-entry-spec : {M : Type 1} → statement M
 closing-entry-spec = tie.close (tie.spec liquidation-in-requires lapsed-in-requires returns)

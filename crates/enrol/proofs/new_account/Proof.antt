@@ -1,6 +1,6 @@
 -- Field by field.
 use mathlib.Core.Path.{refl}
-use Rattle.calls.specs.Bookings.{newAccount}
+use Rattle.calls.specs.Changes.{newAccount}
 use Rattle.enrol.proofs.new_account.Statement.{statement}
 use Rattle.enrol.proofs.new_account.Tie as tie
 

@@ -1,5 +1,5 @@
 -- Record by record, as the definition puts them.
-use Rattle.calls.specs.Bookings.{withAccount}
+use Rattle.calls.specs.Changes.{withAccount}
 use borrow.Author.Needs.{needs}
 use Rattle.writers.proofs.write_account.Statement.{statement}
 use Rattle.writers.proofs.write_account.Tie as tie

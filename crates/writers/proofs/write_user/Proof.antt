@@ -1,5 +1,5 @@
 -- Record by record, as the definition puts them.
-use Rattle.calls.specs.Bookings.{enrolledAs}
+use Rattle.calls.specs.Changes.{enrolledAs}
 use borrow.Author.Needs.{needs}
 use Rattle.writers.proofs.write_user.Statement.{statement}
 use Rattle.writers.proofs.write_user.Tie as tie

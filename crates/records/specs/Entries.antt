@@ -1,0 +1,63 @@
+-- An entry by what it says, without its place: a kind of entry is a constructor. "Entry: .. year", "Advance: 5 run bit, 8–15
+-- ticks.", "Closing: 5 option", and its sums.
+use Prim.Native.Nat.{ℕ}
+use mathlib.Core.Bool.{cond}
+use mathlib.Core.List.{List}
+use lib.Dec.{eqb}
+use Rattle.units.specs.Units.{recordIndex}
+use Rattle.units.specs.declared.Ticks.{Ticks}
+use Rattle.accounts.specs.declared.ClosingSums.{ClosingSums}
+use Rattle.layout.specs.Fields.{get, kindField, closingKind}
+use Rattle.records.specs.declared.AdvanceRecord.{AdvanceRecord}
+use Rattle.records.specs.declared.ClosingRecord.{ClosingRecord}
+use Rattle.records.specs.Records.{advanceIn, closingIn, advanceImage, closingImage}
+
+pub data Entry : Type 0 where
+  advanceEntry : (year run : ℕ) (paid : Ticks) → Entry
+  closingEntry : (year option : ℕ) (sums : ClosingSums) → Entry
+
+-- the sums of a closing's record, and what the bytes of an entry say
+unfoldable pub sumsIn : ClosingRecord → ClosingSums
+sumsIn c =
+    record {
+      value = c .value;
+      cost = c .cost;
+      «flat_rate» = c .«flat_rate»;
+      contribution = c .contribution;
+      liquidation = c .liquidation;
+      lapsed = c .lapsed;
+      balance = c .balance;
+    }
+
+abbrev pub ofAdvance : AdvanceRecord → Entry
+ofAdvance a = advanceEntry (a .year) (a .run) (a .ticks)
+
+abbrev pub ofClosing : ClosingRecord → Entry
+ofClosing c = closingEntry (c .year) (c .option) (sumsIn c)
+
+unfoldable pub entryIn : List ℕ → Entry
+entryIn r = cond (eqb (get kindField r) closingKind) (ofClosing (closingIn r)) (ofAdvance (advanceIn r))
+
+-- an entry at its place: in front of the entry `next`, of the user at the index `owner`
+abbrev pub advanceRecord : ℕ → ℕ → ℕ → ℕ → Ticks → AdvanceRecord
+advanceRecord next owner year run paid = record { next = recordIndex next; run = run; year = year; ticks = paid; owner = recordIndex owner }
+
+abbrev pub closingRecord : ℕ → ℕ → ℕ → ℕ → ClosingSums → ClosingRecord
+closingRecord next owner year option s =
+    record {
+      next = recordIndex next;
+      option = option;
+      year = year;
+      value = s .value;
+      cost = s .cost;
+      «flat_rate» = s .«flat_rate»;
+      contribution = s .contribution;
+      liquidation = s .liquidation;
+      lapsed = s .lapsed;
+      balance = s .balance;
+      owner = recordIndex owner;
+    }
+
+unfoldable pub entryImage : ℕ → ℕ → Entry → List ℕ
+entryImage next owner (advanceEntry year run paid) = advanceImage (advanceRecord next owner year run paid)
+entryImage next owner (closingEntry year option s) = closingImage (closingRecord next owner year option s)

@@ -1,0 +1,4 @@
+pub mod Found
+pub mod Histories
+pub mod Kept
+pub mod Steps

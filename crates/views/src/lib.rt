@@ -1,0 +1,1 @@
+// What the book holds of each user, by value.
