@@ -30,13 +30,14 @@ use Rattle.calls.specs.Refusals.{lookAt, hasRoom, dayAndOption, electionOpen, y
 use Rattle.values.specs.declared.Details.{Details}
 use Rattle.soundness.specs.Verdicts.{freshAnswer, freshAfter}
 use Rattle.layout.proofs.ByteRanges.{Bytes}
-use Rattle.demand.specs.Demand.{bookAfterAll}
+use Rattle.demand.specs.Lists.{Made, made, Runs, madeOf, bookAfterAll}
+use Rattle.demand.specs.Fed.{here}
 use Rattle.calls.specs.Typed.{Typed, AllTyped}
 use Rattle.demand.proofs.Theorem as demand
-use Rattle.claims.specs.Runs.{Made, made, Runs}
-use Rattle.claims.specs.Claims.{here, UserRight}
+use Rattle.claims.specs.Runs.{Calls}
+use Rattle.claims.specs.Claims.{Claim}
 use Rattle.claims.proofs.Theorem.{third-demand}
-use Rattle.claims.proofs.Possible.{madeOf, possible, lent}
+use Rattle.claims.proofs.Possible.{possible, lent}
 
 abbrev pub details : Details
 details = record { class = 1; plant = 1; power = 3000; year = 2013; month = 1; island = 0 }
@@ -110,15 +111,15 @@ abbrev after : List ℕ
 after = bookAfterAll (freshBook 480) calls
 
 -- each call is answered, and the book as the last one left it goes to the next
-pub run : Runs (freshBook 480) (made (enrol 7 details 0) 0 ∷ others) after
-run = subst (λ ms. Runs (freshBook 480) ms after) answered (possible (freshBook 480) calls typed (demand.never-damaged buffer fits calls typed))
+pub run : Runs Calls (freshBook 480) (made (enrol 7 details 0) 0 ∷ others) after
+run = subst (λ ms. Runs Calls (freshBook 480) ms after) answered (possible (freshBook 480) calls typed (demand.never-damaged buffer fits calls typed))
 
 freshened : freshAfter buffer ≡ freshBook 480
 unfolding freshAfter lengthFits
 freshened = refl
 
 -- the third demand of this list, for user 7
-pub user-7-right : UserRight (made (enrol 7 details 0) 0 ∷ others) after 7
+pub user-7-right : Claim (made (enrol 7 details 0) 0 ∷ others) after 7
 unfolding freshAnswer freshAfter lengthFits
 user-7-right =
     third-demand ([], tt) (lent buffer, tt) 0 (lent (freshBook 480), tt) (refl, refl) refl (made (enrol 7 details 0) 0 ∷ others) after run .1 7 (here details 0 others)

@@ -1,12 +1,10 @@
--- The third demand is not empty: every list of calls from a fresh book can be made, each call answered as its contract
--- says.
+-- Each call can be made on any book but a damaged one, answered as its contract says; and so, one after the other, can a list.
 use Prim.Native.Nat.{ℕ}
-use mathlib.Core.Path.{_≡_, refl, subst}
+use mathlib.Core.Path.{_≡_, refl, ap, subst}
 use mathlib.Core.Bool.{Bool, true, false, cond}
 use mathlib.Core.List.{List, [], _∷_}
 use lib.Dec.{eqb}
 use denote.Ref.{RefT}
-use contract.Lifetimes.{Lfts}
 use Rattle.units.specs.Units.{recordIndex, userNumber, ticks}
 use Rattle.units.specs.declared.Rate.{Rate}
 use Rattle.units.specs.declared.WideKwh.{WideKwh}
@@ -17,9 +15,10 @@ use Rattle.answers.specs.Answers.{Answered}
 use Rattle.advance.specs.Advances.{ticksAnswered}
 use Rattle.close.specs.Closings.{sumsAnswered}
 use Rattle.statement.specs.Stated.{sumsStated}
-use Rattle.demand.specs.Demand.{bookAfterAll, NeverDamaged}
+use Rattle.demand.specs.Lists.{made, callsOf, Runs, done, andThen, madeOf, bookAfterAll}
+use Rattle.demand.specs.Fed.{NoneDamaged}
 use Rattle.calls.specs.Typed.{AllTyped}
-use Rattle.claims.specs.Runs.{Made, made, Calls, enrols, elects, advances, closes, states, Runs, done, andThen}
+use Rattle.claims.specs.Runs.{Calls, enrols, elects, advances, closes, states}
 
 -- a buffer that holds these bytes
 abbrev pub lent : List ℕ → RefT (List ℕ)
@@ -68,14 +67,14 @@ module _ (b : List ℕ) where
       (lent b, (userNumber n, tt))
       (subst (Answered b c 0 (refusalOf b c) (cond (eqb (refusalOf b c) 0) 0 0)) same (right c 0 other), refl))
 
--- the calls of a list with what they answer
-unfoldable pub madeOf : List ℕ → List Call → List Made
-madeOf b [] = []
-madeOf b (c ∷ cs) = made c (refusalOf b c) ∷ madeOf (bookAfter b c) cs
+pub possible : (b : List ℕ) (cs : List Call) → AllTyped cs → NoneDamaged (madeOf b cs) → Runs Calls b (madeOf b cs) (bookAfterAll b cs)
+unfolding madeOf bookAfterAll AllTyped NoneDamaged
+possible b [] typed none-damaged = done b
+possible b (c ∷ cs) typed none-damaged =
+    andThen b (bookAfter b c) (bookAfterAll (bookAfter b c) cs) (made c (refusalOf b c)) (madeOf (bookAfter b c) cs) (performed b c (none-damaged .1)) (typed .0)
+    (possible (bookAfter b c) cs (typed .1) (none-damaged .2))
 
-pub possible : (b : List ℕ) (cs : List Call) → AllTyped cs → NeverDamaged b cs → Runs b (madeOf b cs) (bookAfterAll b cs)
-unfolding madeOf bookAfterAll AllTyped NeverDamaged
-possible b [] typed sound = done b
-possible b (c ∷ cs) typed sound =
-    andThen b (bookAfter b c) (bookAfterAll (bookAfter b c) cs) (made c (refusalOf b c)) (madeOf (bookAfter b c) cs) (performed b c (sound .1)) (typed .0)
-    (possible (bookAfter b c) cs (typed .1) (sound .2))
+pub made-calls : (b : List ℕ) (cs : List Call) → callsOf (madeOf b cs) ≡ cs
+unfolding madeOf callsOf
+made-calls b [] = refl
+made-calls b (c ∷ cs) = ap (λ (xs : List Call). c ∷ xs) (made-calls (bookAfter b c) cs)

@@ -1,19 +1,16 @@
 -- What acceptance of a call tells of the user that it names, by value: from its rules, by number.
-use Prim.Native.Nat.{ℕ, _^_, _≤_, _<_}
-use mathlib.Core.Path.{_≡_, refl, ap, sym, _∙_, subst}
-use mathlib.Core.Bool.{true, not, _&&_}
+use Prim.Native.Nat.{ℕ, _^_, _<_}
+use mathlib.Core.Path.{_≡_, sym, subst}
+use mathlib.Core.Bool.{true, not}
 use mathlib.Core.List.{List}
-use mathlib.Core.Option.{Option, none, some}
+use mathlib.Core.Option.{some}
 use native.Mathlib.Omega.{arith}
 use borrow.Author.Tests.{eqb-true}
 use lib.Dec.{eqb}
-use Rattle.units.specs.Limits.{maxContribution}
 use Rattle.units.proofs.Bools.{and-right}
 use Rattle.sheet.specs.YearSheet.{sheetUser, sheetYear}
 use Rattle.values.specs.YearsValues.{yearValues}
-use Rattle.accounts.specs.declared.Account.{Account}
 use Rattle.ledger.specs.Ledger.{sheetValue, sheetFlatRate}
-use Rattle.book.specs.Book.{accountAt}
 use Rattle.book.specs.Find.{findUser}
 use Rattle.calls.specs.Rules.{testOf}
 use Rattle.calls.specs.Refusals.{lookAt, userAt}
@@ -26,7 +23,7 @@ use Rattle.bookings.proofs.YearRanges.{values-fit}
 use Rattle.bookings.proofs.Advance.{run-due}
 use Rattle.bookings.proofs.Close.{contribution-below}
 use Rattle.bookings.proofs.CallsFit.{named-user, year-is-open, sheet-passed}
-use Rattle.views.specs.Views.{View, viewAt, viewOf}
+use Rattle.views.specs.Views.{viewAt, viewOf}
 use Rattle.views.proofs.Kept.{view-is, view-none}
 use Rattle.demand.proofs.Ledgers.{contribution, Posts, enrols, elects, advances, closes, states}
 

@@ -1,7 +1,7 @@
 -- A user by value and its ledger, kept in step by every accepted call: nothing of the book's bytes is left here.
 use Prim.Native.Nat.{ℕ, _+_, _^_, _<_}
 use mathlib.Core.Path.{_≡_, refl, ap, ap₂, sym, _∙_, subst}
-use mathlib.Core.Bool.{Bool, true, cond}
+use mathlib.Core.Bool.{true, cond}
 use mathlib.Core.List.{List, [], _∷_}
 use mathlib.Core.Option.{Option, none, some}
 use native.Mathlib.Nat.{add-zero}
@@ -14,17 +14,19 @@ use Rattle.prices.specs.ValueAndCost.{costOf}
 use Rattle.values.specs.declared.Details.{Details}
 use Rattle.values.specs.YearsValues.{yearValues}
 use Rattle.accounts.specs.declared.Account.{Account}
-use Rattle.accounts.specs.Closing.{contributionOf, liquidationOf, lapsedOf, creditAfter, balanceOf}
+use Rattle.accounts.specs.Closing.{contributionOf}
 use Rattle.accounts.specs.Account.{accountElected, accountAdvanced, accountClosed, settled}
 use Rattle.accounts.proofs.Balances.{balance-back}
-use Rattle.records.specs.Entries.{Entry, advanceEntry, closingEntry}
+use Rattle.records.specs.Entries.{advanceEntry, closingEntry}
 use Rattle.ledger.specs.Ledger.{Item, Advance, Ledger, openYear, yearAfter, sumItems, sumBalances, sumAdvances, advanceAmount, sheetValue, sheetFlatRate, statementOf}
 use Rattle.ledger.specs.Ledger as ledger
 use Rattle.ledger.proofs.Kept.{Kept, kept-enrolled, kept-elected, kept-advanced, kept-closed, no-advance-yet}
 use Rattle.calls.specs.Changes.{newAccount, runAmount}
 use Rattle.calls.specs.Calls.{Call, enrol, elect, advance, close, statement, changeOf}
 use Rattle.views.specs.Views.{View, viewIs, viewAfter, accountOf, stepOf}
-use Rattle.demand.specs.Demand.{posted, valueBy}
+use Rattle.demand.specs.Fed.{posted, valueBy}
+use Rattle.ledger.proofs.Kept.{closed-paid}
+use Rattle.ledger.proofs.Years.{none-closed}
 use Rattle.demand.proofs.Statements.{itemOf, advanceOf, itemsOf, advancesOf, stated}
 
 -- what the book holds of a user agrees with a ledger
@@ -44,11 +46,11 @@ pub data State : Option View → Option Ledger → ℕ → Type 0 where
   known : {v : View} {l : Ledger} {x : ℕ} → Agrees v l → Kept x l → State (some v) (some l) x
 
 -- (a) the statement of the one is the statement of the other, all eleven figures
-pub same-statement : (v : View) (l : Ledger) → Agrees v l → stated v ≡ statementOf l
+pub same-statement : (v : View) (l : Ledger) {x : ℕ} → Agrees v l → Kept x l → stated v ≡ statementOf l
 unfolding stated statementOf
-same-statement v l a =
+same-statement v l a kept =
     let total : (g : Item → ℕ) → sumItems g (itemsOf (v .entries)) ≡ sumItems g (l .items) = λ g. ap (sumItems g) (a .items) in
-    let before = ap₂ (λ (n : ℕ) (as′ : List Advance). sumAdvances (λ y. ltb y n) as′) (a .open-year) (a .paid) in
+    let before = ap₂ (λ (n : ℕ) (as′ : List Advance). sumAdvances (λ y. ltb y n) as′) (a .open-year) (a .paid) ∙ sym (closed-paid kept) in
     λ k.
     record {
       openYear = a .open-year k;
@@ -91,16 +93,16 @@ module _ (v : View) (l : Ledger) (a : Agrees v l) where
         paid = a .paid;
       }
 
-  same-amount : (y r p e₁ e₂ : ℕ) → runAmount (v .account) y r p e₁ e₂ ≡ advanceAmount y r p e₁ e₂ l
+  same-amount : (y r p e₁ e₂ : ℕ) {x : ℕ} → Kept x l → runAmount (v .account) y r p e₁ e₂ ≡ advanceAmount y r p e₁ e₂ l
   unfolding runAmount advanceAmount
-  same-amount y r p e₁ e₂ = rw (a .details, a .open-year, a .half1, a .half2)
+  same-amount y r p e₁ e₂ kept = let none-yet = none-closed (l .details .year) (l .items) (kept .years) in rw (a .details, a .open-year, a .half1, a .half2, none-yet)
 
-  agrees-advanced : (y r p e₁ e₂ : ℕ) → y ≡ openYear l
+  agrees-advanced : (y r p e₁ e₂ : ℕ) {x : ℕ} → Kept x l → y ≡ openYear l
       → Agrees (viewIs (accountAdvanced r (runAmount (v .account) y r p e₁ e₂) (v .account)) (advanceEntry y r (ticks (runAmount (v .account) y r p e₁ e₂)) ∷ v .entries))
       (ledger.advanced y r p e₁ e₂ l)
   unfolding accountAdvanced ledger.advanced sumAdvances itemsOf advancesOf
-  agrees-advanced y r p e₁ e₂ year =
-      let amount = same-amount y r p e₁ e₂ in
+  agrees-advanced y r p e₁ e₂ kept year =
+      let amount = same-amount y r p e₁ e₂ kept in
       let joined : v .account .advances .0 + runAmount (v .account) y r p e₁ e₂ ≡ cond (eqb (openYear l) y) (advanceAmount y r p e₁ e₂ l) 0 + sumAdvances (eqb (openYear l)) (l .advances) =
       rw (eq-eqb (openYear l) y (sym year)) (omega (arith, a .advances, amount)) in
       record {
@@ -170,7 +172,7 @@ unfolding stepOf changeOf viewAfter accountOf posted gainOf valueBy
 in-step c v m x (enrols {n} {d} {o}) unknown = known (fresh-agrees n d o) (kept-enrolled d o)
 in-step c v m x (elects {o = o}) (known {v = u} {l = l} a k) = more (known (agrees-elected u l a o) (kept-elected o k))
 in-step c v m x (advances {y = y} {r} {p} {e₁} {e₂} year) (known {v = u} {l = l} a k) =
-    more (known (agrees-advanced u l a y r p e₁ e₂ (year ∙ a .open-year)) (kept-advanced y r p e₁ e₂ (year ∙ a .open-year) k))
+    more (known (agrees-advanced u l a y r p e₁ e₂ k (year ∙ a .open-year)) (kept-advanced y r p e₁ e₂ (year ∙ a .open-year) k))
 in-step c v m x (closes {s} year small field) (known {v = u} {l = l} a k) =
     known (agrees-closed u l a s k (year ∙ a .open-year) small field) (kept-closed s (year ∙ a .open-year) k)
 in-step c v m x states (known a k) = more (known a k)

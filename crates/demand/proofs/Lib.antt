@@ -4,3 +4,4 @@ pub mod Accepted
 pub mod Lists
 pub mod Undamaged
 pub mod Theorem
+pub mod Queue

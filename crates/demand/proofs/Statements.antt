@@ -1,16 +1,16 @@
 -- The statement of a user of the book is that of what the book holds of it: its items and its advances, by value.
 use Prim.Native.Nat.{ℕ, _+_}
-use mathlib.Core.Path.{_≡_, refl, ap, ap₂, sym, _∙_}
+use mathlib.Core.Path.{_≡_, refl, ap, ap₂, _∙_}
 use mathlib.Core.Bool.{Bool, true, false, cond, _&&_}
 use mathlib.Core.Logic.{_⊎_, inl, inr}
 use mathlib.Core.List.{List, [], _∷_}
 use native.Mathlib.Nat.{zero-add}
 use native.Mathlib.Omega.{arith}
-use lib.Dec.{eqb, ltb}
+use lib.Dec.{ltb}
 use lib.IntN.{ℤ, pos, _+ℤ_, +ℤ-idl}
 use mir.Syntax.{w64}
 use mir.Val.{toZ}
-use Rattle.layout.specs.Fields.{recordAt, userKind, advanceKind, closingKind}
+use Rattle.layout.specs.Fields.{recordAt, advanceKind, closingKind}
 use Rattle.records.specs.declared.ClosingRecord.{ClosingRecord}
 use Rattle.records.specs.Records.{advanceIn, closingIn}
 use Rattle.records.specs.Entries.{Entry, advanceEntry, closingEntry, sumsIn, entryIn}

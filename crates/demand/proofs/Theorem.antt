@@ -1,11 +1,11 @@
 -- THE THIRD DEMAND: over every list of calls from a fresh book.
-use Prim.Native.Nat.{ℕ, zero, suc, _-_, _≤_, _<_}
-use mathlib.Core.Path.{_≡_, refl, subst}
-use mathlib.Core.Bool.{Bool, true, false}
+use Prim.Native.Nat.{ℕ, zero, suc, _-_}
+use mathlib.Core.Path.{_≡_, subst}
+use mathlib.Core.Bool.{true}
 use mathlib.Core.List.{List}
-use mathlib.Core.Option.{Option, none, some}
+use mathlib.Core.Option.{none, some}
 use native.Mathlib.Omega.{arith}
-use lib.ListN.{length, getD, replicate}
+use lib.ListN.{length}
 use Rattle.layout.specs.Fields.{userKind}
 use Rattle.layout.proofs.Cells.{zero-byte}
 use Rattle.layout.proofs.ByteRanges.{Bytes}
@@ -18,8 +18,9 @@ use Rattle.ledger.specs.Ledger.{Ledger}
 use Rattle.calls.specs.Calls.{Call}
 use Rattle.bookings.proofs.Good.{Good, sound-good}
 use Rattle.calls.specs.Typed.{AllTyped}
-use Rattle.demand.specs.Demand.{ledgerAfter, Demand, NeverDamaged}
-use Rattle.demand.proofs.Lists as lists
+use Rattle.demand.specs.Lists.{madeOf}
+use Rattle.demand.specs.Fed.{ledgerOf, NoneDamaged}
+use Rattle.demand.proofs.Lists.{Demanded, demanded}
 use Rattle.demand.proofs.Undamaged as undamaged
 
 fresh-bytes : (n : ℕ) → Bytes (freshBook n)
@@ -32,7 +33,7 @@ module _ (b : List ℕ) (fits : lengthFits b ≡ true) where
   unfolding freshAfter
   after-fresh = rw fits
 
-  fresh-good : Good (freshBook (length b))
+  pub fresh-good : Good (freshBook (length b))
   fresh-good =
       let after = subst Accepted after-fresh (fresh-accepted b fits) in
       sound-good (freshBook (length b)) (fresh-bytes (length b)) (after .fits) (after .isSound)
@@ -44,10 +45,10 @@ module _ (b : List ℕ) (fits : lengthFits b ≡ true) where
       omega (arith, place .0, place .1 .0, one)
 
   -- whatever is called, each user's statement is the ledger's, and the ledger's sums are right
-  pub third-demand : (cs : List Call) → AllTyped cs → (number : ℕ) (l : Ledger) → ledgerAfter number (freshBook (length b)) cs none ≡ some l
-      → Demand (freshBook (length b)) cs number l
-  third-demand cs typed number l fed = lists.demand number cs (freshBook (length b)) fresh-good fresh-empty typed l fed
+  pub third-demand : (cs : List Call) → AllTyped cs → (number : ℕ) (l : Ledger) → ledgerOf number (madeOf (freshBook (length b)) cs) none ≡ some l
+      → Demanded (freshBook (length b)) cs number l
+  third-demand cs typed number l fed = demanded number cs (freshBook (length b)) fresh-good fresh-empty typed l fed
 
   -- and no call finds the book damaged
-  pub never-damaged : (cs : List Call) → AllTyped cs → NeverDamaged (freshBook (length b)) cs
+  pub never-damaged : (cs : List Call) → AllTyped cs → NoneDamaged (madeOf (freshBook (length b)) cs)
   never-damaged cs typed = undamaged.never-damaged cs (freshBook (length b)) fresh-good typed

@@ -1,20 +1,17 @@
 -- No list of calls from a good book meets a refusal 1 or 2.
-use Prim.Native.Nat.{ℕ, _+_}
-use mathlib.Core.Path.{_≡_, refl}
-use mathlib.Core.Bool.{Bool, true, false, cond, not}
+use Prim.Native.Nat.{ℕ}
+use mathlib.Core.Path.{_≡_}
 use mathlib.Core.List.{List, [], _∷_}
-use mathlib.Core.Option.{Option, none}
 use native.Mathlib.Omega.{arith}
-use Rattle.book.specs.Book.{isUser, lengthFits, sound}
-use Rattle.ledger.specs.Ledger.{Ledger}
 use Rattle.calls.specs.Rules.{refusedBy}
 use Rattle.calls.specs.Refusals.{lookAt}
-use Rattle.calls.specs.Calls.{Call, enrol, elect, advance, close, statement, namedBy, rulesOf, refusalOf, bookAfter}
+use Rattle.calls.specs.Calls.{Call, namedBy, rulesOf, refusalOf, bookAfter}
 use Rattle.calls.proofs.Rules.{never-answered}
 use Rattle.calls.proofs.Orders.{reserved}
 use Rattle.calls.specs.Typed.{AllTyped}
 use Rattle.bookings.proofs.EveryCall.{call-good}
-use Rattle.demand.specs.Demand.{NeverDamaged}
+use Rattle.demand.specs.Lists.{madeOf}
+use Rattle.demand.specs.Fed.{NoneDamaged}
 use Rattle.bookings.proofs.Good.{Good, good-sound}
 
 -- neither 1 nor 2
@@ -32,8 +29,8 @@ good-refusal b g c =
     (record { notLength = never-answered 1 (rulesOf v c) (own .one) (omega arith); notFaulty = never-answered 2 (rulesOf v c) (own .two) (omega arith) })
 
 -- along a list every book is good
-pub never-damaged : (cs : List Call) (b : List ℕ) → Good b → AllTyped cs → NeverDamaged b cs
-unfolding NeverDamaged AllTyped
+pub never-damaged : (cs : List Call) (b : List ℕ) → Good b → AllTyped cs → NoneDamaged (madeOf b cs)
+unfolding madeOf NoneDamaged AllTyped
 never-damaged [] b g t = tt
 never-damaged (c ∷ cs) b g t =
     let here = good-refusal b g c in

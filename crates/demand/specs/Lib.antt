@@ -1,1 +1,3 @@
-pub mod Demand
+pub mod Lists
+pub mod Fed
+pub mod Queue

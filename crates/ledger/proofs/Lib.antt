@@ -2,4 +2,4 @@ pub mod Standing
 pub mod Advances
 pub mod Integers
 pub mod Kept
-pub mod Accounting
+pub mod Years

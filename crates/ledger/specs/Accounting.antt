@@ -1,5 +1,4 @@
--- What the accounts of one user come to (the mission's third demand, (b) to (d)), over every history of its elections,
--- advances and closings.
+-- What a user's statement comes to: the user's third demand, (a) to (d), sentence by sentence.
 use Prim.Native.Nat.{ℕ, _+_, _≤_}
 use mathlib.Core.Path.{_≡_}
 use mathlib.Core.Bool.{Bool, false, cond, _||_}
@@ -7,48 +6,14 @@ use mathlib.Core.List.{List, [], _∷_}
 use mathlib.Core.Logic.{_⊎_}
 use lib.ListN.{length, take}
 use lib.IntN.{ℤ, pos, _+ℤ_, _-ℤ_}
-use Rattle.values.specs.declared.Details.{Details}
 use Rattle.accounts.specs.Closing.{liquidates}
-use Rattle.sheet.specs.YearSheet.{sheetYear}
-use Rattle.ledger.specs.Ledger.{Item, Ledger, Statement, yearAfter, openYear, sumItems, elected, advanced, closed, sheetValue, statementOf}
-
--- an accepted call for one user after its enrolment
-pub data Booking : Type 0 where
-  elect : (option : ℕ) → Booking
-  advance : (year run rate estimate1 estimate2 : ℕ) → Booking
-  close : (sheet : List ℕ) → Booking
-
-unfoldable pub booked : Booking → Ledger → Ledger
-booked (elect o) l = elected o l
-booked (advance y r p e₁ e₂) l = advanced y r p e₁ e₂ l
-booked (close s) l = closed s l
-
--- the ledger after a history, its bookings in the order of the calls
-unfoldable pub bookedAll : List Booking → Ledger → Ledger
-bookedAll [] l = l
-bookedAll (b ∷ bs) l = bookedAll bs (booked b l)
-
--- an advance or a closing that was accepted names the open year (refusals 9 and 12)
-unfoldable pub NamesOpenYear : Booking → Ledger → Type 0
-NamesOpenYear (elect o) l = Unit {0}
-NamesOpenYear (advance y r p e₁ e₂) l = y ≡ openYear l
-NamesOpenYear (close s) l = sheetYear s ≡ openYear l
-
-unfoldable pub Accepted : List Booking → Ledger → Type 0
-Accepted [] l = Unit {0}
-Accepted (b ∷ bs) l = NamesOpenYear b l × Accepted bs (booked b l)
+use Rattle.ledger.specs.Ledger.{Item, Ledger, Statement, yearAfter, sumItems, closed, statementOf}
 
 -- (b) "advances of closed years plus balances, less flat-rate parts, plus liquidations, plus lapsed credit, plus standing
 -- credit equals the value of all injected energy in the sheets accepted for the closed years"
 unfoldable pub conserved : Statement → ℤ
 conserved t =
     ((((pos (t .closedAdvances) +ℤ t .balance) -ℤ pos (t .flatRate)) +ℤ pos (t .liquidation)) +ℤ pos (t .lapsed)) +ℤ pos (t .credit)
-
-unfoldable pub injectedValue : Details → List Booking → ℕ
-injectedValue d [] = 0
-injectedValue d (elect o ∷ bs) = injectedValue d bs
-injectedValue d (advance y r p e₁ e₂ ∷ bs) = injectedValue d bs
-injectedValue d (close s ∷ bs) = sheetValue d s + injectedValue d bs
 
 -- (c) "the largest total of value less purchase cost over an unbroken run of years ending with the last closed one and
 -- holding no liquidation year, or zero if no such total is above it". Items stand newest first, a year each, so that a run
@@ -84,9 +49,16 @@ unfoldable pub Consecutive : ℕ → List Item → Type 0
 Consecutive activation [] = Unit {0}
 Consecutive activation (i ∷ is) = (i .year ≡ yearAfter activation is) × Consecutive activation is
 
--- (b), (c) and (d) of a user that enrolled with the details d and had the bookings bs accepted since
-pub record Accounts (d : Details) (bs : List Booking) (l : Ledger) : Type 0 where
-  pub conservedSum : conserved (statementOf l) ≡ pos (injectedValue d bs)
-  pub standingCredit : Standing (l .items) (l .credit)
-  pub lapsedCredit : (figure : List Item → ℕ) → ((is : List Item) → Standing is (figure is)) → statementOf l .lapsed ≡ lapsedOver figure (l .items)
-  pub consecutive : Consecutive (d .year) (l .items)
+-- WHAT IS CLAIMED of a statement: that of a user with the ledger l, whose closed years' sheets have the value `injected` in all
+pub record Accounts (l : Ledger) (injected : ℕ) (t : Statement) : Type 0 where
+  -- (a) "answers exactly what the ledger of document 01 gives from the accepted calls"
+  pub statement : t ≡ statementOf l
+  -- (b)
+  pub conservedSum : conserved t ≡ pos injected
+  -- (c)
+  pub standingCredit : Standing (l .items) (t .credit)
+  pub years : Consecutive (l .details .year) (l .items)
+  -- (d), with that same figure for every run of years up to one
+  pub figure : List Item → ℕ
+  pub figures : (is : List Item) → Standing is (figure is)
+  pub lapsedCredit : t .lapsed ≡ lapsedOver figure (l .items)

@@ -1,9 +1,9 @@
 -- "Ledger" of document 01: a user's ledger, fed with the arguments of the calls for its number that answered 0, and with
 -- nothing from the book.
 use Prim.Native.Nat.{ℕ, _+_}
-use mathlib.Core.Bool.{Bool, true, false, cond}
+use mathlib.Core.Bool.{Bool, true, false, cond, _||_}
 use mathlib.Core.List.{List, [], _∷_}
-use lib.Dec.{eqb, ltb}
+use lib.Dec.{eqb}
 use lib.IntN.{ℤ, pos, _+ℤ_}
 use Rattle.values.specs.declared.Details.{Details}
 use Rattle.prices.specs.ValueAndCost.{valueOf, costOf}
@@ -47,6 +47,15 @@ yearAfter activation (i ∷ is) = i .year + 1
 abbrev pub openYear : Ledger → ℕ
 openYear l = yearAfter (l .details .year) (l .items)
 
+-- "A year with an item is closed"; and "if no year is closed": there is no item
+unfoldable pub isClosed : List Item → ℕ → Bool
+isClosed [] year = false
+isClosed (i ∷ is) year = eqb (i .year) year || isClosed is year
+
+unfoldable pub noneClosed : List Item → Bool
+noneClosed [] = true
+noneClosed (i ∷ is) = false
+
 -- a sum over items, and over advances that pass a test
 unfoldable pub sumItems : (Item → ℕ) → List Item → ℕ
 sumItems f [] = 0
@@ -82,8 +91,7 @@ elected o l =
 unfoldable pub advanceAmount : ℕ → ℕ → ℕ → ℕ → ℕ → Ledger → ℕ
 advanceAmount year run rate estimate1 estimate2 l =
     amountOf (halvesPaid (l .details .year) (l .details .month) year run) rate
-    (cond (eqb (openYear l) (l .details .year)) estimate1 (l .half1))
-    (cond (eqb (openYear l) (l .details .year)) estimate2 (l .half2))
+    (cond (noneClosed (l .items)) estimate1 (l .half1)) (cond (noneClosed (l .items)) estimate2 (l .half2))
 
 -- "Advance adds its amount, worked as above from its arguments and the ledger, to the advances of the year named."
 unfoldable pub advanced : ℕ → ℕ → ℕ → ℕ → ℕ → Ledger → Ledger
@@ -163,5 +171,5 @@ statementOf l =
       lapsed = sumItems (λ i. i .lapsed) (l .items);
       balance = sumBalances (l .items);
       advances = sumAdvances (λ y. true) (l .advances);
-      closedAdvances = sumAdvances (λ y. ltb y (yearAfter (l .details .year) (l .items))) (l .advances);
+      closedAdvances = sumAdvances (isClosed (l .items)) (l .advances);
     }

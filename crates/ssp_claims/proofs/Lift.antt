@@ -1,7 +1,7 @@
 -- A list of calls of the exported functions is one of the functions beneath: for each flat answer there is an answer beneath
 -- it, of which that function's contract holds.
 use Prim.Native.Nat.{ℕ}
-use mathlib.Core.Path.{_≡_, refl, ap}
+use mathlib.Core.Path.{refl, ap}
 use mathlib.Core.List.{List}
 use denote.Ref.{now}
 use Rattle.units.specs.declared.UserNumber.{UserNumber}
@@ -13,9 +13,9 @@ use Rattle.units.specs.Units.{userNumber, recordIndex, rate, wideKwh, ticks}
 use Rattle.close.specs.Closings.{sumsAnswered}
 use Rattle.statement.specs.Stated.{sumsStated}
 use Rattle.claims.specs.Runs as beneath
-use Rattle.claims.specs.Runs.{Made}
+use Rattle.demand.specs.Lists.{Made, Runs, done, andThen}
 use Rattle.ssp.specs.Flat.{detailsOf}
-use Rattle.ssp_claims.specs.Exported.{Calls, enrols, elects, advances, closes, states, Runs, done, andThen}
+use Rattle.ssp_claims.specs.Exported.{Calls, enrols, elects, advances, closes, states}
 
 lift-call : (b : List ℕ) (m : Made) (b′ : List ℕ) → Calls b m b′ → beneath.Calls b m b′
 lift-call b m b′ (enrols κs a r s p) =
@@ -36,6 +36,6 @@ lift-call b m b′ (states κs a r s p) =
     let brought : UserNumber × Unit {0} = (userNumber (a .1 .0), tt) in
     beneath.states κs (a .0, brought) (record { refusal = r .refusal; «record» = recordIndex (r .«record»); sums = sums }) (s .0, brought) (p .0, refl)
 
-pub lift : {b b″ : List ℕ} {ms : List Made} → Runs b ms b″ → beneath.Runs b ms b″
-lift (done b) = beneath.done b
-lift (andThen b b′ b″ m ms c t rest) = beneath.andThen b b′ b″ m ms (lift-call b m b′ c) t (lift rest)
+pub lift : {b b″ : List ℕ} {ms : List Made} → Runs Calls b ms b″ → Runs beneath.Calls b ms b″
+lift (done b) = done b
+lift (andThen b b′ b″ m ms c t rest) = andThen b b′ b″ m ms (lift-call b m b′ c) t (lift rest)

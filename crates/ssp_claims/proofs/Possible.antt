@@ -1,18 +1,12 @@
--- The demand over the exported functions is not empty: every list of calls of the functions beneath is one of the exported
--- functions, and every list of calls from a fresh book can be made beneath.
+-- Every list of calls of the functions beneath is one of the exported functions.
 use Prim.Native.Nat.{ℕ}
-use mathlib.Core.Path.{_≡_, ap}
+use mathlib.Core.Path.{ap}
 use mathlib.Core.List.{List}
-use Rattle.calls.specs.Calls.{Call}
-use Rattle.demand.specs.Demand.{bookAfterAll, NeverDamaged}
-use Rattle.calls.specs.Typed.{AllTyped}
 use Rattle.claims.specs.Runs as beneath
-use Rattle.claims.specs.Runs.{Made}
-use Rattle.claims.proofs.Possible as beneath-possible
-use Rattle.claims.proofs.Possible.{madeOf}
+use Rattle.demand.specs.Lists.{Made, Runs, done, andThen}
 use Rattle.ssp.specs.declared.Advanced.{Advanced}
 use Rattle.ssp.specs.Flat.{flatClosed, flatSums}
-use Rattle.ssp_claims.specs.Exported.{Calls, enrols, elects, advances, closes, states, Runs, done, andThen}
+use Rattle.ssp_claims.specs.Exported.{Calls, enrols, elects, advances, closes, states}
 
 flat-call : (b : List ℕ) (m : Made) (b′ : List ℕ) → beneath.Calls b m b′ → Calls b m b′
 unfolding flatClosed flatSums
@@ -35,9 +29,6 @@ flat-call b m b′ (beneath.states κs a r s p) =
     let brought : ℕ × Unit {0} = (a .1 .0 .0, tt) in
     states κs (a .0, brought) (flatSums (r .refusal) (r .«record» .0) (r .sums)) (s .0, brought) (p .0, ap (flatSums (r .refusal) (r .«record» .0)) (p .1))
 
-flat : {b b″ : List ℕ} {ms : List Made} → beneath.Runs b ms b″ → Runs b ms b″
-flat (beneath.done b) = done b
-flat (beneath.andThen b b′ b″ m ms c t rest) = andThen b b′ b″ m ms (flat-call b m b′ c) t (flat rest)
-
-pub possible : (b : List ℕ) (cs : List Call) → AllTyped cs → NeverDamaged b cs → Runs b (madeOf b cs) (bookAfterAll b cs)
-possible b cs typed sound = flat (beneath-possible.possible b cs typed sound)
+pub flat : {b b″ : List ℕ} {ms : List Made} → Runs beneath.Calls b ms b″ → Runs Calls b ms b″
+flat (done b) = done b
+flat (andThen b b′ b″ m ms c t rest) = andThen b b′ b″ m ms (flat-call b m b′ c) t (flat rest)

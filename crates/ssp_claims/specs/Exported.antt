@@ -1,17 +1,19 @@
--- THE THIRD DEMAND, over the functions that other programs link. A list of calls is as in `Rattle.claims.specs.Runs`, with the
--- exported functions' own contracts in the place of those beneath; what is claimed of it is what `Rattle.claims.specs.Claims`
--- claims.
+-- THE THIRD DEMAND, over the functions that other programs link. One call is a call of an exported function, of which no more is
+-- known than its contract (`Post κs a r s`, as in `Rattle.claims.specs.Runs`); a list of calls, and what is claimed of it, are as
+-- there.
 use Prim.Native.Nat.{ℕ}
 use mathlib.Core.Path.{_≡_}
-use mathlib.Core.List.{List, [], _∷_}
+use mathlib.Core.List.{List}
+use mathlib.Core.Option.{none, some}
 use denote.Ref.{now}
-use Rattle.ledger.specs.Ledger.{statementOf}
-use Rattle.statements.specs.Walk.{sumsOf}
-use Rattle.calls.specs.Calls.{enrol, elect, advance, close, statement}
-use Rattle.calls.specs.Typed.{Typed}
-use Rattle.claims.specs.Runs.{Made, made}
-use Rattle.claims.specs.Claims.{UserRight, Enrols, NoneDamaged}
-use Rattle.ssp.specs.Flat.{detailsOf, flatSums}
+use Rattle.ledger.specs.Ledger.{Ledger, Statement}
+use Rattle.ledger.specs.Accounting.{Accounts}
+use Rattle.calls.specs.Calls.{Call, enrol, elect, advance, close, statement}
+use Rattle.calls.specs.Typed.{AllTyped}
+use Rattle.demand.specs.Lists.{Made, made, callsOf, Runs}
+use Rattle.demand.specs.Fed.{ledgerOf, valueOf, Enrols, NoneDamaged}
+use Rattle.ssp.specs.declared.Sums.{Sums}
+use Rattle.ssp.specs.Flat.{detailsOf}
 use Rattle.ssp.proofs.ssp_fresh.Reads as fresh-of
 use Rattle.ssp.proofs.ssp_enrol.Reads as enrol-of
 use Rattle.ssp.proofs.ssp_elect.Reads as elect-of
@@ -27,18 +29,41 @@ pub data Calls : List ℕ → Made → List ℕ → Type 1 where
   closes : (κs : _) (a : _) (r : _) (s : _) → close-of.Post κs a r s → Calls (now (a .0)) (made (close (now (a .1 .0))) (r .refusal)) (now (s .0))
   states : (κs : _) (a : _) (r : _) (s : _) → statement-of.Post κs a r s → Calls (now (a .0)) (made (statement (a .1 .0)) (r .refusal)) (now (a .0))
 
--- one call after the other, each with arguments as its types hold them
-pub data Runs : List ℕ → List Made → List ℕ → Type 1 where
-  done : (b : List ℕ) → Runs b [] b
-  andThen : (b b′ b″ : List ℕ) (m : Made) (ms : List Made) → Calls b m b′ → Typed (m .call) → Runs b′ ms b″ → Runs b (m ∷ ms) b″
+-- the statement that an exported answer's fields are
+unfoldable pub statementIn : Sums → Statement
+statementIn s =
+    record {
+      openYear = s .«open_year»;
+      credit = s .credit;
+      value = s .value;
+      cost = s .cost;
+      flatRate = s .«flat_rate»;
+      contribution = s .contribution;
+      liquidation = s .liquidation;
+      lapsed = s .lapsed;
+      balance = s .balance;
+      advances = s .advances;
+      closedAdvances = s .«closed_advances»;
+    }
 
--- the claim of a user of the list, and the exported statement of it: the ledger's sums, each in its field
+-- what is claimed of a user of the list, and of whatever the exported statement answers for it
 pub record Claim (ms : List Made) (b : List ℕ) (number : ℕ) : Type 1 where
-  pub right : UserRight ms b number
+  pub ledger : Ledger
+  pub fed : ledgerOf number ms none ≡ some ledger
   pub statement : (κs : _) (a : _) (r : _) (s : _) → statement-of.Post κs a r s → now (a .0) ≡ b → a .1 .0 ≡ number
-      → (r ≡ flatSums 0 0 (sumsOf (statementOf (right .ledger)))) × (r .balance ≡ statementOf (right .ledger) .balance)
+      → (r .refusal ≡ 0) × (r .«record» ≡ 0) × Accounts ledger (valueOf number (ledger .details) ms) (statementIn r)
 
 abbrev pub ThirdDemand : Type 1
 ThirdDemand =
-    (κs : _) (a : _) (r : _) (s : _) → fresh-of.Post κs a r s → r ≡ 0 → (ms : List Made) (b : List ℕ) → Runs (now (s .0)) ms b
+    (κs : _) (a : _) (r : _) (s : _) → fresh-of.Post κs a r s → r ≡ 0 → (ms : List Made) (b : List ℕ) → Runs Calls (now (s .0)) ms b
     → NoneDamaged ms × ((number : ℕ) → Enrols number ms → Claim ms b number)
+
+-- every list of calls can be made
+pub record Performed (start : List ℕ) (cs : List Call) : Type 1 where
+  pub made-as : List Made
+  pub after : List ℕ
+  pub run : Runs Calls start made-as after
+  pub calls : callsOf made-as ≡ cs
+
+abbrev pub EveryList : Type 1
+EveryList = (κs : _) (a : _) (r : _) (s : _) → fresh-of.Post κs a r s → r ≡ 0 → (cs : List Call) → AllTyped cs → Performed (now (s .0)) cs

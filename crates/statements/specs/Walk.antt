@@ -35,6 +35,23 @@ sumsOf s =
       «closed_advances» = ticks (s .closedAdvances);
     }
 
+-- the statement that answered sums are: the balance is signed
+unfoldable pub statementIn : Sums → Statement
+statementIn s =
+    record {
+      openYear = s .«open_year»;
+      credit = s .credit .0;
+      value = s .value .0;
+      cost = s .cost .0;
+      flatRate = s .«flat_rate» .0;
+      contribution = s .contribution .0;
+      liquidation = s .liquidation .0;
+      lapsed = s .lapsed .0;
+      balance = toZ w64 (s .balance .0);
+      advances = s .advances .0;
+      closedAdvances = s .«closed_advances» .0;
+    }
+
 unfoldable pub sumsBefore : Account → Sums
 sumsBefore a =
     record {

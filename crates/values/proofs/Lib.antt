@@ -1,3 +1,2 @@
 pub mod SheetRates
 pub mod SheetEnergies
-pub mod Ranges
