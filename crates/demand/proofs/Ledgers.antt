@@ -129,7 +129,7 @@ module _ (v : View) (l : Ledger) (a : Agrees v l) where
       → Agrees
       (viewIs (accountClosed (yearValues s (v .account .details)) (v .account))
       (closingEntry (v .account .«open_year») (v .account .option) (settled (v .account) (yearValues s (v .account .details))) ∷ v .entries)) (ledger.closed s l)
-  unfolding accountClosed yearValues ledger.closed sheetValue yearAfter ledger.itemOf itemsOf advancesOf
+  unfolding accountClosed yearValues ledger.closed ledger.closedWith ledger.figuresOf sheetValue yearAfter ledger.itemOf itemsOf advancesOf
   agrees-closed s k year small field =
       record {
         details = a .details;
@@ -138,7 +138,7 @@ module _ (v : View) (l : Ledger) (a : Agrees v l) where
         half1 = refl;
         half2 = refl;
         open-year = rw (a .open-year, year);
-        advances = sym (no-advance-yet s year k);
+        advances = sym (no-advance-yet (sheetYear s) (ledger.figuresOf (l .details) s) year k);
         items = ap₂ (λ (i : Item) (is : List Item). i ∷ is) (same-item s year small field) (a .items);
         paid = a .paid;
       }
@@ -168,13 +168,13 @@ more {v} {l} {x} s = subst (State (some v) (some l)) (sym (add-zero x)) s
 
 -- the step of the user by value and the step of the ledger
 pub in-step : (c : Call) (v : Option View) (m : Option Ledger) (x : ℕ) → Posts c v → State v m x → State (stepOf c v) (posted c m) (x + gainOf c m)
-unfolding stepOf changeOf viewAfter accountOf posted gainOf valueBy
+unfolding stepOf changeOf viewAfter accountOf posted gainOf valueBy ledger.closed ledger.figuresOf
 in-step c v m x (enrols {n} {d} {o}) unknown = known (fresh-agrees n d o) (kept-enrolled d o)
 in-step c v m x (elects {o = o}) (known {v = u} {l = l} a k) = more (known (agrees-elected u l a o) (kept-elected o k))
 in-step c v m x (advances {y = y} {r} {p} {e₁} {e₂} year) (known {v = u} {l = l} a k) =
     more (known (agrees-advanced u l a y r p e₁ e₂ k (year ∙ a .open-year)) (kept-advanced y r p e₁ e₂ (year ∙ a .open-year) k))
 in-step c v m x (closes {s} year small field) (known {v = u} {l = l} a k) =
-    known (agrees-closed u l a s k (year ∙ a .open-year) small field) (kept-closed s (year ∙ a .open-year) k)
+    known (agrees-closed u l a s k (year ∙ a .open-year) small field) (kept-closed (sheetYear s) (ledger.figuresOf (l .details) s) (year ∙ a .open-year) k)
 in-step c v m x states (known a k) = more (known a k)
 
 -- a ledger that notes these details, or none
@@ -185,7 +185,7 @@ Notes (some l) d = l .details ≡ d
 -- details stay as enrolled, so that what a call adds is worked from those that the ledger notes at the end
 pub noted : (c : Call) (v : Option View) (m : Option Ledger) (x : ℕ) → Posts c v → State v m x → (d : Details) → Notes (posted c m) d
     → Notes m d × (gainOf c m ≡ valueBy d c)
-unfolding posted gainOf valueBy ledger.elected ledger.advanced ledger.closed
+unfolding posted gainOf valueBy ledger.elected ledger.advanced ledger.closed ledger.closedWith
 noted c v m x enrols unknown d n = (tt, refl)
 noted c v m x elects (known a k) d n = (n, refl)
 noted c v m x (advances year) (known a k) d n = (n, refl)

@@ -3,17 +3,14 @@
 use Prim.Native.Nat.{ℕ, _+_}
 use mathlib.Core.Path.{_≡_, refl, ap, ap₂, _∙_}
 use mathlib.Core.Bool.{cond}
-use mathlib.Core.List.{List}
 use native.Mathlib.Nat.{le-of-eq}
 use native.Mathlib.Omega.{arith}
 use lib.Dec.{eqb, ltb}
 use lib.IntN.{pos, _+ℤ_, _-ℤ_, +ℤ-comm}
 use Rattle.values.specs.declared.Details.{Details}
-use Rattle.prices.specs.ValueAndCost.{costOf}
-use Rattle.sheet.specs.YearSheet.{sheetYear}
 use Rattle.accounts.specs.Closing.{liquidates, contributionOf, lapsedOf, creditAfter, balanceOf}
 use Rattle.accounts.proofs.Closing.{one-year}
-use Rattle.ledger.specs.Ledger.{Ledger, yearAfter, openYear, sumItems, sumBalances, sumAdvances, enrolled, elected, advanceAmount, advanced, itemOf, sheetValue, sheetFlatRate, closed, statementOf}
+use Rattle.ledger.specs.Ledger.{Ledger, yearAfter, openYear, sumItems, sumBalances, sumAdvances, enrolled, elected, advanceAmount, advanced, itemOf, Figures, closedWith, statementOf}
 use Rattle.ledger.specs.Accounting.{lapsedOver, conserved, Consecutive, Accounts}
 use Rattle.ledger.proofs.Standing.{figure, standing-exists}
 use Rattle.ledger.proofs.Years.{from-activation, NoneBefore, closed-advances-before}
@@ -77,43 +74,46 @@ sums-join : (x g p k′ c f k xs gs ps cs fs : ℕ)
     → (x + xs) + (g + gs) + (p + ps) + k′ ≡ (c + cs) + (f + fs)
 sums-join x g p k′ c f k xs gs ps cs fs year before = omega arith
 
--- a closing of the open year by the sheet s
-module _ {n : ℕ} {l : Ledger} (s : List ℕ) (open-year : sheetYear s ≡ openYear l) (k : Kept n l) where
-  -- the advances of the closed years, once the sheet's year is closed
-  closed-advances : paidBefore (closed s l) ≡ paidBefore l + sumAdvances (eqb (sheetYear s)) (l .advances)
-  unfolding closed itemOf yearAfter
-  closed-advances =
-      advances-split (sheetYear s) (l .advances)
-      ∙ ap (λ y. sumAdvances (λ z. ltb z y) (l .advances) + sumAdvances (eqb (sheetYear s)) (l .advances)) open-year
+-- a closing of the open year, with any figures
+module _ {n : ℕ} {l : Ledger} (year : ℕ) (f : Figures) (open-year : year ≡ openYear l) (k : Kept n l) where
+  abbrev after : Ledger
+  after = closedWith year f l
 
-  closed-sums : statementOf (closed s l) .contribution + statementOf (closed s l) .liquidation + statementOf (closed s l) .lapsed + closed s l .credit
-      ≡ statementOf (closed s l) .value + statementOf (closed s l) .flatRate
-  unfolding statementOf closed itemOf sumItems
+  -- the advances of the closed years, once the year is closed
+  closed-advances : paidBefore after ≡ paidBefore l + sumAdvances (eqb (year)) (l .advances)
+  unfolding closedWith itemOf yearAfter
+  closed-advances =
+      advances-split (year) (l .advances)
+      ∙ ap (λ y. sumAdvances (λ z. ltb z y) (l .advances) + sumAdvances (eqb (year)) (l .advances)) open-year
+
+  closed-sums : statementOf after .contribution + statementOf after .liquidation + statementOf after .lapsed + after .credit
+      ≡ statementOf after .value + statementOf after .flatRate
+  unfolding statementOf closedWith itemOf sumItems
   closed-sums =
       sums-join _ _ _ _ _ _ _ _ _ _ _ _
-      (one-year (l .option) (l .credit) (sheetValue (l .details) s) (costOf s) (sheetFlatRate (l .details) s)) (k .sums)
+      (one-year (l .option) (l .credit) (f .value) (f .cost) (f .flatRate)) (k .sums)
 
-  closed-balances : statementOf (closed s l) .balance +ℤ pos (paidBefore (closed s l))
-      ≡ pos (statementOf (closed s l) .contribution)
-  unfolding statementOf closed itemOf sumItems sumBalances balanceOf
+  closed-balances : statementOf after .balance +ℤ pos (paidBefore after)
+      ≡ pos (statementOf after .contribution)
+  unfolding statementOf closedWith itemOf sumItems sumBalances balanceOf
   closed-balances =
-      ap (λ a. statementOf (closed s l) .balance +ℤ pos a) closed-advances
-      ∙ balance-joins (pos (contributionOf (l .option) (l .credit) (sheetValue (l .details) s) (costOf s) (sheetFlatRate (l .details) s)))
-      (pos (sumAdvances (eqb (sheetYear s)) (l .advances))) (sumBalances (l .items)) (pos (paidBefore l))
+      ap (λ a. statementOf after .balance +ℤ pos a) closed-advances
+      ∙ balance-joins (pos (contributionOf (l .option) (l .credit) (f .value) (f .cost) (f .flatRate)))
+      (pos (sumAdvances (eqb (year)) (l .advances))) (sumBalances (l .items)) (pos (paidBefore l))
       (pos (sumItems (λ i. i .contribution) (l .items))) (k .balances)
 
-  closed-lapsed : statementOf (closed s l) .lapsed ≡ lapsedOver figure (closed s l .items)
-  unfolding statementOf closed itemOf sumItems lapsedOver lapsedOf
+  closed-lapsed : statementOf after .lapsed ≡ lapsedOver figure (after .items)
+  unfolding statementOf closedWith itemOf sumItems lapsedOver lapsedOf
   closed-lapsed = ap₂ _+_ (ap (λ c. cond (liquidates (l .option)) c 0) (k .credit)) (k .lapsed)
 
-  pub kept-closed : Kept (n + sheetValue (l .details) s) (closed s l)
-  unfolding closed itemOf sumItems statementOf figure Consecutive yearAfter
+  pub kept-closed : Kept (n + f .value) after
+  unfolding closedWith itemOf sumItems statementOf figure Consecutive yearAfter
   kept-closed =
       record {
         values = omega (arith, k .values);
         sums = closed-sums;
         balances = closed-balances;
-        credit = ap (λ c. creditAfter (l .option) c (sheetValue (l .details) s) (costOf s)) (k .credit);
+        credit = ap (λ c. creditAfter (l .option) c (f .value) (f .cost)) (k .credit);
         lapsed = closed-lapsed;
         years = (open-year, k .years);
         noneLater = none-after-later (omega arith) (l .advances) (k .noneLater);
@@ -121,8 +121,8 @@ module _ {n : ℕ} {l : Ledger} (s : List ℕ) (open-year : sheetYear s ≡ open
       }
 
   -- the year that it opens has no advance yet
-  pub no-advance-yet : sumAdvances (eqb (openYear (closed s l))) (closed s l .advances) ≡ 0
-  unfolding closed itemOf yearAfter
+  pub no-advance-yet : sumAdvances (eqb (openYear after)) (after .advances) ≡ 0
+  unfolding closedWith itemOf yearAfter
   no-advance-yet = none-of-later (omega arith) (l .advances) (k .noneLater)
 
 -- "A year with an item is closed": the advances of closed years are those of the years before the open one

@@ -122,26 +122,38 @@ itemOf year option k a c o f =
       balance = balanceOf (contributionOf option k c o f) a;
     }
 
+-- what a year comes to, wherever its figures are from: C, O, F and the exchanged kWh of its halves
+pub record Figures : Type 0 where
+  pub value : ℕ
+  pub cost : ℕ
+  pub flatRate : ℕ
+  pub half1 : ℕ
+  pub half2 : ℕ
+
+unfoldable pub closedWith : ℕ → Figures → Ledger → Ledger
+closedWith year f l =
+    record {
+      details = l .details;
+      option = l .option;
+      credit = creditAfter (l .option) (l .credit) (f .value) (f .cost);
+      half1 = f .half1;
+      half2 = f .half2;
+      items = itemOf year (l .option) (l .credit) (sumAdvances (eqb year) (l .advances)) (f .value) (f .cost) (f .flatRate) ∷ l .items;
+      advances = l .advances;
+    }
+
+-- the figures of a sheet, by the enrolled details
 unfoldable pub sheetValue : Details → List ℕ → ℕ
 sheetValue d s = valueOf s (onIsland d) (isPhotovoltaic d)
 
 unfoldable pub sheetFlatRate : Details → List ℕ → ℕ
 sheetFlatRate d s = flatRateOver s 0 12 (d .class) (d .plant) (d .power)
 
+unfoldable pub figuresOf : Details → List ℕ → Figures
+figuresOf d s = record { value = sheetValue d s; cost = costOf s; flatRate = sheetFlatRate d s; half1 = halfOf s 0; half2 = halfOf s 1 }
+
 unfoldable pub closed : List ℕ → Ledger → Ledger
-closed s l =
-    record {
-      details = l .details;
-      option = l .option;
-      credit = creditAfter (l .option) (l .credit) (sheetValue (l .details) s) (costOf s);
-      half1 = halfOf s 0;
-      half2 = halfOf s 1;
-      items =
-          itemOf (sheetYear s) (l .option) (l .credit) (sumAdvances (eqb (sheetYear s)) (l .advances))
-          (sheetValue (l .details) s) (costOf s) (sheetFlatRate (l .details) s)
-          ∷ l .items;
-      advances = l .advances;
-    }
+closed s l = closedWith (sheetYear s) (figuresOf (l .details) s) l
 
 -- "Statement: open year, credit, and the sums over the chain of C, O, F, contribution, liquidation, lapsed, balance, all
 -- advances, advances of closed years.", "summed over items and advances instead of the chain"

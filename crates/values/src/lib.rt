@@ -235,14 +235,22 @@ fn monthly_flat_rate(
     Ticks(sum)
 }
 
-// F, the flat-rate part, of a stretch of months for a class, a plant and its power in watts.
-pub fn flat_rate(s: &[u8], from: usize, count: usize, class: u8, plant: u8, power: u32) -> Ticks
+// F, the flat-rate part, of a stretch of months for a class, a plant and its power in watts, by the months' energies.
+fn flat_rate(
+    s: &[u8],
+    withdrawn: [Kwh; 12],
+    injected: [Kwh; 12],
+    from: usize,
+    count: usize,
+    class: u8,
+    plant: u8,
+    power: u32,
+) -> Ticks
     requires { ⌜ Passed (now s) ⌝ }
     requires { ⌜ (0 < count) × (from + count ≤ 12) ⌝ }
+    requires { ⌜ Months (monthWithdrawn (now s)) withdrawn × Months (monthInjected (now s)) injected ⌝ }
     ensures { λ r. ⌜ (r ≡ ticks (flatRateOver (now (s .entry)) from count class plant power)) × (r .0 ≤ maxFlatRate) ⌝ }
 {
-    let withdrawn = withdrawn(s);
-    let injected = injected(s);
     if tariff::monthly_method(class, some_month_above(withdrawn, from, count)) {
         monthly_flat_rate(
             s,
@@ -265,11 +273,15 @@ pub fn year_values(s: &[u8], details: Details) -> YearValues
     requires { ⌜ Passed (now s) ⌝ }
     ensures { λ r. ⌜ (r ≡ yearValues (now (s .entry)) details) × ValuesFit r ⌝ }
 {
-    let months = exchanged(withdrawn(s), injected(s));
+    let withdrawn = withdrawn(s);
+    let injected = injected(s);
+    let months = exchanged(withdrawn, injected);
+    let class = details.class;
+    let plant = details.plant;
     YearValues {
         value: prices::value(s, details.island == 1, details.plant == 1),
         cost: prices::cost(s),
-        flat_rate: flat_rate(s, 0, 12, details.class, details.plant, details.power),
+        flat_rate: flat_rate(s, withdrawn, injected, 0, 12, class, plant, details.power),
         half1: energy_over(months, 0, 6),
         half2: energy_over(months, 6, 6),
     }

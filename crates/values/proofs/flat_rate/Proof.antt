@@ -14,12 +14,6 @@ use borrow.Author.Needs.{needs}
 use Rattle.values.proofs.flat_rate.Statement.{statement}
 use Rattle.values.proofs.flat_rate.Tie as tie
 
-withdrawn-requires : tie.Need-withdrawn-requires
-withdrawn-requires c κs = search needs
-
-injected-requires : tie.Need-injected-requires
-injected-requires c κs = search needs
-
 some-month-above-requires : tie.Need-some-month-above-requires
 some-month-above-requires c κs = search needs
 
@@ -31,67 +25,58 @@ exchanged-requires c κs = search needs
 
 monthly-flat-rate-requires : tie.Need-monthly-flat-rate-requires
 monthly-flat-rate-requires c κs =
-    let start = c .before .before .before .before .before .before .before in
+    let start = c .before .before .before .before .before in
     let s = now (start .args .s) in
-    let w = c .before .before .before .before .before .withdrawn in
-    let i = c .before .before .before .before .injected in
-    (start .pre .0, (search needs, (w .ensures, exchanged-months s (w .result) (i .result) (c .exchanged .result) (w .ensures) (i .ensures) (c .exchanged .ensures))))
+    (start .pre .0, (search needs, (start .pre .1 .1 .0, exchanged-months s (start .args .withdrawn) (start .args .injected) (c .exchanged .result) (start .pre .1 .1 .0) (start .pre .1 .1 .1) (c .exchanged .ensures))))
 
 energy-over-requires : tie.Need-energy-over-requires
 energy-over-requires c κs =
-    let start = c .before .before .before .before .before .before in
+    let start = c .before .before .before .before in
     let s = now (start .args .s) in
-    let w = c .before .before .before .before .withdrawn in
-    (search needs, months-capped (monthWithdrawn s) (w .result) (3 * maxKwh) (w .ensures) (withdrawn-capped s (start .pre .0)))
+    (search needs, months-capped (monthWithdrawn s) (start .args .withdrawn) (3 * maxKwh) (start .pre .1 .1 .0) (withdrawn-capped s (start .pre .0)))
 
 energy-over-requires-2 : tie.Need-energy-over-requires-2
 energy-over-requires-2 c κs =
-    let start = c .before .before .before .before .before .before .before in
+    let start = c .before .before .before .before .before in
     let s = now (start .args .s) in
-    let i = c .before .before .before .before .injected in
-    (search needs, months-capped (monthInjected s) (i .result) (3 * maxKwh) (i .ensures) (injected-capped s (start .pre .0)))
+    (search needs, months-capped (monthInjected s) (start .args .injected) (3 * maxKwh) (start .pre .1 .1 .1) (injected-capped s (start .pre .0)))
 
 smaller-requires : tie.Need-smaller-requires
 smaller-requires c κs = search needs
 
 annual-flat-rate-requires : tie.Need-annual-flat-rate-requires
 annual-flat-rate-requires c κs =
-    let start = c .before .before .before .before .before .before .before .before .before in
+    let start = c .before .before .before .before .before .before .before in
     let shared = c .smaller .ensures in
-    (start .pre .0, (start .pre .1, (omega arith, omega (arith, c .before .before .energy-over .ensures .1))))
+    (start .pre .0, (start .pre .1 .0, (omega arith, omega (arith, c .before .before .energy-over .ensures .1))))
 
 returns : tie.Need-returns
 returns c =
-    let start = c .before .before .before .before .before .before .before .before in
+    let start = c .before .before .before .before .before .before in
     let a = start .args in
     let s = now (a .s) in
-    let w = c .before .before .before .before .before .before .withdrawn in
     let above = c .before .before .before .before .some-month-above in
     let method = c .before .before .before .monthly-method in
-    let test = sym (ap (monthlyMethod (a .class)) (above .ensures ∙ above-over s (w .result) (w .ensures) (a .from) (a .count) (start .pre .1 .1))) ∙ sym (method .ensures) ∙ c .before .before .if1 .taken in
+    let test = sym (ap (monthlyMethod (a .class)) (above .ensures ∙ above-over s (start .args .withdrawn) (start .pre .1 .1 .0) (a .from) (a .count) (start .pre .1 .0 .1))) ∙ sym (method .ensures) ∙ c .before .before .if1 .taken in
     (ap ticks (flat-monthly s (a .from) (a .count) (a .class) (a .plant) (a .power) (c .monthly-flat-rate .result .0) test (c .monthly-flat-rate .ensures .0)), omega (arith, c .monthly-flat-rate .ensures .1))
 
 returns-2 : tie.Need-returns-2
 returns-2 c =
-    let start = c .before .before .before .before .before .before .before .before .before .before in
+    let start = c .before .before .before .before .before .before .before .before in
     let a = start .args in
     let s = now (a .s) in
-    let w = c .before .before .before .before .before .before .before .before .withdrawn in
-    let i = c .before .before .before .before .before .before .before .injected in
     let above = c .before .before .before .before .before .before .some-month-above in
     let method = c .before .before .before .before .before .monthly-method in
     let total = c .before .before .before .energy-over in
     let injected = c .before .before .energy-over2 in
-    let test = sym (ap (monthlyMethod (a .class)) (above .ensures ∙ above-over s (w .result) (w .ensures) (a .from) (a .count) (start .pre .1 .1))) ∙ sym (method .ensures) ∙ c .before .before .before .before .if1 .left in
+    let test = sym (ap (monthlyMethod (a .class)) (above .ensures ∙ above-over s (start .args .withdrawn) (start .pre .1 .1 .0) (a .from) (a .count) (start .pre .1 .0 .1))) ∙ sym (method .ensures) ∙ c .before .before .before .before .if1 .left in
     let shared = c .before .smaller .ensures in
-    (ap ticks (flat-annual s (w .result) (i .result) (a .from) (a .count) (a .class) (a .plant) (a .power) (c .annual-flat-rate .result .0) (total .result) (injected .result) (c .before .smaller .result) (start .pre .1 .1) (w .ensures) (i .ensures) test (total .ensures .0) (injected .ensures .0) (ap kwh (c .before .smaller .ensures)) (c .annual-flat-rate .ensures .0)), omega (arith, c .annual-flat-rate .ensures .1, total .ensures .1))
+    (ap ticks (flat-annual s (start .args .withdrawn) (start .args .injected) (a .from) (a .count) (a .class) (a .plant) (a .power) (c .annual-flat-rate .result .0) (total .result) (injected .result) (c .before .smaller .result) (start .pre .1 .0 .1) (start .pre .1 .1 .0) (start .pre .1 .1 .1) test (total .ensures .0) (injected .ensures .0) (ap kwh (c .before .smaller .ensures)) (c .annual-flat-rate .ensures .0)), omega (arith, c .annual-flat-rate .ensures .1, total .ensures .1))
 
 pub flat-rate-spec : {M : Type 1} → statement M
 flat-rate-spec =
     tie.close
     (tie.spec
-    withdrawn-requires
-    injected-requires
     some-month-above-requires
     monthly-method-requires
     exchanged-requires
