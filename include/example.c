@@ -1,19 +1,27 @@
 /*
- * One user's first year: a fresh book, an enrolment, an election, an advance, a closing, and the statement in euro.
+ * Three years of one user, the first advance of another, and calls that are refused: every field of every answer is printed.
  *
  *     gcc -std=c11 -Wall -Wextra -Werror -Iinclude include/example.c target/staticlib/libssp.a -o example
  *
  * example.out has what it prints. Its figures do not come from the library: the Python program that made tests/vectors (its
- * README.md) was given the same calls, and its answers were written out in this form.
+ * README.md) was given the same calls, and its answers were written out in this form. The arguments of a call, and the sums of
+ * an answer, are unequal and wider than 32 bits where their type is, so that the output changes with a header that has two of
+ * them exchanged or one too narrow.
  */
 #include <inttypes.h>
 #include <stdio.h>
-#include <stdlib.h>
 #include <string.h>
 
 #include "ssp.h"
 
-enum { RECORD = 80, NUMBER = 7, YEAR = 2013, HEADER = 32, NUMBERS_A_MONTH = 24, TICKS_A_EURO = 100000 };
+enum { RECORD = 80, HYDRO = 270013, HOUSEHOLD = 7, HEADER = 32, NUMBERS_A_MONTH = 24, TICKS_A_EURO = 100000 };
+
+/* What goes beyond a type that is too narrow: added to an argument, it is lost in one of 16 or of 32 bits. */
+#define BEYOND_16 (UINT32_C(1) << 16)
+#define BEYOND_32 (UINT64_C(1) << 32)
+
+static uint8_t book[16 * RECORD];
+static uint8_t sheet[SSP_SHEET_LENGTH];
 
 static void put(uint8_t *at, uint32_t number, int bytes)
 {
@@ -21,22 +29,23 @@ static void put(uint8_t *at, uint32_t number, int bytes)
         at[k] = (uint8_t)(number >> 8 * k);
 }
 
-/* The year sheet, by bands, with twelve equal months. */
-static void write_sheet(uint8_t sheet[SSP_SHEET_LENGTH])
+/* The year sheet of the hydroelectric plant, by bands, with twelve equal months; each year it injects more. */
+static void write_sheet(uint32_t year)
 {
-    static const uint32_t month[NUMBERS_A_MONTH] = {
-        120,  90,   80,               /* kWh withdrawn in F1, F2 and F3 */
-        250,  110,  40,               /* kWh injected */
-        7200, 6800, 5100, 6300,       /* PUN by bands, and its mean */
-        6900, 6400, 4800, 6000, 6600, /* zone by bands, its mean, its mean of hours 8-20 */
-        3000, 4000, 6000, 7000,       /* net rate of the four tiers */
-        1000, 1200, 1500, 1900,       /* system rate of the four tiers */
+    const uint32_t more = 1001 * (year - 2013);
+    const uint32_t month[NUMBERS_A_MONTH] = {
+        20003,        12001, 8009,                  /* kWh withdrawn in F1, F2 and F3 */
+        40007 + more, 25001, 15013,                 /* kWh injected */
+        14203,        12801, 11107, 12900,          /* PUN by bands, and its mean */
+        13109,        12403, 10801, 12200, 13400,   /* zone by bands, its mean, its mean of hours 8-20 */
+        8001,         8500,  9000,  9500,           /* net rate of the four tiers */
+        7003,         7200,  7500,  7900,           /* system rate of the four tiers */
         0,
     };
 
-    memset(sheet, 0, SSP_SHEET_LENGTH);
-    put(sheet, NUMBER, 4);
-    put(sheet + 4, YEAR, 2);
+    memset(sheet, 0, sizeof sheet);
+    put(sheet, HYDRO, 4);
+    put(sheet + 4, year, 2);
     sheet[6] = 1;
     sheet[7] = 1;
     for (int m = 0; m < 12; m++)
@@ -44,66 +53,124 @@ static void write_sheet(uint8_t sheet[SSP_SHEET_LENGTH])
             put(sheet + HEADER + 4 * (NUMBERS_A_MONTH * m + k), month[k], 4);
 }
 
-static void accepted(const char *call, uint32_t refusal)
+static void answer(const char *call, uint32_t refusal, uint32_t record)
 {
-    if (refusal != 0) {
-        fprintf(stderr, "%s: refused %" PRIu32 "\n", call, refusal);
-        exit(EXIT_FAILURE);
-    }
+    printf("%s: refusal %" PRIu32 ", record %" PRIu32 "\n", call, refusal, record);
 }
 
-static void print_euro(const char *what, const char *sign, uint64_t ticks)
+static void euro(const char *what, const char *sign, uint64_t ticks)
 {
-    printf("%-26s%s%" PRIu64 ".%05" PRIu64 " EUR\n", what, sign, ticks / TICKS_A_EURO, ticks % TICKS_A_EURO);
+    printf("  %-16s %s%" PRIu64 ".%05" PRIu64 " EUR\n", what, sign, ticks / TICKS_A_EURO, ticks % TICKS_A_EURO);
 }
 
-static void print_balance(const char *what, int64_t ticks)
+static void amount(const char *what, uint64_t ticks)
 {
-    if (ticks < 0)
-        print_euro(what, "-", 0 - (uint64_t)ticks);
-    else
-        print_euro(what, "", (uint64_t)ticks);
+    euro(what, "", ticks);
+}
+
+/* A signed amount: whether it is negative is asked of the field itself. */
+static void balance(const char *what, int negative, uint64_t ticks)
+{
+    euro(what, negative ? "-" : "", negative ? 0 - ticks : ticks);
+}
+
+static void enrol(const char *call, uint32_t number, uint8_t user_class, uint8_t plant, uint8_t option, uint32_t power,
+                  uint8_t month, uint8_t island)
+{
+    struct ssp_booked booked = ssp_enrol(book, sizeof book, number, user_class, plant, option, power, 2013, month, island);
+    answer(call, booked.refusal, booked.record);
+}
+
+static void elect(const char *call, uint8_t option, uint32_t year, uint32_t month, uint32_t day)
+{
+    struct ssp_booked booked = ssp_elect(book, sizeof book, HYDRO, option, year, month, day);
+    answer(call, booked.refusal, booked.record);
+}
+
+static void advance(const char *call, uint32_t number, uint32_t year, uint8_t run, uint64_t rate, uint64_t estimate1,
+                    uint64_t estimate2)
+{
+    struct ssp_advanced advanced = ssp_advance(book, sizeof book, number, year, run, rate, estimate1, estimate2);
+    answer(call, advanced.refusal, advanced.record);
+    amount("ticks", advanced.ticks);
+}
+
+static void close_year(const char *call, uint32_t year)
+{
+    write_sheet(year);
+    struct ssp_closed closed = ssp_close(book, sizeof book, sheet, sizeof sheet);
+    answer(call, closed.refusal, closed.record);
+    amount("value", closed.value);
+    amount("cost", closed.cost);
+    amount("flat_rate", closed.flat_rate);
+    amount("contribution", closed.contribution);
+    amount("liquidation", closed.liquidation);
+    amount("lapsed", closed.lapsed);
+    balance("balance", closed.balance < 0, (uint64_t)closed.balance);
+}
+
+static void statement(const char *call, uint32_t number)
+{
+    struct ssp_sums sums = ssp_statement(book, sizeof book, number);
+    answer(call, sums.refusal, sums.record);
+    printf("  %-16s %" PRIu64 "\n", "open_year", sums.open_year);
+    amount("credit", sums.credit);
+    amount("value", sums.value);
+    amount("cost", sums.cost);
+    amount("flat_rate", sums.flat_rate);
+    amount("contribution", sums.contribution);
+    amount("liquidation", sums.liquidation);
+    amount("lapsed", sums.lapsed);
+    balance("balance", sums.balance < 0, (uint64_t)sums.balance);
+    amount("advances", sums.advances);
+    amount("closed_advances", sums.closed_advances);
 }
 
 int main(void)
 {
-    static uint8_t book[8 * RECORD];
-    static uint8_t sheet[SSP_SHEET_LENGTH];
+    printf("fresh of 81 bytes: refusal %" PRIu32 "\n", ssp_fresh(book, 81));
+    printf("fresh: refusal %" PRIu32 "\n", ssp_fresh(book, sizeof book));
 
-    accepted("fresh", ssp_fresh(book, sizeof book));
+    /* A run-of-river plant of 140 kW behind another low voltage point, and a household on an island, since October. */
+    enrol("enrol the plant", HYDRO, 5, 4, SSP_LIQUIDATION, 140000, 2, 0);
+    enrol("enrol the household", HOUSEHOLD, 2, 1, SSP_CREDIT, 3000, 10, 1);
+    enrol("enrol the plant again", HYDRO, 5, 4, SSP_LIQUIDATION, 140000, 2, 0);
 
-    /* A household with a photovoltaic plant of 3 kW since January 2013, on credit. */
-    struct ssp_booked user = ssp_enrol(book, sizeof book, NUMBER, 2, 1, SSP_CREDIT, 3000, YEAR, 1, 0);
-    accepted("enrol", user.refusal);
-    printf("user %d stands in record %" PRIu32 "\n", NUMBER, user.record);
+    /* On credit in 2013. Neither year, month nor day is cut to 16 bits. */
+    elect("elect credit", SSP_CREDIT, 2013, 12, 31);
+    elect("elect in a year beyond 16 bits", SSP_LIQUIDATION, 2013 + BEYOND_16, 12, 31);
+    elect("elect in a month beyond 16 bits", SSP_LIQUIDATION, 2013, 12 + BEYOND_16, 31);
+    elect("elect on a day beyond 16 bits", SSP_LIQUIDATION, 2013, 12, 31 + BEYOND_16);
 
-    struct ssp_booked elected = ssp_elect(book, sizeof book, NUMBER, SSP_LIQUIDATION, YEAR, 12, 31);
-    accepted("elect", elected.refusal);
+    /* The advances of 2013 go by the estimates. Neither year, rate nor estimates are cut. */
+    advance("advance in June", HYDRO, 2013, SSP_JUNE, 24007, 510001, 430003);
+    advance("advance for a year beyond 16 bits", HYDRO, 2013 + BEYOND_16, SSP_OCTOBER, 24007, 510001, 430003);
+    advance("advance with a rate beyond 32 bits", HYDRO, 2013, SSP_OCTOBER, 24007 + BEYOND_32, 510001, 430003);
+    advance("advance with a first estimate beyond 32 bits", HYDRO, 2013, SSP_OCTOBER, 24007, 510001 + BEYOND_32, 430003);
+    advance("advance with a second estimate beyond 32 bits", HYDRO, 2013, SSP_OCTOBER, 24007, 510001, 430003 + BEYOND_32);
+    advance("advance in October", HYDRO, 2013, SSP_OCTOBER, 24007, 510001, 430003);
+    advance("advance in January", HOUSEHOLD, 2013, SSP_JANUARY, 9000, 5000, 4300);
 
-    struct ssp_advanced june = ssp_advance(book, sizeof book, NUMBER, YEAR, SSP_JUNE, 9000, 5000, 5000);
-    accepted("advance", june.refusal);
-    print_euro("paid in June", "", june.ticks);
+    /* A year on credit, too much of it advanced; a year of liquidation, in which that credit lapses; a year on credit. */
+    close_year("close 2013", 2013);
+    elect("elect liquidation", SSP_LIQUIDATION, 2014, 12, 31);
+    advance("advance in June", HYDRO, 2014, SSP_JUNE, 24007, 1, 2);
+    close_year("close 2014", 2014);
+    elect("elect credit", SSP_CREDIT, 2015, 1, 31);
+    close_year("close 2015", 2015);
+    close_year("close 2015 again", 2015);
+    advance("advance in June", HYDRO, 2016, SSP_JUNE, 23011, 1, 2);
 
-    write_sheet(sheet);
-    struct ssp_closed closed = ssp_close(book, sizeof book, sheet, sizeof sheet);
-    accepted("close", closed.refusal);
-    print_balance("balance of the year", closed.balance);
+    statement("statement of the plant", HYDRO);
+    statement("statement of the household", HOUSEHOLD);
+    statement("statement of nobody", 8);
 
-    struct ssp_sums sums = ssp_statement(book, sizeof book, NUMBER);
-    accepted("statement", sums.refusal);
-    printf("%-26s%" PRIu64 "\n", "open year", sums.open_year);
-    print_euro("credit", "", sums.credit);
-    print_euro("value injected", "", sums.value);
-    print_euro("purchase cost", "", sums.cost);
-    print_euro("flat-rate part", "", sums.flat_rate);
-    print_euro("contribution", "", sums.contribution);
-    print_euro("liquidation", "", sums.liquidation);
-    print_euro("lapsed credit", "", sums.lapsed);
-    print_balance("balance", sums.balance);
-    print_euro("advances", "", sums.advances);
-    print_euro("advances of closed years", "", sums.closed_advances);
-
-    /* The year is closed: the same sheet is refused with 12, and the book stays as it is. */
-    printf("closed again: refused %" PRIu32 "\n", ssp_close(book, sizeof book, sheet, sizeof sheet).refusal);
-    return EXIT_SUCCESS;
+    /* A byte of record 3, the first advance, that must be zero: the book is damaged, and every call names the record. */
+    book[3 * RECORD + 79] = 1;
+    enrol("enrol in a damaged book", 8, 2, 1, SSP_CREDIT, 3000, 10, 1);
+    elect("elect in a damaged book", SSP_CREDIT, 2016, 1, 31);
+    advance("advance in a damaged book", HYDRO, 2016, SSP_OCTOBER, 23011, 1, 2);
+    close_year("close in a damaged book", 2016);
+    statement("statement in a damaged book", HYDRO);
+    return 0;
 }

@@ -140,3 +140,200 @@ impl fmt::Display for Statement {
         )
     }
 }
+
+#[cfg(test)]
+mod tests {
+    use super::{Closing, Statement};
+    use crate::amount::{Balance, Ticks};
+    use crate::ffi;
+
+    /// Each field has a value of its own, so that none can stand for another.
+    fn closed() -> ffi::Closed {
+        ffi::Closed {
+            refusal: 0,
+            record: 0,
+            value: 100_001,
+            cost: 200_002,
+            flat_rate: 300_003,
+            contribution: 400_004,
+            liquidation: 500_005,
+            lapsed: 600_006,
+            balance: -700_007,
+        }
+    }
+
+    fn sums() -> ffi::Sums {
+        ffi::Sums {
+            refusal: 0,
+            record: 0,
+            open_year: 2014,
+            credit: 100_001,
+            value: 200_002,
+            cost: 300_003,
+            flat_rate: 400_004,
+            contribution: 500_005,
+            liquidation: 600_006,
+            lapsed: 700_007,
+            balance: -800_008,
+            advances: 900_009,
+            closed_advances: 1_000_010,
+        }
+    }
+
+    #[test]
+    fn fields_of_a_closing() {
+        let expected = Closing {
+            value: Ticks(100_001),
+            cost: Ticks(200_002),
+            flat_rate: Ticks(300_003),
+            contribution: Ticks(400_004),
+            liquidation: Ticks(500_005),
+            lapsed: Ticks(600_006),
+            balance: Balance(-700_007),
+        };
+        assert_eq!(Closing::from(closed()), expected);
+    }
+
+    #[test]
+    fn fields_of_a_statement() {
+        let expected = Statement {
+            open_year: 2014,
+            credit: Ticks(100_001),
+            value: Ticks(200_002),
+            cost: Ticks(300_003),
+            flat_rate: Ticks(400_004),
+            contribution: Ticks(500_005),
+            liquidation: Ticks(600_006),
+            lapsed: Ticks(700_007),
+            balance: Balance(-800_008),
+            advances: Ticks(900_009),
+            closed_advances: Ticks(1_000_010),
+        };
+        assert_eq!(Statement::from(sums()), expected);
+    }
+
+    #[test]
+    fn rows_of_a_closing() {
+        let rows = [
+            "value injected                         1.00001 €",
+            "purchase cost                          2.00002 €",
+            "flat-rate part                         3.00003 €",
+            "contribution                           4.00004 €",
+            "liquidation                            5.00005 €",
+            "lapsed credit                          6.00006 €",
+            "balance                               -7.00007 €",
+        ];
+        assert_eq!(Closing::from(closed()).to_string(), rows.join("\n"));
+    }
+
+    #[test]
+    fn rows_of_a_statement() {
+        let rows = [
+            "open year                                   2014",
+            "credit                                 1.00001 €",
+            "value injected                         2.00002 €",
+            "purchase cost                          3.00003 €",
+            "flat-rate part                         4.00004 €",
+            "contribution                           5.00005 €",
+            "liquidation                            6.00006 €",
+            "lapsed credit                          7.00007 €",
+            "balance                               -8.00008 €",
+            "advances                               9.00009 €",
+            "advances of closed years              10.00010 €",
+        ];
+        assert_eq!(Statement::from(sums()).to_string(), rows.join("\n"));
+    }
+
+    /// "advances of closed years plus balances, less flat-rate parts, plus liquidations, plus lapsed credit, plus standing credit"
+    #[test]
+    fn terms_of_the_conserved_sum() {
+        let none = Statement {
+            open_year: 2014,
+            credit: Ticks(0),
+            value: Ticks(0),
+            cost: Ticks(0),
+            flat_rate: Ticks(0),
+            contribution: Ticks(0),
+            liquidation: Ticks(0),
+            lapsed: Ticks(0),
+            balance: Balance(0),
+            advances: Ticks(0),
+            closed_advances: Ticks(0),
+        };
+        let most = i128::from(u64::MAX);
+        for (term, expected) in [
+            (
+                Statement {
+                    credit: Ticks(u64::MAX),
+                    ..none
+                },
+                most,
+            ),
+            (
+                Statement {
+                    value: Ticks(u64::MAX),
+                    ..none
+                },
+                0,
+            ),
+            (
+                Statement {
+                    cost: Ticks(u64::MAX),
+                    ..none
+                },
+                0,
+            ),
+            (
+                Statement {
+                    flat_rate: Ticks(u64::MAX),
+                    ..none
+                },
+                -most,
+            ),
+            (
+                Statement {
+                    contribution: Ticks(u64::MAX),
+                    ..none
+                },
+                0,
+            ),
+            (
+                Statement {
+                    liquidation: Ticks(u64::MAX),
+                    ..none
+                },
+                most,
+            ),
+            (
+                Statement {
+                    lapsed: Ticks(u64::MAX),
+                    ..none
+                },
+                most,
+            ),
+            (
+                Statement {
+                    balance: Balance(i64::MIN),
+                    ..none
+                },
+                i128::from(i64::MIN),
+            ),
+            (
+                Statement {
+                    advances: Ticks(u64::MAX),
+                    ..none
+                },
+                0,
+            ),
+            (
+                Statement {
+                    closed_advances: Ticks(u64::MAX),
+                    ..none
+                },
+                most,
+            ),
+        ] {
+            assert_eq!(term.conserved_sum(), expected, "{term:?}");
+        }
+    }
+}

@@ -86,13 +86,15 @@ fn order(year: u16, run: u8) -> Order {
     }
 }
 
-/// A book of 800 records with 10 users and 788 entries: two advances and a closing a year.
-pub fn book_of_entries() -> Vec<u8> {
-    let mut bytes = vec![0; LONGEST];
+/// A book of so many records, with 10 users: all but the head, the users and the last of them are entries, two advances and a
+/// closing a year.
+pub fn book_of_entries(records: u32) -> Vec<u8> {
+    let mut bytes = vec![0; Book::RECORD * records as usize];
     let mut book = Book::fresh(&mut bytes).expect("a length that fits");
     for number in 1..=10 {
         book.enrol(household(number)).expect("a free record");
     }
+    let most = records - 12;
     let mut entries = 0;
     for year in 2013.. {
         for number in 1..=10 {
@@ -101,9 +103,10 @@ pub fn book_of_entries() -> Vec<u8> {
             }
             book.close(&sheet(number, year)).expect("a year that is open");
             entries += 3;
-            if entries + 3 > 788 {
-                for other in 1..=788 - entries {
-                    book.advance(other, order(year + 1, run::JUNE)).expect("a run that is due");
+            if entries + 3 > most {
+                for other in 1..=most - entries {
+                    let open = book.statement(other).expect("a user").open_year as u16;
+                    book.advance(other, order(open, run::JUNE)).expect("a run that is due");
                 }
                 return bytes;
             }

@@ -138,7 +138,7 @@ fn main() {
         "book", "call", "library ns", "peer ns", "ratio"
     );
     calls("798 users", &book_of_users(800, Numbers::Scattered));
-    calls("10 users, 788 entries", &book_of_entries());
+    calls("10 users, 788 entries", &book_of_entries(800));
     calls("1 user", &book_of_one(0));
     calls("1 user, 78 entries", &book_of_one(78));
     for records in [100, 200, 400, 800] {
@@ -155,7 +155,7 @@ fn main() {
 
     println!();
     refused("798 users", &book_of_users(800, Numbers::Scattered));
-    refused("10 users, 788 entries", &book_of_entries());
+    refused("10 users, 788 entries", &book_of_entries(800));
 
     let bytes = book_of_users(800, Numbers::Scattered);
     let pass = nanoseconds(|| {
