@@ -10,7 +10,7 @@ use Rattle.calls.specs.Refusals.{userAt}
 use Rattle.calls.specs.Changes.{runAmount}
 use Rattle.answers.specs.Rooms.{EntryFits}
 
--- "advance answers the ticks", and zero beside a refusal
+-- "An accepted call answers 0 and: .. advance the ticks", and zero beside a refusal
 unfoldable pub ticksAnswered : List ℕ → ℕ → ℕ → ℕ → ℕ → ℕ → ℕ → ℕ → Ticks
 ticksAnswered b number year run rate estimate1 estimate2 refusal = ticks (cond (eqb refusal 0) (runAmount (userAt b number) year run rate estimate1 estimate2) 0)
 

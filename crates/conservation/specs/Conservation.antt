@@ -1,5 +1,5 @@
--- "advances of closed years plus balances, less flat-rate parts, plus liquidations, plus lapsed credit, plus standing
--- credit", of sums as the program holds them.
+-- The sum of the user's third demand (docs/DEMANDS.md), "advances of closed years plus balances, less flat-rate parts, plus
+-- liquidations, plus lapsed credit, plus standing credit", of sums as the program holds them.
 use Prim.Native.Nat.{_^_, _<_}
 use lib.IntN.{ℤ, pos, natAbs, _+ℤ_, _-ℤ_}
 use mir.Syntax.{w64}

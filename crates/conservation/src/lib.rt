@@ -1,4 +1,4 @@
-// The sum that every account keeps (document 01, the third demand): "advances of closed years plus balances, less flat-rate
+// The sum that every account keeps (the user's third demand, docs/DEMANDS.md): "advances of closed years plus balances, less flat-rate
 // parts, plus liquidations, plus lapsed credit, plus standing credit".
 ghost use mathlib.Core.Path.{_≡_};
 ghost use mathlib.Core.Bool.{true, false};

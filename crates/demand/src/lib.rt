@@ -1,1 +1,1 @@
-// The third demand of the mission, over every list of calls: definitions and theorems, no code.
+// The third demand, over every list of calls: definitions and theorems, no code.

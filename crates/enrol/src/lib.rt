@@ -1,4 +1,4 @@
-// Enrolment (document 01, "Calls"): refusals 1 2 4 5 3, then a new user in front of the users' chain.
+// Enrolment (document 01, "Book" and "Who brings which number"): refusals 1 2 4 5 3, then a new user in front of the users' chain.
 ghost use mathlib.Core.Path.{_≡_};
 ghost use Rattle.units.specs.Units.{recordIndex};
 ghost use Rattle.book.specs.Book.{used};

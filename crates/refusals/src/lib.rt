@@ -17,7 +17,7 @@ use units::UserNumber;
 use units::WideKwh;
 use values::Details;
 
-// The last year that an election's window, a run or a closing may name.
+// The last year that a run or a closing may name: "9 .. above 2099", "12 .. above 2099".
 const LAST_YEAR: u32 = LAST_ACTIVATION as u32;
 
 const MAX_ESTIMATE: u64 = MAX_HALF_KWH as u64;
