@@ -2,20 +2,18 @@
 ghost use mathlib.Core.Path.{_≡_};
 ghost use mathlib.Core.Bool.{true, cond};
 ghost use lib.Dec.{eqb};
-ghost use Rattle.units.specs.Units.{recordIndex, ticks};
+ghost use Rattle.units.specs.Units.{ticks};
 ghost use Rattle.book.specs.Book.{halvesFit};
 ghost use Rattle.accounts.specs.Account.{accountAdvanced};
 ghost use Rattle.records.specs.Entries.{advanceEntry};
 ghost use Rattle.calls.specs.Changes.{enters, applied, runAmount};
-ghost use Rattle.book.specs.Find.{findUser};
 ghost use Rattle.calls.specs.Refusals.{orderFits};
 ghost use Rattle.calls.specs.Calls.{advance};
-ghost use Rattle.soundness.specs.Verdicts.{Accepted};
 ghost use Rattle.answers.specs.Answers.{Answered};
 ghost use Rattle.advance.specs.Advances.{RunFits, ticksAnswered};
 use accounts::Account;
+use answers::Reply;
 use records::AdvanceRecord;
-use soundness::Found;
 use units::Kwh;
 use units::Rate;
 use units::RecordIndex;
@@ -24,8 +22,7 @@ use units::UserNumber;
 use units::WideKwh;
 
 pub struct Advanced {
-    pub refusal: u32,
-    pub record: RecordIndex,
+    pub reply: Reply,
     pub ticks: Ticks,
 }
 
@@ -66,49 +63,6 @@ fn book_run(book: &mut [u8], user: RecordIndex, account: Account, run: u8, paid:
     writers::write_entry(book, user, account.advanced(run, paid), entry);
 }
 
-fn advance_sound(
-    book: &mut [u8],
-    user: RecordIndex,
-    number: UserNumber,
-    year: u32,
-    run: u8,
-    price: Rate,
-    estimate1: WideKwh,
-    estimate2: WideKwh,
-) -> Advanced
-    requires { ⌜ Accepted (now book) ⌝ }
-    requires { ⌜ user ≡ recordIndex (findUser (now book) (number .0)) ⌝ }
-    ensures { λ answer. ⌜ Answered (now (book .entry)) (advance (number .0) year run (price .0) (estimate1 .0) (estimate2 .0)) 0 (answer .refusal) (answer .record .0) (now (book .exit)) ⌝ }
-    ensures { λ answer. ⌜ answer .ticks ≡ ticksAnswered (now (book .entry)) (number .0) year run (price .0) (estimate1 .0) (estimate2 .0) (answer .refusal) ⌝ }
-{
-    let account = view::account_at(book, user);
-    let room = refusals::has_room(book);
-    let refusal = refusals::advance_objection(
-        user,
-        account,
-        year,
-        run,
-        price,
-        estimate1,
-        estimate2,
-        room,
-    );
-    if refusal == 0 {
-        let paid = run_amount(account, run, price, estimate1, estimate2);
-        book_run(book, user, account, run, paid);
-        return Advanced {
-            refusal: 0,
-            record: RecordIndex(0),
-            ticks: paid,
-        };
-    }
-    Advanced {
-        refusal,
-        record: RecordIndex(0),
-        ticks: Ticks(0),
-    }
-}
-
 pub fn advance(
     book: &mut [u8],
     number: UserNumber,
@@ -118,29 +72,46 @@ pub fn advance(
     estimate1: WideKwh,
     estimate2: WideKwh,
 ) -> Advanced
-    ensures { λ r. ⌜ Answered (now (book .entry)) (advance (number .0) year run (price .0) (estimate1 .0) (estimate2 .0)) 0 (r .refusal) (r .record .0) (now (book .exit)) ⌝ }
-    ensures { λ r. ⌜ r .ticks ≡ ticksAnswered (now (book .entry)) (number .0) year run (price .0) (estimate1 .0) (estimate2 .0) (r .refusal) ⌝ }
+    ensures { λ r. ⌜ Answered (now (book .entry)) (advance (number .0) year run (price .0) (estimate1 .0) (estimate2 .0)) 0 (r .reply .refusal) (r .reply .record .0) (now (book .exit)) ⌝ }
+    ensures { λ r. ⌜ r .ticks ≡ ticksAnswered (now (book .entry)) (number .0) year run (price .0) (estimate1 .0) (estimate2 .0) (r .reply .refusal) ⌝ }
 {
-    match soundness::find(book, number) {
-        Found::Length => Advanced {
-            refusal: 1,
-            record: RecordIndex(0),
+    let looked = answers::look(book, number);
+    let reply = looked.reply;
+    if reply.refusal != 0 {
+        return Advanced {
+            reply,
             ticks: Ticks(0),
-        },
-        Found::Faulty(index) => Advanced {
-            refusal: 2,
-            record: index,
-            ticks: Ticks(0),
-        },
-        Found::Sound(user) => advance_sound(
-            book,
-            user,
-            number,
-            year,
-            run,
-            price,
-            estimate1,
-            estimate2,
-        ),
+        };
     }
+    let user = looked.user;
+    if user.0 == 0 {
+        return Advanced {
+            reply: answers::refused(6),
+            ticks: Ticks(0),
+        };
+    }
+    let account = view::account_at(book, user);
+    let room = refusals::has_room(book);
+    let refusal = refusals::advance_objection(
+        account,
+        year,
+        run,
+        price,
+        estimate1,
+        estimate2,
+        room,
+    );
+    if refusal != 0 {
+        return Advanced {
+            reply: answers::refused(refusal),
+            ticks: Ticks(0),
+        };
+    }
+    let paid = run_amount(account, run, price, estimate1, estimate2);
+    book_run(book, user, account, run, paid);
+    let reply = Reply {
+        refusal: 0,
+        record: RecordIndex(0),
+    };
+    Advanced { reply, ticks: paid }
 }

@@ -1,20 +1,24 @@
 -- How a call's answer comes about: by refusal 1 or 2, by a later refusal, or accepted.
 use Prim.Native.Nat.{ℕ}
-use mathlib.Core.Path.{_≡_, refl, sym, _∙_}
-use mathlib.Core.Bool.{Bool, true, false, cond}
-use mathlib.Core.List.{List}
+use mathlib.Core.Path.{_≡_, refl, sym, ap, _∙_}
+use mathlib.Core.Bool.{true, false}
+use mathlib.Core.List.{List, _∷_}
 use native.Mathlib.Omega.{arith}
 use borrow.Author.Tests.{eq-eqb, ne-eqb}
-use lib.Dec.{eqb}
-use Rattle.book.specs.Book.{lengthFits, sound, faulty}
+use Rattle.book.specs.Book.{lengthFits, sound}
 use Rattle.soundness.specs.Verdicts.{Accepted, Objected}
 use Rattle.book.proofs.Faults.{faulty-not-sound}
-use Rattle.calls.specs.Rules.{refusedBy}
-use Rattle.calls.specs.Refusals.{lookAt}
-use Rattle.calls.specs.Calls.{Call, namedBy, rulesOf, refusalOf, booked, bookAfter, Names}
+use Rattle.units.specs.declared.RecordIndex.{RecordIndex}
+use Rattle.units.specs.Units.{recordIndex}
+use Rattle.book.specs.Find.{findUser}
+use Rattle.calls.specs.Rules.{Rule, _unless_, refusedBy}
+use Rattle.calls.specs.Refusals.{lookAt, present}
+use Rattle.calls.specs.Calls.{Call, namedBy, rulesOf, refusalOf, booked, bookAfter}
 use Rattle.calls.proofs.Rules.{never-answered}
 use Rattle.calls.proofs.Orders.{reserved}
+use Rattle.answers.specs.declared.Reply.{Reply}
 use Rattle.answers.specs.Answers.{Answered}
+use Rattle.answers.specs.Replies.{refusedWith}
 
 module _ (b : List ℕ) (c : Call) where
   left-as-found : (refusalOf b c ≡ 0 → ⊥) → bookAfter b c ≡ b
@@ -54,9 +58,28 @@ module _ (b : List ℕ) (c : Call) where
   unfolding refusalOf refusedBy
   sound-refusal a = rw (a .fits, a .isSound)
 
-pub refused-by-rule : (b : List ℕ) (c : Call) (answered n : ℕ) → Accepted b → n ≡ refusedBy (rulesOf (lookAt b (namedBy c)) c) → (n ≡ 0 → ⊥) → Answered b c answered n 0 b
-refused-by-rule b c answered n a e some =
-    refused b c answered n (e ∙ sym (sound-refusal b c a)) some (λ two. never-answered 2 (rulesOf (lookAt b (namedBy c)) c) (reserved (lookAt b (namedBy c)) c .two) (omega arith) (sym e ∙ two))
+module _ (b : List ℕ) (c : Call) (answered : ℕ) (a : Accepted b) where
+  by-rule : (n : ℕ) → n ≡ refusedBy (rulesOf (lookAt b (namedBy c)) c) → (n ≡ 0 → ⊥) → Answered b c answered n 0 b
+  by-rule n e some =
+      refused b c answered n (e ∙ sym (sound-refusal b c a)) some (λ two. never-answered 2 (rulesOf (lookAt b (namedBy c)) c) (reserved (lookAt b (namedBy c)) c .two) (omega arith) (sym e ∙ two))
+
+  -- a refusal by the call's own rules
+  pub refused-by-rule : (n : ℕ) → n ≡ refusedBy (rulesOf (lookAt b (namedBy c)) c) → (n ≡ 0 → ⊥) → (reply : Reply) → reply ≡ refusedWith n
+      → Answered b c answered (reply .refusal) (reply .«record» .0) b
+  refused-by-rule n e some reply is = rw is (by-rule n e some)
+
+  -- "6 not present", of a call whose rules begin with it once those before it are past
+  pub refused-absent : (rest : List Rule) → refusedBy (rulesOf (lookAt b (namedBy c)) c) ≡ refusedBy ((6 unless present (lookAt b (namedBy c))) ∷ rest)
+      → (user : RecordIndex) → user ≡ recordIndex (findUser b (namedBy c)) → user .0 ≡ 0 → (reply : Reply) → reply ≡ refusedWith 6
+      → Answered b c answered (reply .refusal) (reply .«record» .0) b
+  unfolding refusedBy lookAt
+  refused-absent rest order user there none =
+      let absent = eq-eqb (findUser b (namedBy c)) 0 (sym (ap (λ i. i .0) there) ∙ none) in
+      refused-by-rule 6 (sym (order ∙ rw absent)) (omega arith)
+
+-- a reply that refuses is not 0
+pub refuses : (n : ℕ) (reply : Reply) → reply ≡ refusedWith n → (n ≡ 0 → ⊥) → reply .refusal ≡ 0 → ⊥
+refuses n reply is some none = some (sym (ap (λ r. r .refusal) is) ∙ none)
 
 pub refused-length : (b : List ℕ) (c : Call) (answered : ℕ) → lengthFits b ≡ false → Answered b c answered 1 0 b
 refused-length b c answered f = refused b c answered 1 (sym (length-refusal b c f)) (omega arith) (omega arith)

@@ -5,13 +5,15 @@ use mathlib.Core.Bool.{Bool, true, false, cond}
 use mathlib.Core.List.{List, [], _∷_}
 use lib.Dec.{eqb}
 use denote.Ref.{RefT}
-use Rattle.units.specs.Units.{recordIndex, userNumber, ticks}
+use Rattle.units.specs.Units.{userNumber, ticks}
 use Rattle.units.specs.declared.Rate.{Rate}
 use Rattle.units.specs.declared.WideKwh.{WideKwh}
 use Rattle.book.specs.Book.{used}
 use Rattle.calls.specs.Calls.{Call, enrol, elect, advance, close, statement, refusalOf, changeOf, booked, bookAfter}
 use Rattle.calls.specs.Changes.{applied}
+use Rattle.answers.specs.declared.Reply.{Reply}
 use Rattle.answers.specs.Answers.{Answered}
+use Rattle.answers.specs.Replies.{replyOf}
 use Rattle.advance.specs.Advances.{ticksAnswered}
 use Rattle.close.specs.Closings.{sumsAnswered}
 use Rattle.statement.specs.Stated.{sumsStated}
@@ -36,14 +38,18 @@ module _ (b : List ℕ) where
       by-value true = refl
       by-value false = refl
 
+  -- the reply of a call that names no record
+  abbrev unnamed : Call → Reply
+  unnamed c = replyOf (refusalOf b c) (cond (eqb (refusalOf b c) 0) 0 0)
+
   performed : (c : Call) → (refusalOf b c ≡ 2 → ⊥) → Calls b (made c (refusalOf b c)) (bookAfter b c)
   performed (enrol n d o) other =
       let c = enrol n d o in
-      enrols ([], tt) (lent b, (userNumber n, (d, (o, tt)))) (record { refusal = refusalOf b c; «record» = recordIndex (cond (eqb (refusalOf b c) 0) (used b) 0) }) (lent (bookAfter b c), (userNumber n, (d, (o, tt))))
+      enrols ([], tt) (lent b, (userNumber n, (d, (o, tt)))) (replyOf (refusalOf b c) (cond (eqb (refusalOf b c) 0) (used b) 0)) (lent (bookAfter b c), (userNumber n, (d, (o, tt))))
       (right c (used b) other)
   performed (elect n o y m d) other =
       let c = elect n o y m d in
-      elects ([], tt) (lent b, (userNumber n, (o, (y, (m, (d, tt)))))) (record { refusal = refusalOf b c; «record» = recordIndex (cond (eqb (refusalOf b c) 0) 0 0) }) (lent (bookAfter b c), (userNumber n, (o, (y, (m, (d, tt))))))
+      elects ([], tt) (lent b, (userNumber n, (o, (y, (m, (d, tt)))))) (unnamed c) (lent (bookAfter b c), (userNumber n, (o, (y, (m, (d, tt))))))
       (right c 0 other)
   performed (advance n y r p e₁ e₂) other =
       let c = advance n y r p e₁ e₂ in
@@ -51,19 +57,19 @@ module _ (b : List ℕ) where
       let estimate1 : WideKwh = record { 0 = e₁ } in
       let estimate2 : WideKwh = record { 0 = e₂ } in
       advances ([], tt) (lent b, (userNumber n, (y, (r, (price, (estimate1, (estimate2, tt)))))))
-      (record { refusal = refusalOf b c; «record» = recordIndex (cond (eqb (refusalOf b c) 0) 0 0); ticks = ticksAnswered b n y r p e₁ e₂ (refusalOf b c) })
+      (record { reply = unnamed c; ticks = ticksAnswered b n y r p e₁ e₂ (refusalOf b c) })
       (lent (bookAfter b c), (userNumber n, (y, (r, (price, (estimate1, (estimate2, tt))))))) (right c 0 other, refl)
   performed (close s) other =
       let c = close s in
       closes ([], ([], tt)) (lent b, (lent s, tt))
-      (record { refusal = refusalOf b c; «record» = recordIndex (cond (eqb (refusalOf b c) 0) 0 0); sums = sumsAnswered b s (refusalOf b c) })
+      (record { reply = unnamed c; sums = sumsAnswered b s (refusalOf b c) })
       (lent (bookAfter b c), (lent s, tt)) (right c 0 other, refl)
   performed (statement n) other =
       let c = statement n in
       let same = stated-left n in
       rw same
       (states ([], tt) (lent b, (userNumber n, tt))
-      (record { refusal = refusalOf b c; «record» = recordIndex (cond (eqb (refusalOf b c) 0) 0 0); sums = sumsStated b n (refusalOf b c) })
+      (record { reply = unnamed c; sums = sumsStated b n (refusalOf b c) })
       (lent b, (userNumber n, tt))
       (subst (Answered b c 0 (refusalOf b c) (cond (eqb (refusalOf b c) 0) 0 0)) same (right c 0 other), refl))
 

@@ -78,11 +78,11 @@ module _ (b : List ℕ) (number : ℕ) (known : refusalOf b (statement number) �
       rw (signed-back (t .balance) (omega (arith, mag-size (t .balance), balance-small)))
 
   pub statement-answers : (κs : _) (a : _) (r : _) (s : _) → statement-of.Post κs a r s → now (a .0) ≡ b → a .1 .0 .0 ≡ number
-      → (r .refusal ≡ 0) × (r .«record» .0 ≡ 0) × (statementIn (r .sums) ≡ statementAt b (findUser b number))
+      → (r .reply .refusal ≡ 0) × (r .reply .«record» .0 ≡ 0) × (statementIn (r .sums) ≡ statementAt b (findUser b number))
   unfolding sumsStated
   statement-answers κs a r s p is-book is-number =
       let says = statement-says κs a r s p in
-      let zero : r .refusal ≡ 0 = says .0 .refusal-is ∙ rw (is-book, is-number, known) in
+      let zero : r .reply .refusal ≡ 0 = says .0 .refusal-is ∙ rw (is-book, is-number, known) in
       let sums : r .sums ≡ sumsOf (statementAt b (findUser b number)) = says .1 ∙ rw (is-book, is-number, zero) in
       (zero, says .0 .names .else (λ two. omega (arith, zero, two)) ∙ ap (λ n. cond (eqb n 0) 0 0) zero, ap statementIn sums ∙ sums-back)
 

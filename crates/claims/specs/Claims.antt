@@ -24,7 +24,7 @@ pub record Claim (ms : List Made) (b : List ℕ) (number : ℕ) : Type 1 where
   pub ledger : Ledger
   pub fed : ledgerOf number ms none ≡ some ledger
   pub statement : (κs : _) (a : _) (r : _) (s : _) → statement-of.Post κs a r s → now (a .0) ≡ b → a .1 .0 .0 ≡ number
-      → (r .refusal ≡ 0) × (r .«record» .0 ≡ 0) × Accounts ledger (valueOf number (ledger .details) ms) (statementIn (r .sums))
+      → (r .reply .refusal ≡ 0) × (r .reply .«record» .0 ≡ 0) × Accounts ledger (valueOf number (ledger .details) ms) (statementIn (r .sums))
 
 abbrev pub ThirdDemand : Type 1
 ThirdDemand =

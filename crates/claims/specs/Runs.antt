@@ -19,7 +19,7 @@ pub data Calls : List ℕ → Made → List ℕ → Type 1 where
       → Calls (now (a .0)) (made (elect (a .1 .0 .0) (a .1 .1 .0) (a .1 .1 .1 .0) (a .1 .1 .1 .1 .0) (a .1 .1 .1 .1 .1 .0)) (r .refusal)) (now (s .0))
   advances : (κs : _) (a : _) (r : _) (s : _) → advance-of.Post κs a r s
       → Calls (now (a .0))
-      (made (advance (a .1 .0 .0) (a .1 .1 .0) (a .1 .1 .1 .0) (a .1 .1 .1 .1 .0 .0) (a .1 .1 .1 .1 .1 .0 .0) (a .1 .1 .1 .1 .1 .1 .0 .0)) (r .refusal)) (now (s .0))
-  closes : (κs : _) (a : _) (r : _) (s : _) → close-of.Post κs a r s → Calls (now (a .0)) (made (close (now (a .1 .0))) (r .refusal)) (now (s .0))
+      (made (advance (a .1 .0 .0) (a .1 .1 .0) (a .1 .1 .1 .0) (a .1 .1 .1 .1 .0 .0) (a .1 .1 .1 .1 .1 .0 .0) (a .1 .1 .1 .1 .1 .1 .0 .0)) (r .reply .refusal)) (now (s .0))
+  closes : (κs : _) (a : _) (r : _) (s : _) → close-of.Post κs a r s → Calls (now (a .0)) (made (close (now (a .1 .0))) (r .reply .refusal)) (now (s .0))
   -- a statement is lent the book to read only, so that the book after it is the one before it
-  states : (κs : _) (a : _) (r : _) (s : _) → statement-of.Post κs a r s → Calls (now (a .0)) (made (statement (a .1 .0 .0)) (r .refusal)) (now (a .0))
+  states : (κs : _) (a : _) (r : _) (s : _) → statement-of.Post κs a r s → Calls (now (a .0)) (made (statement (a .1 .0 .0)) (r .reply .refusal)) (now (a .0))

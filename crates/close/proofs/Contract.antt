@@ -7,5 +7,5 @@ use Rattle.close.specs.Closings.{sumsAnswered}
 use Rattle.close.proofs.close.Reads as reads
 
 pub close-says : (κs : _) (a : _) (r : _) (s : _) → reads.Post κs a r s
-    → Answered (now (a .0)) (close (now (a .1 .0))) 0 (r .refusal) (r .«record» .0) (now (s .0)) × (r .sums ≡ sumsAnswered (now (a .0)) (now (a .1 .0)) (r .refusal))
+    → Answered (now (a .0)) (close (now (a .1 .0))) 0 (r .reply .refusal) (r .reply .«record» .0) (now (s .0)) × (r .sums ≡ sumsAnswered (now (a .0)) (now (a .1 .0)) (r .reply .refusal))
 close-says κs a r s said = said

@@ -1,28 +1,23 @@
 // Closing a year (document 01, "Closing"): refusals 1 2 11 6 12 13 14 3, then the year's entry in front of the user's chain.
 ghost use mathlib.Core.Path.{_≡_};
-ghost use Rattle.units.specs.Units.{recordIndex};
-ghost use Rattle.sheet.specs.YearSheet.{sheetUser};
 ghost use Rattle.accounts.specs.Account.{accountClosed, closedOf, settled};
 ghost use Rattle.records.specs.Entries.{closingEntry, closingRecord, sumsIn};
 ghost use Rattle.calls.specs.Changes.{enters, applied};
-ghost use Rattle.book.specs.Find.{findUser};
 ghost use Rattle.calls.specs.Calls.{close};
-ghost use Rattle.soundness.specs.Verdicts.{Accepted};
 ghost use Rattle.answers.specs.Answers.{Answered};
 ghost use Rattle.close.specs.Closings.{YearFits, noSums, sumsAnswered};
 use accounts::Account;
 use accounts::Balance;
 use accounts::ClosingSums;
 use accounts::Settlement;
+use answers::Reply;
 use records::ClosingRecord;
-use soundness::Found;
 use units::RecordIndex;
 use units::Ticks;
 use values::YearValues;
 
 pub struct Closed {
-    pub refusal: u32,
-    pub record: RecordIndex,
+    pub reply: Reply,
     pub sums: ClosingSums,
 }
 
@@ -113,46 +108,45 @@ fn book_year(
     entry_sums(entry)
 }
 
-fn close_sound(book: &mut [u8], user: RecordIndex, s: &[u8]) -> Closed
-    requires { ⌜ Accepted (now book) ⌝ }
-    requires { ⌜ user ≡ recordIndex (findUser (now book) (sheetUser (now s))) ⌝ }
-    ensures { λ answer. ⌜ Answered (now (book .entry)) (close (now (s .entry))) 0 (answer .refusal) (answer .record .0) (now (book .exit)) ⌝ }
-    ensures { λ answer. ⌜ answer .sums ≡ sumsAnswered (now (book .entry)) (now (s .entry)) (answer .refusal) ⌝ }
+pub fn close(book: &mut [u8], s: &[u8]) -> Closed
+    ensures { λ r. ⌜ Answered (now (book .entry)) (close (now (s .entry))) 0 (r .reply .refusal) (r .reply .record .0) (now (book .exit)) ⌝ }
+    ensures { λ r. ⌜ r .sums ≡ sumsAnswered (now (book .entry)) (now (s .entry)) (r .reply .refusal) ⌝ }
 {
-    let account = view::account_at(book, user);
-    let room = refusals::has_room(book);
-    let refusal = refusals::close_objection(s, user, account, room);
-    if refusal == 0 {
-        let values = values::year_values(s, account.details);
-        let sums = book_year(book, user, account, values);
+    let looked = answers::look(book, sheet::user(s));
+    let reply = looked.reply;
+    if reply.refusal != 0 {
         return Closed {
-            refusal: 0,
-            record: RecordIndex(0),
-            sums,
+            reply,
+            sums: no_sums(),
         };
     }
-    Closed {
-        refusal,
+    if sheet::header_wrong(s) {
+        return Closed {
+            reply: answers::refused(11),
+            sums: no_sums(),
+        };
+    }
+    let user = looked.user;
+    if user.0 == 0 {
+        return Closed {
+            reply: answers::refused(6),
+            sums: no_sums(),
+        };
+    }
+    let account = view::account_at(book, user);
+    let room = refusals::has_room(book);
+    let refusal = refusals::close_objection(sheet::whole(s), account, room);
+    if refusal != 0 {
+        return Closed {
+            reply: answers::refused(refusal),
+            sums: no_sums(),
+        };
+    }
+    let values = values::year_values(s, account.details);
+    let sums = book_year(book, user, account, values);
+    let reply = Reply {
+        refusal: 0,
         record: RecordIndex(0),
-        sums: no_sums(),
-    }
-}
-
-pub fn close(book: &mut [u8], s: &[u8]) -> Closed
-    ensures { λ r. ⌜ Answered (now (book .entry)) (close (now (s .entry))) 0 (r .refusal) (r .record .0) (now (book .exit)) ⌝ }
-    ensures { λ r. ⌜ r .sums ≡ sumsAnswered (now (book .entry)) (now (s .entry)) (r .refusal) ⌝ }
-{
-    match soundness::find(book, sheet::user(s)) {
-        Found::Length => Closed {
-            refusal: 1,
-            record: RecordIndex(0),
-            sums: no_sums(),
-        },
-        Found::Faulty(index) => Closed {
-            refusal: 2,
-            record: index,
-            sums: no_sums(),
-        },
-        Found::Sound(user) => close_sound(book, user, s),
-    }
+    };
+    Closed { reply, sums }
 }

@@ -1,10 +1,8 @@
--- An election on a sound book: refused by its objection, or booked as the definition has it.
+-- An election on a sound book: refused because no user has the number, or by its objection, or booked as the definition has it.
 use Prim.Native.Nat.{ℕ}
-use mathlib.Core.Path.{_≡_, refl, ap, sym, _∙_}
-use mathlib.Core.Bool.{Bool, true, false, not}
+use mathlib.Core.Path.{_≡_, refl, sym, _∙_}
+use mathlib.Core.Bool.{Bool}
 use mathlib.Core.List.{List}
-use native.Mathlib.Omega.{arith}
-use lib.Dec.{eqb}
 use Rattle.units.specs.declared.RecordIndex.{RecordIndex}
 use Rattle.units.specs.Units.{recordIndex}
 use Rattle.accounts.specs.declared.Account.{Account}
@@ -16,24 +14,27 @@ use Rattle.book.specs.Find.{findUser}
 use Rattle.calls.specs.Rules.{refusedBy}
 use Rattle.calls.specs.Refusals.{lookOf, lookAt, hasRoom}
 use Rattle.calls.specs.Calls.{Call, elect, namedBy, rulesOf, changeOf, booked}
+use Rattle.answers.specs.declared.Reply.{Reply}
 use Rattle.answers.specs.Answers.{Answered}
-use Rattle.answers.proofs.Answers.{sound-refusal, refused-by-rule, accepted}
+use Rattle.answers.specs.Replies.{refusedWith}
+use Rattle.answers.proofs.Answers.{sound-refusal, refused-by-rule, refused-absent, accepted}
 
-module _ (b : List ℕ) (a : Accepted b) (n o y m d : ℕ) (user : RecordIndex) (account : Account) (there : user ≡ recordIndex (findUser b n)) (read : account ≡ accountAt b (user .0)) where
+module _ (b : List ℕ) (a : Accepted b) (n o y m d : ℕ) (user : RecordIndex) (there : user ≡ recordIndex (findUser b n)) where
   abbrev c : Call
   c = elect n o y m d
 
-  sees-it : (room : Bool) → room ≡ hasRoom b → lookOf (user .0) account room ≡ lookAt b n
-  unfolding lookAt
-  sees-it room left = rw (left, read, there)
+  pub elect-absent : user .0 ≡ 0 → (reply : Reply) → reply ≡ refusedWith 6 → Answered b c 0 (reply .refusal) (reply .«record» .0) b
+  unfolding rulesOf namedBy
+  elect-absent none = refused-absent b c 0 a _ refl user there none
 
-  module _ (r : ℕ) (objection : (number : ℕ) (room : Bool) → r ≡ refusedBy (rulesOf (lookOf (user .0) account room) (elect number o y m d))) where
+  module _ (some : user .0 ≡ 0 → ⊥) (account : Account) (read : account ≡ accountAt b (user .0)) (r : ℕ)
+      (objection : (number index : ℕ) (room : Bool) → (index ≡ 0 → ⊥) → r ≡ refusedBy (rulesOf (lookOf index account room) (elect number o y m d))) where
     by-rule : r ≡ refusedBy (rulesOf (lookAt b (namedBy c)) c)
-    unfolding namedBy
-    by-rule = objection n (hasRoom b) ∙ ap (λ v. refusedBy (rulesOf v c)) (sees-it (hasRoom b) refl)
+    unfolding namedBy lookAt
+    by-rule = objection n (user .0) (hasRoom b) some ∙ rw (read, there)
 
-    pub elect-refused : (r ≡ 0 → ⊥) → Answered b c 0 r 0 b
-    elect-refused some = refused-by-rule b c 0 r a by-rule some
+    pub elect-refused : (r ≡ 0 → ⊥) → (reply : Reply) → reply ≡ refusedWith r → Answered b c 0 (reply .refusal) (reply .«record» .0) b
+    elect-refused = refused-by-rule b c 0 a r by-rule
 
     pub elect-booked : r ≡ 0 → (next : Account) → next ≡ accountElected o account → (after : List ℕ) → after ≡ withAccount (user .0) next b
         → Answered b (elect n o y m d) 0 0 0 after

@@ -1,8 +1,7 @@
 // Election (document 01, "Election and advances"): refusals 1 2 6 7 8, then the option.
-ghost use mathlib.Core.Path.{_≡_};
 ghost use Rattle.calls.specs.Calls.{elect};
 ghost use Rattle.answers.specs.Answers.{Answered};
-use answers::Booked;
+use answers::Reply;
 use units::RecordIndex;
 use units::UserNumber;
 
@@ -13,28 +12,25 @@ pub fn elect(
     year: u32,
     month: u32,
     day: u32,
-) -> Booked
+) -> Reply
     ensures { λ r. ⌜ Answered (now (book .entry)) (elect (number .0) option year month day) 0 (r .refusal) (r .record .0) (now (book .exit)) ⌝ }
 {
     let looked = answers::look(book, number);
-    let record = looked.record;
-    if looked.refusal != 0 {
-        return Booked {
-            refusal: looked.refusal,
-            record,
-        };
+    let reply = looked.reply;
+    if reply.refusal != 0 {
+        return reply;
     }
     let user = looked.user;
+    if user.0 == 0 {
+        return answers::refused(6);
+    }
     let account = view::account_at(book, user);
-    let refusal = refusals::elect_objection(user, account, option, year, month, day);
+    let refusal = refusals::elect_objection(account, option, year, month, day);
     if refusal != 0 {
-        return Booked {
-            refusal,
-            record: RecordIndex(0),
-        };
+        return answers::refused(refusal);
     }
     writers::write_account(book, user, account.elected(option));
-    Booked {
+    Reply {
         refusal: 0,
         record: RecordIndex(0),
     }

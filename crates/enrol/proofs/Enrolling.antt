@@ -1,10 +1,8 @@
 -- An enrolment on a sound book: refused by its objection, or booked as the definition has it.
 use Prim.Native.Nat.{ℕ, _+_, _*_, _^_, _≤_, _<_}
 use mathlib.Core.Path.{_≡_, ap, sym, _∙_}
-use mathlib.Core.Bool.{Bool, true, false, not, _&&_}
+use mathlib.Core.Bool.{Bool}
 use mathlib.Core.List.{List}
-use native.Mathlib.Omega.{arith}
-use lib.Dec.{eqb}
 use lib.ListN.{length}
 use Rattle.units.specs.declared.RecordIndex.{RecordIndex}
 use Rattle.units.specs.Units.{recordIndex}
@@ -19,7 +17,9 @@ use Rattle.calls.specs.Rules.{testOf, refusedBy as refusedBy}
 use Rattle.calls.specs.Refusals.{lookOf, lookAt, hasRoom}
 use Rattle.calls.specs.Calls.{Call, enrol, namedBy, rulesOf, refusalOf, changeOf, booked}
 use Rattle.calls.proofs.Orders.{fact}
+use Rattle.answers.specs.declared.Reply.{Reply}
 use Rattle.answers.specs.Answers.{Answered}
+use Rattle.answers.specs.Replies.{refusedWith}
 use Rattle.answers.proofs.Answers.{sound-refusal, refused-by-rule, accepted}
 use Rattle.answers.proofs.Rooms.{room-stands, used-small}
 
@@ -35,8 +35,8 @@ module _ (b : List ℕ) (a : Accepted b) (n : ℕ) (d : Details) (o : ℕ) (user
     none-refused : r ≡ 0 → refusalOf b c ≡ 0
     none-refused none = sound-refusal b c a ∙ sym by-rule ∙ none
 
-    pub enrol-refused : (r ≡ 0 → ⊥) → Answered b c (used b) r 0 b
-    enrol-refused some = refused-by-rule b c (used b) r a by-rule some
+    pub enrol-refused : (r ≡ 0 → ⊥) → (reply : Reply) → reply ≡ refusedWith r → Answered b c (used b) (reply .refusal) (reply .«record» .0) b
+    enrol-refused = refused-by-rule b c (used b) a r by-rule
 
     pub enrol-booked : r ≡ 0 → (named : ℕ) → named ≡ used b → (account : Account) → account ≡ newAccount n d o → (after : List ℕ) → after ≡ enrolledAs account b
         → Answered b (enrol n d o) (used b) 0 named after

@@ -5,7 +5,7 @@ ghost use mathlib.Core.Bool.{Bool, cond, false};
 ghost use Rattle.accounts.specs.declared.Account.{Account as AccountOf};
 ghost use Rattle.calls.specs.Rules.{refusedBy};
 ghost use Rattle.calls.specs.Refusals.{lookOf, hasRoom, dayAndOption, electionOpen, runOpen, orderFits, yearOpen};
-ghost use Rattle.calls.specs.Calls.{enrol, elect, advance, close, sheetRules, rulesOf};
+ghost use Rattle.calls.specs.Calls.{enrol, elect, advance, sheetRules, rulesOf};
 use accounts::Account;
 use book::LAST_ACTIVATION;
 use book::LAST_OPEN_YEAR;
@@ -86,28 +86,16 @@ pub fn enrol_objection(
     )
 }
 
-// 6 7 8
-pub fn elect_objection(
-    user: RecordIndex,
-    a: Account,
-    option: u8,
-    year: u32,
-    month: u32,
-    day: u32,
-) -> u32
-    ensures { λ r. ⌜ ((number : ℕ) (room : Bool) → r ≡ refusedBy (rulesOf (lookOf (user .0) a room) (elect number option year month day))) ⌝ }
+// 7 8: no call reads an account before 6 is past, so each of these holds of any user that is present.
+pub fn elect_objection(a: Account, option: u8, year: u32, month: u32, day: u32) -> u32
+    ensures { λ r. ⌜ ((number user : ℕ) (room : Bool) → (user ≡ 0 → ⊥) → r ≡ refusedBy (rulesOf (lookOf user a room) (elect number option year month day))) ⌝ }
 {
     let window = refuse(election_open(a, year, month, day), 8, 0);
-    refuse(
-        !(user.0 == 0),
-        6,
-        refuse(day_and_option(option, year, month, day), 7, window),
-    )
+    refuse(day_and_option(option, year, month, day), 7, window)
 }
 
-// 6 9 10 3
+// 9 10 3
 pub fn advance_objection(
-    user: RecordIndex,
     a: Account,
     year: u32,
     run: u8,
@@ -116,19 +104,19 @@ pub fn advance_objection(
     estimate2: WideKwh,
     room: bool,
 ) -> u32
-    ensures { λ r. ⌜ ((number : ℕ) → r ≡ refusedBy (rulesOf (lookOf (user .0) a room) (advance number year run (price .0) (estimate1 .0) (estimate2 .0)))) ⌝ }
+    ensures { λ r. ⌜ ((number user : ℕ) → (user ≡ 0 → ⊥) → r ≡ refusedBy (rulesOf (lookOf user a room) (advance number year run (price .0) (estimate1 .0) (estimate2 .0)))) ⌝ }
 {
     let order = refuse(
         order_fits(price, estimate1, estimate2),
         10,
         refuse(room, 3, 0),
     );
-    refuse(!(user.0 == 0), 6, refuse(run_open(a, year, run), 9, order))
+    refuse(run_open(a, year, run), 9, order)
 }
 
-// 6 12 13 14 3
-fn sheet_objection(s: &[u8], user: RecordIndex, a: Account, room: bool) -> u32
-    ensures { λ r. ⌜ r ≡ refusedBy (sheetRules (lookOf (user .0) a room) (now (s .entry))) ⌝ }
+// 12 13 14 3, of a sheet whose header is right
+pub fn close_objection(s: &[u8], a: Account, room: bool) -> u32
+    ensures { λ r. ⌜ ((user : ℕ) → (user ≡ 0 → ⊥) → r ≡ refusedBy (sheetRules (lookOf user a room) (now (s .entry)))) ⌝ }
 {
     let excess = refuse(
         !sheet::domestic_excess(a.details.class, s),
@@ -136,16 +124,5 @@ fn sheet_objection(s: &[u8], user: RecordIndex, a: Account, room: bool) -> u32
         refuse(room, 3, 0),
     );
     let numbers = refuse(!sheet::number_wrong(s), 13, excess);
-    let year = refuse(year_open(a, sheet::year(s)), 12, numbers);
-    refuse(!(user.0 == 0), 6, year)
-}
-
-// 11, then the rest of a sheet that has its length
-pub fn close_objection(s: &[u8], user: RecordIndex, a: Account, room: bool) -> u32
-    ensures { λ r. ⌜ r ≡ refusedBy (rulesOf (lookOf (user .0) a room) (close (now (s .entry)))) ⌝ }
-{
-    if sheet::header_wrong(s) {
-        return 11;
-    }
-    sheet_objection(sheet::whole(s), user, a, room)
+    refuse(year_open(a, sheet::year(s)), 12, numbers)
 }

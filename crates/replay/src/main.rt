@@ -3,7 +3,7 @@
 use accounts::Balance;
 use accounts::ClosingSums;
 use advance::Advanced;
-use answers::Booked;
+use answers::Reply;
 use close::Closed;
 use libc::STDIN_FILENO;
 use libc::STDOUT_FILENO;
@@ -14,7 +14,6 @@ use statements::Sums;
 use text::Bytes;
 use text::Line;
 use units::Rate;
-use units::RecordIndex;
 use units::UserNumber;
 use units::WideKwh;
 use values::Details;
@@ -50,12 +49,12 @@ fn show_error() {
 }
 
 // The number of an answer. After a 2 the record stands in the place of the values; else they follow.
-fn begin(refusal: u32, record: RecordIndex) -> bool {
-    show(refusal as u64);
-    if refusal == 2 {
-        show_next(record.0 as u64);
+fn begin(reply: Reply) -> bool {
+    show(reply.refusal as u64);
+    if reply.refusal == 2 {
+        show_next(reply.record.0 as u64);
     }
-    refusal != 2
+    reply.refusal != 2
 }
 
 fn show_fresh(refusal: u32) {
@@ -63,20 +62,20 @@ fn show_fresh(refusal: u32) {
     end_line();
 }
 
-fn show_enrolled(answer: Booked) {
-    if begin(answer.refusal, answer.record) {
-        show_next(answer.record.0 as u64);
+fn show_enrolled(reply: Reply) {
+    if begin(reply) {
+        show_next(reply.record.0 as u64);
     }
     end_line();
 }
 
-fn show_elected(answer: Booked) {
-    begin(answer.refusal, answer.record);
+fn show_elected(reply: Reply) {
+    begin(reply);
     end_line();
 }
 
 fn show_advanced(answer: Advanced) {
-    if begin(answer.refusal, answer.record) {
+    if begin(answer.reply) {
         show_next(answer.ticks.0);
     }
     end_line();
@@ -93,7 +92,7 @@ fn show_closing(sums: ClosingSums) {
 }
 
 fn show_closed(answer: Closed) {
-    if begin(answer.refusal, answer.record) {
+    if begin(answer.reply) {
         show_closing(answer.sums);
     }
     end_line();
@@ -114,7 +113,7 @@ fn show_sums(sums: Sums) {
 }
 
 fn show_stated(answer: Stated) {
-    if begin(answer.refusal, answer.record) {
+    if begin(answer.reply) {
         show_sums(answer.sums);
     }
     end_line();

@@ -58,13 +58,13 @@ pub struct Sums {
 }
 
 fn flat_closed(closed: close::Closed) -> Closed
-    ensures { λ r. ⌜ r ≡ flatClosed (closed .refusal) (closed .record .0) (closed .sums) ⌝ }
+    ensures { λ r. ⌜ r ≡ flatClosed (closed .reply .refusal) (closed .reply .record .0) (closed .sums) ⌝ }
 {
     let year = closed.sums;
     let balance = accounts::signed(year.balance);
     Closed {
-        refusal: closed.refusal,
-        record: closed.record.0,
+        refusal: closed.reply.refusal,
+        record: closed.reply.record.0,
         value: year.value.0,
         cost: year.cost.0,
         flat_rate: year.flat_rate.0,
@@ -76,13 +76,13 @@ fn flat_closed(closed: close::Closed) -> Closed
 }
 
 fn flat_sums(stated: statement::Stated) -> Sums
-    ensures { λ r. ⌜ r ≡ flatSums (stated .refusal) (stated .record .0) (stated .sums) ⌝ }
+    ensures { λ r. ⌜ r ≡ flatSums (stated .reply .refusal) (stated .reply .record .0) (stated .sums) ⌝ }
 {
     let sums = stated.sums;
     let balance = accounts::signed(sums.balance);
     Sums {
-        refusal: stated.refusal,
-        record: stated.record.0,
+        refusal: stated.reply.refusal,
+        record: stated.reply.record.0,
         open_year: sums.open_year,
         credit: sums.credit.0,
         value: sums.value.0,
@@ -174,8 +174,8 @@ pub extern "C" fn ssp_advance(
         WideKwh(estimate2),
     );
     Advanced {
-        refusal: said.refusal,
-        record: said.record.0,
+        refusal: said.reply.refusal,
+        record: said.reply.record.0,
         ticks: said.ticks.0,
     }
 }

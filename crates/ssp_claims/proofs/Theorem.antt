@@ -3,11 +3,12 @@ use Prim.Native.Nat.{ℕ}
 use mathlib.Core.Path.{_≡_, refl, ap, sym, subst}
 use mathlib.Core.List.{List}
 use denote.Ref.{now}
-use Rattle.units.specs.Units.{userNumber, recordIndex}
+use Rattle.units.specs.Units.{userNumber}
 use Rattle.units.specs.declared.UserNumber.{UserNumber}
 use Rattle.ledger.specs.Accounting.{Accounts}
 use Rattle.statements.specs.declared.Sums.{Sums}
 use Rattle.statements.specs.Walk as statements
+use Rattle.answers.specs.Replies.{replyOf}
 use Rattle.statement.specs.declared.Stated.{Stated}
 use Rattle.statement.specs.Stated.{sumsStated}
 use Rattle.demand.specs.Lists.{Made}
@@ -37,7 +38,7 @@ module _ (ms : List Made) (b : List ℕ) (number : ℕ) (c : beneath.Claim ms b 
             let said = statement-says κs a r s p in
             let sums = sumsStated (now (a .0)) (a .1 .0) (r .refusal) in
             let brought : UserNumber × Unit {0} = (userNumber (a .1 .0), tt) in
-            let answer : Stated = record { refusal = r .refusal; «record» = recordIndex (r .«record»); sums = sums } in
+            let answer : Stated = record { reply = replyOf (r .refusal) (r .«record»); sums = sums } in
             let under = c .statement κs (a .0, brought) answer (s .0, brought) (said .0, refl) is-book is-number in (
               under .0,
               under .1,

@@ -7,5 +7,5 @@ use Rattle.statement.specs.Stated.{sumsStated}
 use Rattle.statement.proofs.statement.Reads as reads
 
 pub statement-says : (κs : _) (a : _) (r : _) (s : _) → reads.Post κs a r s
-    → Answered (now (a .0)) (statement (a .1 .0 .0)) 0 (r .refusal) (r .«record» .0) (now (a .0)) × (r .sums ≡ sumsStated (now (a .0)) (a .1 .0 .0) (r .refusal))
+    → Answered (now (a .0)) (statement (a .1 .0 .0)) 0 (r .reply .refusal) (r .reply .«record» .0) (now (a .0)) × (r .sums ≡ sumsStated (now (a .0)) (a .1 .0 .0) (r .reply .refusal))
 statement-says κs a r s said = said

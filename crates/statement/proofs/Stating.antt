@@ -1,11 +1,9 @@
 -- A statement on a sound book: of a user that is found, or refused with 6.
 use Prim.Native.Nat.{ℕ}
-use mathlib.Core.Path.{_≡_, refl, sym, ap, _∙_}
-use mathlib.Core.Bool.{Bool, true, false, not}
+use mathlib.Core.Path.{_≡_, refl, ap, _∙_}
+use mathlib.Core.Bool.{true}
 use mathlib.Core.List.{List}
-use native.Mathlib.Omega.{arith}
-use borrow.Author.Tests.{eq-eqb, ne-eqb}
-use lib.Dec.{eqb}
+use borrow.Author.Tests.{ne-eqb}
 use Rattle.units.specs.declared.RecordIndex.{RecordIndex}
 use Rattle.units.specs.Units.{recordIndex}
 use Rattle.book.specs.Book.{isUser}
@@ -19,33 +17,36 @@ use Rattle.calls.specs.Changes.{applied}
 use Rattle.bookings.proofs.Numbers.{found}
 use Rattle.statements.specs.declared.Sums.{Sums}
 use Rattle.statements.specs.Walk.{sumsOf}
+use Rattle.answers.specs.declared.Reply.{Reply}
 use Rattle.answers.specs.Answers.{Answered}
-use Rattle.answers.proofs.Answers.{refused, accepted}
+use Rattle.answers.specs.Replies.{refusedWith}
+use Rattle.answers.proofs.Answers.{refused-absent, accepted}
 use Rattle.statement.specs.Stated.{noSums, sumsStated}
 
--- beside a refusal there are no sums
-pub no-sums-stated : (b : List ℕ) (n r : ℕ) → (r ≡ 0 → ⊥) → (s : Sums) → s ≡ noSums → s ≡ sumsStated b n r
-unfolding sumsStated
-no-sums-stated b n r some s e = e ∙ rw (ne-eqb r 0 some)
+module _ (b : List ℕ) (n : ℕ) where
+  -- beside a refusal there are no sums
+  pub leaves : (reply : Reply) → (reply .refusal ≡ 0 → ⊥) → Answered b (statement n) 0 (reply .refusal) (reply .«record» .0) b → (s : Sums) → s ≡ noSums
+      → Answered b (statement n) 0 (reply .refusal) (reply .«record» .0) b × (s ≡ sumsStated b n (reply .refusal))
+  unfolding sumsStated
+  leaves reply some said s e = (said, e ∙ rw (ne-eqb (reply .refusal) 0 some))
 
-module _ (b : List ℕ) (a : Accepted b) (n : ℕ) (user : RecordIndex) (there : user ≡ recordIndex (findUser b n)) where
-  index-is : user .0 ≡ findUser b n
-  index-is = rw there
+  module _ (a : Accepted b) (user : RecordIndex) (there : user ≡ recordIndex (findUser b n)) where
+    index-is : user .0 ≡ findUser b n
+    index-is = rw there
 
-  pub unknown : user .0 ≡ 0 → Answered b (statement n) 0 6 0 b
-  unfolding refusalOf refusedBy rulesOf lookAt namedBy
-  unknown none =
-      refused b (statement n) 0 6 (rw (a .fits, a .isSound, eq-eqb (findUser b n) 0 (sym index-is ∙ none))) (omega arith) (omega arith)
+    pub unknown : user .0 ≡ 0 → (reply : Reply) → reply ≡ refusedWith 6 → Answered b (statement n) 0 (reply .refusal) (reply .«record» .0) b
+    unfolding rulesOf namedBy
+    unknown none = refused-absent b (statement n) 0 a _ refl user there none
 
-  module _ (some : user .0 ≡ 0 → ⊥) where
-    pub known : Answered b (statement n) 0 0 0 b
-    unfolding refusalOf refusedBy rulesOf lookAt namedBy booked applied changeOf
-    known =
-        accepted b (statement n) 0 b (rw (a .fits, a .isSound, ne-eqb (findUser b n) 0 (λ z. some (index-is ∙ z)))) refl
+    module _ (some : user .0 ≡ 0 → ⊥) where
+      pub known : Answered b (statement n) 0 0 0 b
+      unfolding refusalOf refusedBy rulesOf lookAt namedBy booked applied changeOf
+      known =
+          accepted b (statement n) 0 b (rw (a .fits, a .isSound, ne-eqb (findUser b n) 0 (λ z. some (index-is ∙ z)))) refl
 
-    pub known-user : isUser b (user .0) ≡ true
-    known-user = rw there (found b n (λ z. some (index-is ∙ z)) .user)
+      pub known-user : isUser b (user .0) ≡ true
+      known-user = rw there (found b n (λ z. some (index-is ∙ z)) .user)
 
-    pub sums-stated : (s : Sums) → s ≡ sumsOf (statementAt b (user .0)) → s ≡ sumsStated b n 0
-    unfolding sumsStated
-    sums-stated s e = e ∙ ap (λ i. sumsOf (statementAt b i)) index-is
+      pub sums-stated : (s : Sums) → s ≡ sumsOf (statementAt b (user .0)) → s ≡ sumsStated b n 0
+      unfolding sumsStated
+      sums-stated s e = e ∙ ap (λ i. sumsOf (statementAt b i)) index-is

@@ -1,7 +1,10 @@
 -- By what the search says.
 use denote.Ref.{now}
-use mathlib.Core.Path.{subst}
+use mathlib.Core.Path.{subst, sym}
+use Rattle.units.specs.Units.{recordIndex}
 use Rattle.soundness.specs.Verdicts.{BookSearched}
+use Rattle.answers.specs.declared.Reply.{Reply}
+use Rattle.answers.specs.Looks.{LookedAt}
 use Rattle.answers.proofs.Looks.{looked-length, looked-faulty, looked-sound}
 use borrow.Author.Needs.{needs}
 use Rattle.answers.proofs.look.Statement.{statement}
@@ -13,6 +16,9 @@ find-requires c κs = search needs
 enum-told : tie.Need-enum-told
 enum-told c = search needs
 
+refused-requires : tie.Need-refused-requires
+refused-requires c κs = search needs
+
 enum-known-index : tie.Need-enum-known-index
 enum-known-index c = search needs
 
@@ -21,8 +27,11 @@ enum-known-user c = search needs
 
 returns : tie.Need-returns
 returns c =
-    let a = c .before .before .before .before .args in
-    looked-length (now (a .book)) (a .number .0) (subst (BookSearched (now (a .book)) (a .number .0)) (c .enum-told .given .1) (c .before .before .find .ensures))
+    let a = c .before .before .before .before .before .args in
+    let b = now (a .book) in
+    let n = a .number .0 in
+    let short = looked-length b n (subst (BookSearched b n) (c .before .enum-told .given .1) (c .before .before .before .find .ensures)) in
+    subst (λ (r : Reply). LookedAt b n (r .refusal) (r .«record» .0) (recordIndex 0)) (sym (c .refused .ensures)) short
 
 returns-2 : tie.Need-returns-2
 returns-2 c =
@@ -37,4 +46,4 @@ returns-3 c =
 pub look-spec : {M : Type 1} → statement M
 look-spec =
     tie.close
-    (tie.spec find-requires enum-told enum-known-index enum-known-user returns returns-2 returns-3)
+    (tie.spec find-requires enum-told refused-requires enum-known-index enum-known-user returns returns-2 returns-3)

@@ -1,67 +1,85 @@
--- By the check of the book, then as a sound one.
+-- By the look at the book, then by the rules of an enrolment.
 use denote.Ref.{now}
-use mathlib.Core.Path.{subst}
 use Rattle.book.specs.Book.{used}
-use Rattle.soundness.specs.Verdicts.{BookSearched}
 use Rattle.calls.specs.Calls as calls
-use Rattle.answers.proofs.Answers.{refused-length, refused-unsound}
+use Rattle.enrol.proofs.Enrolling.{enrol-refused, enrol-booked, enrol-room}
 use borrow.Author.Needs.{needs}
 use Rattle.enrol.proofs.enrol.Statement.{statement}
 use Rattle.enrol.proofs.enrol.Tie as tie
 
-find-requires : tie.Need-find-requires
-find-requires c κs = search needs
-
-enum-told : tie.Need-enum-told
-enum-told c = search needs
-
-enum-known-index : tie.Need-enum-known-index
-enum-known-index c = search needs
-
-enum-known-user : tie.Need-enum-known-user
-enum-known-user c = search needs
-
-enrol-sound-requires : tie.Need-enrol-sound-requires
-enrol-sound-requires c κs =
-    let a = c .before .before .before .before .before .before .before .args in
-    subst (BookSearched (now (a .book)) (a .number .0)) (c .before .before .user .given .1) (c .before .before .before .before .find .ensures)
+look-requires : tie.Need-look-requires
+look-requires c κs = search needs
 
 same-length : tie.Need-same-length
 same-length c = search needs
 
 returns : tie.Need-returns
 returns c =
-    let a = c .before .before .before .before .before .args in
-    let b = now (a .book) in
-    refused-length b (calls.enrol (a .number .0) (a .details) (a .option)) (used b) (subst (BookSearched b (a .number .0)) (c .enum-told .given .1) (c .before .before .find .ensures))
+    let a = c .before .before .before .before .before .before .args in
+    c .before .before .before .look .ensures .damaged (c .if1 .taken) (calls.enrol (a .number .0) (a .details) (a .option)) (used (now (a .book)))
+
+has-room-requires : tie.Need-has-room-requires
+has-room-requires c κs = search needs
+
+enrol-objection-requires : tie.Need-enrol-objection-requires
+enrol-objection-requires c κs = search needs
+
+refused-requires : tie.Need-refused-requires
+refused-requires c κs = search needs
 
 same-length-2 : tie.Need-same-length-2
 same-length-2 c = search needs
 
 returns-2 : tie.Need-returns-2
 returns-2 c =
-    let a = c .before .before .before .before .before .before .args in
-    let b = now (a .book) in
-    refused-unsound b (calls.enrol (a .number .0) (a .details) (a .option)) (used b) _ (subst (BookSearched b (a .number .0)) (c .before .index .given .1) (c .before .before .before .find .ensures))
+    let a = c .before .before .before .before .before .before .before .before .before .before .before .args in
+    let looked = c .before .before .before .before .before .before .before .before .look .ensures in
+    let none = c .before .before .before .before .before .if1 .left in
+    let left = c .before .before .before .has-room in
+    let judged = c .before .before .enrol-objection in
+    enrol-refused (now (a .book)) (looked .is-sound none) (a .number .0) (a .details) (a .option) _ (left .result) (looked .found none) (left .ensures) (judged .result) (judged .ensures) (c .before .if2 .taken) (c .refused .result) (c .refused .ensures)
+
+used-requires : tie.Need-used-requires
+used-requires c κs = search needs
+
+new-account-requires : tie.Need-new-account-requires
+new-account-requires c κs = search needs
+
+write-user-requires : tie.Need-write-user-requires
+write-user-requires c κs =
+    let a = c .before .before .before .before .before .before .before .before .before .before .before .before .before .before .args in
+    let looked = c .before .before .before .before .before .before .before .before .before .before .before .look .ensures in
+    let none = c .before .before .before .before .before .before .before .before .if1 .left in
+    let left = c .before .before .before .before .before .before .has-room in
+    let judged = c .before .before .before .before .before .enrol-objection in
+    enrol-room (now (a .book)) (looked .is-sound none) (a .number .0) (a .details) (a .option) _ (left .result) (looked .found none) (left .ensures) (judged .result) (judged .ensures) (c .before .before .before .before .if2 .left)
 
 same-length-3 : tie.Need-same-length-3
 same-length-3 c = search needs
 
 returns-3 : tie.Need-returns-3
-returns-3 c = search needs
+returns-3 c =
+    let a = c .before .before .before .before .before .before .before .before .before .before .before .before .before .before .before .before .before .args in
+    let looked = c .before .before .before .before .before .before .before .before .before .before .before .before .before .before .look .ensures in
+    let none = c .before .before .before .before .before .before .before .before .before .before .before .if1 .left in
+    let left = c .before .before .before .before .before .before .before .before .before .has-room in
+    let judged = c .before .before .before .before .before .before .before .before .enrol-objection in
+    enrol-booked (now (a .book)) (looked .is-sound none) (a .number .0) (a .details) (a .option) _ (left .result) (looked .found none) (left .ensures) (judged .result) (judged .ensures) (c .before .before .before .before .before .before .before .if2 .left) (c .before .before .before .before .before .used .result) (c .before .before .before .before .before .used .ensures) (c .before .before .before .new-account .result) (c .before .before .before .new-account .ensures) _ (c .before .before .write-user .ensures)
 
 pub enrol-spec : {M : Type 1} → statement M
 enrol-spec =
     tie.close
     (tie.spec
-    find-requires
-    enum-told
-    enum-known-index
-    enum-known-user
-    enrol-sound-requires
+    look-requires
     same-length
     returns
+    has-room-requires
+    enrol-objection-requires
+    refused-requires
     same-length-2
     returns-2
+    used-requires
+    new-account-requires
+    write-user-requires
     same-length-3
     returns-3)

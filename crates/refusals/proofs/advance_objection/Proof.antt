@@ -1,4 +1,5 @@
 -- In the order of the call.
+use borrow.Author.Tests.{ne-eqb}
 use Rattle.calls.specs.Rules.{refusedBy}
 use Rattle.calls.specs.Calls.{rulesOf}
 use borrow.Author.Needs.{needs}
@@ -20,12 +21,9 @@ run-open-requires c κs = search needs
 refuse-requires-3 : tie.Need-refuse-requires-3
 refuse-requires-3 c κs = search needs
 
-refuse-requires-4 : tie.Need-refuse-requires-4
-refuse-requires-4 c κs = search needs
-
 returns : tie.Need-returns
 unfolding refusedBy rulesOf
-returns c = λ number. cc
+returns c = λ number user some. rw (ne-eqb user 0 some) cc
 
 pub advance-objection-spec : {M : Type 1} → statement M
 advance-objection-spec =
@@ -36,5 +34,4 @@ advance-objection-spec =
     refuse-requires-2
     run-open-requires
     refuse-requires-3
-    refuse-requires-4
     returns)

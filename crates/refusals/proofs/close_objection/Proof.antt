@@ -1,49 +1,48 @@
--- The header first.
-use Prim.Native.Nat.{ℕ}
-use mathlib.Core.Path.{_≡_, ap, sym, _∙_}
-use mathlib.Core.Bool.{Bool, true, false}
-use mathlib.Core.List.{List}
-use denote.Ref.{now}
-use Rattle.sheet.specs.YearSheet.{refused11}
-use Rattle.sheet.proofs.Limits.{passed-length}
-use Rattle.accounts.specs.declared.Account.{Account}
+-- In the order of the call.
+use borrow.Author.Tests.{ne-eqb}
 use Rattle.calls.specs.Rules.{refusedBy}
-use Rattle.calls.specs.Refusals.{lookOf}
-use Rattle.calls.specs.Calls.{close, sheetRules, rulesOf}
 use borrow.Author.Needs.{needs}
 use Rattle.refusals.proofs.close_objection.Statement.{statement}
 use Rattle.refusals.proofs.close_objection.Tie as tie
 
-wrong-header : (s : List ℕ) (user : ℕ) (a : Account) (room : Bool) → refused11 s ≡ true → 11 ≡ refusedBy (rulesOf (lookOf user a room) (close s))
-unfolding refusedBy rulesOf
-wrong-header s user a room w = rw w
+domestic-excess-requires : tie.Need-domestic-excess-requires
+domestic-excess-requires c κs = search needs
 
-right-header : (s part : List ℕ) (user : ℕ) (a : Account) (room : Bool) → part ≡ s → refused11 s ≡ false
-    → refusedBy (sheetRules (lookOf user a room) part) ≡ refusedBy (rulesOf (lookOf user a room) (close s))
-unfolding refusedBy rulesOf
-right-header s part user a room e w = rw (w, e)
+refuse-requires : tie.Need-refuse-requires
+refuse-requires c κs = search needs
 
-header-wrong-requires : tie.Need-header-wrong-requires
-header-wrong-requires c κs = search needs
+refuse-requires-2 : tie.Need-refuse-requires-2
+refuse-requires-2 c κs = search needs
+
+number-wrong-requires : tie.Need-number-wrong-requires
+number-wrong-requires c κs = search needs
+
+refuse-requires-3 : tie.Need-refuse-requires-3
+refuse-requires-3 c κs = search needs
+
+year-requires : tie.Need-year-requires
+year-requires c κs = search needs
+
+year-open-requires : tie.Need-year-open-requires
+year-open-requires c κs = search needs
+
+refuse-requires-4 : tie.Need-refuse-requires-4
+refuse-requires-4 c κs = search needs
 
 returns : tie.Need-returns
-returns c =
-    let a = c .before .before .before .args in
-    wrong-header (now (a .s)) (a .user .0) (a .a) (a .room) (sym (c .before .header-wrong .ensures) ∙ c .if1 .taken)
-
-whole-requires : tie.Need-whole-requires
-whole-requires c κs = passed-length (now (c .before .before .before .args .s)) (sym (c .before .header-wrong .ensures) ∙ c .if1 .left)
-
-sheet-objection-requires : tie.Need-sheet-objection-requires
-sheet-objection-requires c κs = search needs
-
-returns-2 : tie.Need-returns-2
-returns-2 c =
-    let a = c .before .before .before .before .before .args in
-    c .sheet-objection .ensures
-    ∙ right-header (now (a .s)) (now (c .before .whole .result)) (a .user .0) (a .a) (a .room) (c .before .whole .ensures) (sym (c .before .before .before .header-wrong .ensures) ∙ c .before .before .if1 .left)
+unfolding refusedBy
+returns c = λ user some. rw (ne-eqb user 0 some) cc
 
 pub close-objection-spec : {M : Type 1} → statement M
 close-objection-spec =
     tie.close
-    (tie.spec header-wrong-requires returns whole-requires sheet-objection-requires returns-2)
+    (tie.spec
+    domestic-excess-requires
+    refuse-requires
+    refuse-requires-2
+    number-wrong-requires
+    refuse-requires-3
+    year-requires
+    year-open-requires
+    refuse-requires-4
+    returns)

@@ -1,4 +1,5 @@
 -- In the order of the call.
+use borrow.Author.Tests.{ne-eqb}
 use Rattle.calls.specs.Rules.{refusedBy}
 use Rattle.calls.specs.Calls.{rulesOf}
 use borrow.Author.Needs.{needs}
@@ -17,12 +18,9 @@ day-and-option-requires c κs = search needs
 refuse-requires-2 : tie.Need-refuse-requires-2
 refuse-requires-2 c κs = search needs
 
-refuse-requires-3 : tie.Need-refuse-requires-3
-refuse-requires-3 c κs = search needs
-
 returns : tie.Need-returns
 unfolding refusedBy rulesOf
-returns c = λ number room. cc
+returns c = λ number user room some. rw (ne-eqb user 0 some) cc
 
 pub elect-objection-spec : {M : Type 1} → statement M
 elect-objection-spec =
@@ -32,5 +30,4 @@ elect-objection-spec =
     refuse-requires
     day-and-option-requires
     refuse-requires-2
-    refuse-requires-3
     returns)

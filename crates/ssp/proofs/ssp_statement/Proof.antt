@@ -12,7 +12,7 @@ flat-sums-requires c κs = search needs
 
 returns : tie.Need-returns
 returns c = let said = c .before .statement in
-    sums-flat _ (said .result .refusal) (said .result .«record» .0) _ (said .result .sums) (c .flat-sums .result) (c .flat-sums .ensures) (said .ensures)
+    sums-flat _ (said .result .reply .refusal) (said .result .reply .«record» .0) _ (said .result .sums) (c .flat-sums .result) (c .flat-sums .ensures) (said .ensures)
 
 pub ssp-statement-spec : {M : Type 1} → statement M
 ssp-statement-spec = tie.close (tie.spec statement-requires flat-sums-requires returns)

@@ -1,66 +1,62 @@
--- By the check of the book, then as a sound one.
+-- By the look at the book, then by the user found.
 use native.Mathlib.Omega.{arith}
 use denote.Ref.{now}
-use mathlib.Core.Path.{subst}
-use Rattle.soundness.specs.Verdicts.{BookSearched}
 use Rattle.calls.specs.Calls as calls
-use Rattle.answers.proofs.Answers.{refused-length, refused-unsound}
-use Rattle.statement.proofs.Stating.{no-sums-stated}
+use Rattle.answers.proofs.Answers.{refuses}
+use Rattle.statement.proofs.Stating.{leaves, unknown, known, known-user, sums-stated}
 use borrow.Author.Needs.{needs}
 use Rattle.statement.proofs.statement.Statement.{statement}
 use Rattle.statement.proofs.statement.Tie as tie
 
-find-requires : tie.Need-find-requires
-find-requires c κs = search needs
-
-enum-told : tie.Need-enum-told
-enum-told c = search needs
+look-requires : tie.Need-look-requires
+look-requires c κs = search needs
 
 no-sums-requires : tie.Need-no-sums-requires
 no-sums-requires c κs = search needs
 
-enum-known-index : tie.Need-enum-known-index
-enum-known-index c = search needs
+returns : tie.Need-returns
+returns c =
+    let a = c .before .before .before .before .before .before .args in
+    let some = c .before .if1 .taken in
+    leaves (now (a .book)) (a .number .0) (c .before .before .before .before .look .result .reply) some (c .before .before .before .before .look .ensures .damaged some (calls.statement (a .number .0)) 0) (c .no-sums .result) (c .no-sums .ensures)
+
+refused-requires : tie.Need-refused-requires
+refused-requires c κs = search needs
 
 no-sums-requires-2 : tie.Need-no-sums-requires-2
 no-sums-requires-2 c κs = search needs
 
-enum-known-user : tie.Need-enum-known-user
-enum-known-user c = search needs
-
-statement-sound-requires : tie.Need-statement-sound-requires
-statement-sound-requires c κs =
-    let a = c .before .before .before .before .before .args in
-    subst (BookSearched (now (a .book)) (a .number .0)) (c .before .user .given .1) (c .before .before .before .find .ensures)
-
-returns : tie.Need-returns
-returns c =
-    let a = c .before .before .before .before .before .args in
-    let b = now (a .book) in
-    let n = a .number .0 in
-    (refused-length b (calls.statement n) 0 (subst (BookSearched b n) (c .before .enum-told .given .1) (c .before .before .before .find .ensures)), no-sums-stated b n 1 (omega arith) (c .no-sums .result) (c .no-sums .ensures))
-
 returns-2 : tie.Need-returns-2
 returns-2 c =
-    let a = c .before .before .before .before .before .before .args in
-    let b = now (a .book) in
-    let n = a .number .0 in
-    (refused-unsound b (calls.statement n) 0 _ (subst (BookSearched b n) (c .before .before .index .given .1) (c .before .before .before .before .find .ensures)), no-sums-stated b n 2 (omega arith) (c .no-sums2 .result) (c .no-sums2 .ensures))
+    let a = c .before .before .before .before .before .before .before .before .before .before .args in
+    let looked = c .before .before .before .before .before .before .before .before .look .ensures in
+    let none = c .before .before .before .before .before .if1 .left in
+    let reply = c .before .refused in
+    leaves (now (a .book)) (a .number .0) (reply .result) (refuses 6 (reply .result) (reply .ensures) (omega arith)) (unknown (now (a .book)) (a .number .0) (looked .is-sound none) _ (looked .found none) (c .before .before .if2 .taken) (reply .result) (reply .ensures)) (c .no-sums2 .result) (c .no-sums2 .ensures)
+
+statement-of-requires : tie.Need-statement-of-requires
+statement-of-requires c κs =
+    let a = c .before .before .before .before .before .before .before .before .args in
+    let looked = c .before .before .before .before .before .before .look .ensures in
+    let none = c .before .before .before .if1 .left in
+    (looked .is-sound none .fits, (looked .is-sound none .isSound, known-user (now (a .book)) (a .number .0) (looked .is-sound none) _ (looked .found none) (c .if2 .left)))
 
 returns-3 : tie.Need-returns-3
-returns-3 c = search needs
+returns-3 c =
+    let a = c .before .before .before .before .before .before .before .before .before .args in
+    let looked = c .before .before .before .before .before .before .before .look .ensures in
+    let none = c .before .before .before .before .if1 .left in
+    (known (now (a .book)) (a .number .0) (looked .is-sound none) _ (looked .found none) (c .before .if2 .left), sums-stated (now (a .book)) (a .number .0) (looked .is-sound none) _ (looked .found none) (c .before .if2 .left) (c .statement-of .result) (c .statement-of .ensures))
 
 pub statement-spec : {M : Type 1} → statement M
 statement-spec =
     tie.close
     (tie.spec
-    find-requires
-    enum-told
+    look-requires
     no-sums-requires
-    enum-known-index
-    no-sums-requires-2
-    enum-known-user
-    statement-sound-requires
     returns
+    refused-requires
+    no-sums-requires-2
     returns-2
+    statement-of-requires
     returns-3)
