@@ -1,11 +1,10 @@
 // A user's account for a clerk: a book on standard input, a user number as the argument. It prints
 // the account year by year, oldest first, then the totals of the statement and the conserved sum, in euro.
 use accounts::Balance;
-use book_input::Input;
 use history::Year;
-use libc::STDERR_FILENO;
-use libc::STDOUT_FILENO;
-use soundness::Checked;
+use input::Input;
+use output::Row;
+use soundness::Verdict;
 use statements::Sums;
 use text::Number;
 use units::RecordIndex;
@@ -13,12 +12,15 @@ use units::Ticks;
 use units::UserNumber;
 ghost use mathlib.Core.Path.{_≡_};
 ghost use mathlib.Core.Bool.{true};
-ghost use Prim.Native.Nat.{_≤_};
+ghost use Prim.Native.Nat.{_+_};
+ghost use Rattle.io.specs.Digits.{digits};
+ghost use Rattle.output.specs.Rows.{textOf, joined};
+ghost use Rattle.account.specs.Amounts.{blanksBefore, AmountJoined};
 ghost use Rattle.book.specs.Book.{isUser};
 ghost use Rattle.soundness.specs.Verdicts.{Accepted};
 ghost use Rattle.conservation.specs.Conservation.{Small};
 
-// What a user number may be at most.
+// "user number (not 0)", and what it may be at most.
 const MOST: u64 = 4_294_967_295;
 
 // The width of a column of amounts, and ticks to the euro.
@@ -32,175 +34,220 @@ enum Asked {
     Nothing,
 }
 
-fn out(bytes: &[u8]) {
-    io::write_all(STDOUT_FILENO, bytes);
+// What says something answers whether it was written.
+fn say(row: Row) -> bool {
+    output::write_row(b"account: standard output", output::put(row, b'\n'))
 }
 
-// Blanks in front of so many characters, at least one.
-fn indent(length: usize) {
-    let blanks = [b' '; WIDTH];
-    if length < WIDTH {
-        out(&blanks[length..]);
-    } else {
-        out(b" ");
-    }
+fn say_text(text: &[u8]) -> bool {
+    say(output::put_text(output::no_text(), text))
 }
 
-fn digit(n: u64) {
-    let shown = [b'0' + (n % 10) as u8];
-    out(&shown);
-}
-
-// How many digits a number takes.
-fn length_of(n: u64) -> usize
-    ensures { λ r. ⌜ r ≤ 20 ⌝ }
+// The blanks before an amount: digits of euro, a sign, and six more for the point and the decimals.
+fn blanks_before(euros: usize, sign: usize) -> usize
+    ensures { λ r. ⌜ r ≡ blanksBefore (euros + 6 + sign) ⌝ }
 {
-    let mut digits = [0u8; 20];
-    let length = io::decimal(n, &mut digits);
-    if length < 20 { length } else { 20 }
+    if WIDTH <= euros {
+        return 1;
+    }
+    let left = WIDTH - euros;
+    if left <= sign {
+        return 1;
+    }
+    if left - sign <= 6 {
+        return 1;
+    }
+    left - sign - 6
 }
 
-// A column with an amount in euro, five decimals.
-fn amount(sign: &[u8], ticks: u64) {
-    let euros = ticks / TICKS;
-    indent(length_of(euros) + 6 + sign.len());
-    out(sign);
-    io::print_decimal(STDOUT_FILENO, euros);
-    out(b".");
-    digit(ticks / 10_000);
-    digit(ticks / 1_000);
-    digit(ticks / 100);
-    digit(ticks / 10);
-    digit(ticks);
+// The last five digits of a number of ticks.
+fn put_decimals(row: Row, ticks: u64) -> Row
+    ensures { λ r. ⌜ textOf r ≡ joined (textOf row) (digits 10 5 ticks) ⌝ }
+{
+    let fourth = ticks / 10;
+    let third = fourth / 10;
+    let second = third / 10;
+    let first = second / 10;
+    let mut longer = output::put_digit(row, first);
+    longer = output::put_digit(longer, second);
+    longer = output::put_digit(longer, third);
+    longer = output::put_digit(longer, fourth);
+    output::put_digit(longer, ticks)
 }
 
-fn show(paid: Ticks) {
-    amount(b"", paid.0);
+// An amount in euro with five decimals, in a column of its own.
+fn put_amount(row: Row, sign: &[u8], ticks: u64) -> Row
+    ensures { λ r. ⌜ AmountJoined (textOf row) (now (sign .entry)) ticks (textOf r) ⌝ }
+{
+    let mut euros = [0u8; 20];
+    let count = io::decimal(ticks / TICKS, &mut euros);
+    let mut longer = output::put_blanks(row, blanks_before(count, sign.len()));
+    longer = output::put_text(longer, sign);
+    longer = output::put_text(longer, &euros[..count]);
+    longer = output::put(longer, b'.');
+    put_decimals(longer, ticks)
 }
 
-fn show_balance(balance: Balance) {
+fn put_paid(row: Row, paid: Ticks) -> Row {
+    put_amount(row, b"", paid.0)
+}
+
+fn put_balance(row: Row, balance: Balance) -> Row {
     if accounts::signed(balance) < 0 {
-        amount(b"-", std::num::wrapping_sub_u64(0, balance.0));
+        put_amount(row, b"-", std::num::wrapping_sub_u64(0, balance.0))
     } else {
-        amount(b"", balance.0);
+        put_amount(row, b"", balance.0)
     }
 }
 
-fn headings() {
-    out(b"year option     ");
-    out(b"              value");
-    out(b"      purchase cost");
-    out(b"     flat-rate part");
-    out(b"       contribution");
-    out(b"           advances");
-    out(b"            balance");
-    out(b"        liquidation");
-    out(b"      lapsed credit");
-    out(b"       credit after\n");
+fn say_headings() -> bool {
+    let mut row = output::put_text(output::no_text(), b"year option     ");
+    row = output::put_text(row, b"              value");
+    row = output::put_text(row, b"      purchase cost");
+    row = output::put_text(row, b"     flat-rate part");
+    row = output::put_text(row, b"       contribution");
+    row = output::put_text(row, b"           advances");
+    row = output::put_text(row, b"            balance");
+    row = output::put_text(row, b"        liquidation");
+    row = output::put_text(row, b"      lapsed credit");
+    row = output::put_text(row, b"       credit after");
+    say(row)
 }
 
-fn show_option(option: u8) {
+fn put_option(row: Row, option: u8) -> Row {
     if option == 1 {
-        out(b" liquidation");
+        output::put_text(row, b" liquidation")
     } else {
-        out(b" credit     ");
+        output::put_text(row, b" credit     ")
     }
 }
 
-fn show_year(y: Year) {
-    io::print_decimal(STDOUT_FILENO, y.year as u64);
-    show_option(y.option);
-    show(y.value);
-    show(y.cost);
-    show(y.flat_rate);
-    show(y.contribution);
-    show(y.advances);
-    show_balance(y.balance);
-    show(y.liquidation);
-    show(y.lapsed);
-    show(y.credit);
-    out(b"\n");
+fn say_year(y: Year) -> bool {
+    let mut row = put_option(
+        output::put_number(output::no_text(), y.year as u64),
+        y.option,
+    );
+    row = put_paid(row, y.value);
+    row = put_paid(row, y.cost);
+    row = put_paid(row, y.flat_rate);
+    row = put_paid(row, y.contribution);
+    row = put_paid(row, y.advances);
+    row = put_balance(row, y.balance);
+    row = put_paid(row, y.liquidation);
+    row = put_paid(row, y.lapsed);
+    say(put_paid(row, y.credit))
 }
 
 // The closed years of a user, oldest first.
-fn show_years(book: &[u8], user: RecordIndex)
+fn say_years(book: &[u8], user: RecordIndex) -> bool
     requires { ⌜ Accepted (now book) ⌝ }
     requires { ⌜ isUser (now book) (user .0) ≡ true ⌝ }
 {
     let activation = view::activation_of(book, user);
     let open = view::open_year_of(book, user);
     for n in 0..open - activation {
-        show_year(history::year_of(book, user, n));
+        if !say_year(history::year_of(book, user, n)) {
+            return false;
+        }
     }
+    true
 }
 
-fn show_totals(sums: Sums) {
-    out(b"all             ");
-    show(sums.value);
-    show(sums.cost);
-    show(sums.flat_rate);
-    show(sums.contribution);
-    show(sums.closed_advances);
-    show_balance(sums.balance);
-    show(sums.liquidation);
-    show(sums.lapsed);
-    show(sums.credit);
-    out(b"\n");
+fn say_totals(sums: Sums) -> bool {
+    let mut row = output::put_text(output::no_text(), b"all             ");
+    row = put_paid(row, sums.value);
+    row = put_paid(row, sums.cost);
+    row = put_paid(row, sums.flat_rate);
+    row = put_paid(row, sums.contribution);
+    row = put_paid(row, sums.closed_advances);
+    row = put_balance(row, sums.balance);
+    row = put_paid(row, sums.liquidation);
+    row = put_paid(row, sums.lapsed);
+    say(put_paid(row, sums.credit))
+}
+
+fn say_open_year(year: u64) -> bool {
+    say(output::put_number(output::put_text(output::no_text(), b"\nopen year "), year))
+}
+
+fn say_advances(advances: Ticks) -> bool {
+    say(put_paid(
+        output::put_text(output::no_text(), b"all advances     "),
+        advances,
+    ))
+}
+
+fn say_conserved(sum: Balance) -> bool {
+    say(put_balance(
+        output::put_text(output::no_text(), b"conserved sum    "),
+        sum,
+    ))
 }
 
 // The open year, what is paid in it, and whether the account keeps its sum.
-fn show_rest(sums: Sums)
+fn say_rest(sums: Sums) -> bool
     requires { ⌜ Small sums ⌝ }
 {
-    out(b"\nopen year ");
-    io::print_decimal(STDOUT_FILENO, sums.open_year);
-    out(b"\nall advances     ");
-    show(sums.advances);
-    out(b"\nconserved sum    ");
-    show_balance(conservation::conserved_sum(sums));
-    if conservation::is_conserved(sums) {
-        out(b"\nThe sum holds: it is the value of the injected energy.\n");
-    } else {
-        out(b"\nThe sum does not hold: it is not the value of the injected energy.\n");
+    if !say_open_year(sums.open_year) {
+        return false;
     }
+    if !say_advances(sums.advances) {
+        return false;
+    }
+    if !say_conserved(conservation::conserved_sum(sums)) {
+        return false;
+    }
+    if conservation::is_conserved(sums) {
+        return say_text(b"The sum holds: it is the value of the injected energy.");
+    }
+    say_text(b"The sum does not hold: it is not the value of the injected energy.")
 }
 
-fn show_account(book: &[u8], user: RecordIndex)
+fn say_account(book: &[u8], user: RecordIndex) -> bool
     requires { ⌜ Accepted (now book) ⌝ }
     requires { ⌜ isUser (now book) (user .0) ≡ true ⌝ }
 {
-    headings();
-    show_years(book, user);
+    if !say_headings() {
+        return false;
+    }
+    if !say_years(book, user) {
+        return false;
+    }
     let sums = statements::statement_of(book, user);
-    show_totals(sums);
-    show_rest(sums);
+    if !say_totals(sums) {
+        return false;
+    }
+    say_rest(sums)
 }
 
-fn answer_sound(book: &[u8], number: UserNumber)
+fn answer_sound(book: &[u8], user: RecordIndex) -> bool
     requires { ⌜ Accepted (now book) ⌝ }
+    requires { ⌜ ((user .0 ≡ 0 → ⊥) → isUser (now book) (user .0) ≡ true) ⌝ }
 {
-    let user = lookup::find_user(book, number);
     if user.0 == 0 {
-        out(b"refused 6\n");
+        say_text(b"refused 6")
     } else {
-        show_account(book, user);
+        say_account(book, user)
     }
 }
 
-fn answer(book: &[u8], number: UserNumber) {
-    match soundness::check(book) {
-        Checked::Length => out(b"refused 1\n"),
-        Checked::Faulty(_) => out(b"refused 2\n"),
-        Checked::Sound => answer_sound(book, number),
+fn answer(book: &[u8], number: UserNumber) -> bool {
+    match soundness::find(book, number) {
+        Verdict::Length => say_text(b"refused 1"),
+        Verdict::Faulty(_) => say_text(b"refused 2"),
+        Verdict::Sound(user) => answer_sound(book, user),
     }
 }
 
-// A decimal number and nothing after it.
+// A decimal number from 1 on, and nothing after it.
 fn number_of(word: &[u8]) -> Asked {
     let Number::Read { value, next } = text::number_at(word, 0) else {
         return Asked::Nothing;
     };
     if next != word.len() {
+        return Asked::Nothing;
+    }
+    if value == 0 {
         return Asked::Nothing;
     }
     if MOST < value {
@@ -220,14 +267,13 @@ fn request() -> Asked {
 
 fn main() {
     let Asked::Account(number) = request() else {
-        io::write_all(
-            STDERR_FILENO,
+        output::tell_use(
             b"account: give one user number, 1 to 4294967295, and the book on standard input\n",
         );
         return;
     };
-    let mut book = book_input::buffer();
-    let Input::Read(count) = book_input::read_book(&mut book) else {
+    let mut book = input::book_buffer();
+    let Input::Read(count) = input::read_book(&mut book) else {
         os::fail(b"account: standard input");
         return;
     };

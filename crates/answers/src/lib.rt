@@ -2,7 +2,7 @@
 ghost use mathlib.Core.Path.{_≡_};
 ghost use Rattle.answers.specs.Replies.{refusedWith};
 ghost use Rattle.answers.specs.Looks.{LookedAt};
-use soundness::Found;
+use soundness::Verdict;
 use units::RecordIndex;
 use units::UserNumber;
 
@@ -32,18 +32,18 @@ pub fn look(book: &[u8], number: UserNumber) -> Looked
     ensures { λ r. ⌜ LookedAt (now (book .entry)) (number .0) (r .reply .refusal) (r .reply .record .0) (r .user) ⌝ }
 {
     match soundness::find(book, number) {
-        Found::Length => Looked {
+        Verdict::Length => Looked {
             reply: refused(1),
             user: RecordIndex(0),
         },
-        Found::Faulty(index) => Looked {
+        Verdict::Faulty(index) => Looked {
             reply: Reply {
                 refusal: 2,
                 record: index,
             },
             user: RecordIndex(0),
         },
-        Found::Sound(user) => Looked {
+        Verdict::Sound(user) => Looked {
             reply: Reply {
                 refusal: 0,
                 record: RecordIndex(0),

@@ -1,7 +1,7 @@
 -- Which records are faulty, case by case, and that a sound book is one without a faulty record.
 use Prim.Native.Nat.{ℕ, _+_, _*_, _≤_, _<_}
 use mathlib.Core.Path.{_≡_, refl, sym, ap, _∙_}
-use mathlib.Core.Bool.{Bool, true, false, not, true≢false}
+use mathlib.Core.Bool.{Bool, true, false, not, and-false, true≢false}
 use mathlib.Core.List.{List}
 use native.Mathlib.Decide.{decLt}
 use native.Mathlib.Omega.{arith}
@@ -11,8 +11,8 @@ use lib.ListN.{length}
 use Rattle.units.specs.Limits.{mostRecords}
 use Rattle.units.proofs.Bools.{and-left, and-right}
 use Rattle.units.proofs.Folds.{none-at, none-of, any-of}
-use Rattle.layout.specs.Fields.{recordLength, capacity}
-use Rattle.book.specs.Book.{lengthFits, used, usedFits, goodRecord, goodHead, faulty, sound}
+use Rattle.layout.specs.Fields.{recordLength, capacity, userKind}
+use Rattle.book.specs.Book.{lengthFits, used, usedFits, kindAt, ownerFits, ownRulesFit, linksFit, goodRecord, goodHead, faulty, sound}
 use Rattle.book.proofs.Lengths.{capacity-least, capacity-most}
 
 pub used-within : (b : List ℕ) → usedFits b ≡ true → (1 ≤ used b) × (used b ≤ capacity b)
@@ -44,6 +44,20 @@ module _ (b : List ℕ) (u : usedFits b ≡ true) where
   pub faulty-past : (i : ℕ) → used b ≤ i → faulty b i ≡ false
   unfolding faulty
   faulty-past i h = rw (u, le-ltb i (used b) h)
+
+-- a record that breaks a rule of its own is not good, nor is one that is no user and whose owner is no user before it
+module _ (b : List ℕ) (i : ℕ) where
+  pub own-bad : ownRulesFit b i ≡ false → goodRecord b i ≡ false
+  unfolding goodRecord
+  own-bad e = rw e
+
+  no-links : (kindAt b i ≡ userKind → ⊥) → ownerFits b i ≡ false → linksFit b i ≡ false
+  unfolding linksFit
+  no-links u f = rw (ne-eqb (kindAt b i) userKind u, f)
+
+  pub ownerless-bad : (kindAt b i ≡ userKind → ⊥) → ownerFits b i ≡ false → goodRecord b i ≡ false
+  unfolding goodRecord
+  ownerless-bad u f = rw (no-links u f, and-false (ownRulesFit b i))
 
 -- "A book is sound if no record is faulty."
 pub none-faulty : (b : List ℕ) → sound b ≡ true → (i : ℕ) → i < capacity b → faulty b i ≡ false

@@ -91,9 +91,12 @@ halvesMade a run = cond (runMade a run) (halvesCount (halvesOf a run)) 0
 unfoldable pub advancesFit : Account → Bool
 advancesFit a = leb (a .advances .0) (maxHalfTicks * (halvesMade a june + halvesMade a october + halvesMade a january))
 
--- "Credit is at most 3.6·10^14 times the closed years"
+-- "Credit is at most 3.6·10^14 times the closed years": those from which a user's credit can come, before a year
+abbrev pub spanOf : Account → ℕ → ℕ
+spanOf a year = year - a .details .year
+
 unfoldable pub creditFits : Account → Bool
-creditFits a = leb (a .credit .0) (maxYearTicks * (a .«open_year» - a .details .year))
+creditFits a = leb (a .credit .0) (maxYearTicks * spanOf a (a .«open_year»))
 
 -- "a half 360,000,000"
 unfoldable pub halvesFit : Account → Bool
@@ -125,8 +128,8 @@ balanceFits bits = leb bits maxContribution || leb (2 ^ 64 - maxYearTicks) bits
 unfoldable pub closingFits : Account → ClosingRecord → Bool
 closingFits owner c =
     (yearFits owner (c .year) && leb (c .option) 1)
-    && (((leb (c .value .0) maxYearTicks && leb (c .cost .0) maxYearTicks) && (leb (c .«flat_rate» .0) maxFlatRate && leb (c .contribution .0) maxContribution))
-    && ((leb (c .liquidation .0) maxYearTicks && leb (c .lapsed .0) (maxYearTicks * (c .year - owner .details .year))) && balanceFits (c .balance .0)))
+    && (((leb (c .sums .value .0) maxYearTicks && leb (c .sums .cost .0) maxYearTicks) && (leb (c .sums .«flat_rate» .0) maxFlatRate && leb (c .sums .contribution .0) maxContribution))
+    && ((leb (c .sums .liquidation .0) maxYearTicks && leb (c .sums .lapsed .0) (maxYearTicks * spanOf owner (c .year))) && balanceFits (c .sums .balance .0)))
 
 -- WHAT DIFFERS BY KIND: the ranges of a record, those of an entry by its owner's account; and "Unnamed bytes are zero in
 -- records below u." No range of a kind that is not known fits.
@@ -150,6 +153,9 @@ unnamedOf kind =
 
 unfoldable pub zeroBytesFit : List ℕ → ℕ → Bool
 zeroBytesFit b i = allZero (unnamedOf (kindAt b i)) (recordAt b i)
+
+abbrev pub ownRulesFit : List ℕ → ℕ → Bool
+ownRulesFit b i = rangesFit b i && zeroBytesFit b i
 
 -- LINKS
 unfoldable pub nextOf : List ℕ → ℕ → ℕ
@@ -239,7 +245,7 @@ linksFit b i =
     ((ownerFits b i && entryNextFits b i) && nextInOrder b i)
 
 unfoldable pub goodRecord : List ℕ → ℕ → Bool
-goodRecord b i = ((rangesFit b i && zeroBytesFit b i) && linksFit b i) && pointedOnce b i
+goodRecord b i = (ownRulesFit b i && linksFit b i) && pointedOnce b i
 
 -- "The head is faulty if .. its first user is neither 0 nor a user below u, or its rest isn't zero."
 unfoldable pub goodHead : List ℕ → Bool

@@ -204,10 +204,11 @@ fn balance_fits(balance: Balance) -> bool
 fn closing_fits(activation: u16, open_year: u16, c: ClosingRecord) -> bool
     ensures { λ r. ⌜ ((owner : Account) → owner .details .year ≡ activation → owner .«open_year» ≡ open_year → r ≡ closingFits owner c) ⌝ }
 {
-    let energy = (c.value.0 <= MAX_YEAR) & (c.cost.0 <= MAX_YEAR);
-    let flat = (c.flat_rate.0 <= MAX_FLAT_RATE) & (c.contribution.0 <= MAX_CONTRIBUTION);
-    let lapse = fits_years(c.lapsed, activation, c.year);
-    let rest = ((c.liquidation.0 <= MAX_YEAR) & lapse) & balance_fits(c.balance);
+    let sums = c.sums;
+    let energy = (sums.value.0 <= MAX_YEAR) & (sums.cost.0 <= MAX_YEAR);
+    let flat = (sums.flat_rate.0 <= MAX_FLAT_RATE) & (sums.contribution.0 <= MAX_CONTRIBUTION);
+    let lapse = fits_years(sums.lapsed, activation, c.year);
+    let rest = ((sums.liquidation.0 <= MAX_YEAR) & lapse) & balance_fits(sums.balance);
     (year_fits(activation, open_year, c.year) & (c.option <= 1)) & ((energy & flat) & rest)
 }
 
@@ -225,41 +226,22 @@ pub fn user_record_fits(r: &[u8]) -> bool
     }
 }
 
-fn advance_record_fits(r: &[u8], owner: &[u8]) -> bool
-    requires { ⌜ length (now r) ≡ recordLength ⌝ }
-    ensures { λ s. ⌜ s ≡ (advanceFits (accountIn (now (owner .entry))) (advanceIn (now (r .entry))) && allZero unnamedOfAdvance (now (r .entry))) ⌝ }
-{
-    let r = layout::whole(r);
-    let activation = layout::activation_year_of(owner);
-    let open_year = layout::open_year_of(owner);
-    if layout::advance_rest_zero(r) {
-        advance_fits(activation, open_year, records::read_advance(r))
-    } else {
-        false
-    }
-}
-
-fn closing_record_fits(r: &[u8], owner: &[u8]) -> bool
-    requires { ⌜ length (now r) ≡ recordLength ⌝ }
-    ensures { λ s. ⌜ s ≡ (closingFits (accountIn (now (owner .entry))) (closingIn (now (r .entry))) && allZero unnamedOfClosing (now (r .entry))) ⌝ }
-{
-    let r = layout::whole(r);
-    let activation = layout::activation_year_of(owner);
-    let open_year = layout::open_year_of(owner);
-    if layout::closing_rest_zero(r) {
-        closing_fits(activation, open_year, records::read_closing(r))
-    } else {
-        false
-    }
-}
-
 pub fn entry_record_fits(r: &[u8], owner: &[u8]) -> bool
     requires { ⌜ length (now r) ≡ recordLength ⌝ }
     ensures { λ s. ⌜ s ≡ (entryRanges (accountIn (now (owner .entry))) (now (r .entry)) && allZero (unnamedOf (get kindField (now (r .entry)))) (now (r .entry))) ⌝ }
 {
+    let r = layout::whole(r);
+    let activation = layout::activation_year_of(owner);
+    let open_year = layout::open_year_of(owner);
     match layout::kind_of(r) {
-        ADVANCE => advance_record_fits(r, owner),
-        CLOSING => closing_record_fits(r, owner),
+        ADVANCE => {
+            let ranges = advance_fits(activation, open_year, records::read_advance(r));
+            ranges & layout::advance_rest_zero(r)
+        }
+        CLOSING => {
+            let ranges = closing_fits(activation, open_year, records::read_closing(r));
+            ranges & layout::closing_rest_zero(r)
+        }
         _ => false,
     }
 }

@@ -9,7 +9,7 @@ use Rattle.accounts.specs.declared.Account.{Account}
 use Rattle.accounts.specs.declared.ClosingSums.{ClosingSums}
 use Rattle.layout.specs.Fields.{capacity, recordAt}
 use Rattle.records.specs.Records.{accountIn, advanceImage, closingImage}
-use Rattle.records.specs.Entries.{Entry, advanceEntry, closingEntry, ofAdvance, ofClosing, sumsIn, entryIn, advanceRecord, closingRecord, entryImage}
+use Rattle.records.specs.Entries.{Entry, advanceEntry, closingEntry, ofAdvance, ofClosing, entryIn, advanceRecord, closingRecord, entryImage}
 use Rattle.records.proofs.Advances.{length-advance-image, bytes-advance-image}
 use Rattle.records.proofs.Closings.{length-closing-image, bytes-closing-image}
 use Rattle.book.specs.Book.{used, kindAt, isUser, isEntry, nextOf, ownerOf, firstEntryOf, accountAt, accountFits, advanceFits, closingFits, openYearOf}
@@ -60,7 +60,7 @@ module _ (b b′ : List ℕ) (i : ℕ) where
 
   closing-is : (y option : ℕ) (s : ClosingSums) → isEntry b′ (used b) ≡ true → ClosingAt b′ (used b) (closingRecord (firstEntryOf b i) i y option s)
       → EntryIs b b′ i (closingEntry y option s)
-  unfolding entryIn kindAt sumsIn
+  unfolding entryIn kindAt
   closing-is y option s e at =
       record { is-entry = e; next-is = at .entry .next-is; owner-is = at .entry .owner-is; says = rw (at .kind) (ap ofClosing (at .closing)) }
 

@@ -97,7 +97,7 @@ module _ (b b′ : List ℕ) (i : ℕ) (a : Account) (g : Good b) (h : isUser b 
     advance-entered = (entered b b′ i a (advanceImage x) g h same fits e new-advance room (an-entry (advance-entry b′ (used b) is-advance) advance-good), (advance-entry b′ (used b) is-advance, advance))
 
   -- a closing of the open year, which the next follows
-  module _ (x : ClosingRecord) (front : InFront b i (x .next .0) (x .owner .0) (x .year)) (ranges : closingFits a x ≡ true) (balance : x .balance .0 < 2 ^ 64)
+  module _ (x : ClosingRecord) (front : InFront b i (x .next .0) (x .owner .0) (x .year)) (ranges : closingFits a x ≡ true) (balance : x .sums .balance .0 < 2 ^ 64)
       (year : a .«open_year» ≡ openYearOf b i + 1) (e : EntryAdded b b′ i a (closingImage x)) where
     closing : ClosingAt b′ (used b) x
     closing =

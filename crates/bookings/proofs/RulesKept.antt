@@ -39,8 +39,8 @@ advance-later o p a same later h = and-stays (yearFits o (a .year)) (isRun (a .r
 -- the ranges of a closing's sums, by its owner's activation
 abbrev sumsFit : ℕ → ClosingRecord → Bool
 sumsFit activation c =
-    ((leb (c .value .0) maxYearTicks && leb (c .cost .0) maxYearTicks) && (leb (c .«flat_rate» .0) maxFlatRate && leb (c .contribution .0) maxContribution))
-    && ((leb (c .liquidation .0) maxYearTicks && leb (c .lapsed .0) (maxYearTicks * (c .year - activation))) && balanceFits (c .balance .0))
+    ((leb (c .sums .value .0) maxYearTicks && leb (c .sums .cost .0) maxYearTicks) && (leb (c .sums .«flat_rate» .0) maxFlatRate && leb (c .sums .contribution .0) maxContribution))
+    && ((leb (c .sums .liquidation .0) maxYearTicks && leb (c .sums .lapsed .0) (maxYearTicks * (c .year - activation))) && balanceFits (c .sums .balance .0))
 
 closing-later : (o p : Account) (c : ClosingRecord) → p .details .year ≡ o .details .year → o .«open_year» ≤ p .«open_year»
     → closingFits o c ≡ true → closingFits p c ≡ true

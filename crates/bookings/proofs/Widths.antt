@@ -94,18 +94,18 @@ advance-widths owner x account h next own =
     run-below January = omega arith
 
 pub closing-widths : (owner : Account) (c : ClosingRecord) → accountFits owner ≡ true → closingFits owner c ≡ true → c .next .0 < 2 ^ 32 → c .owner .0 < 2 ^ 32
-    → c .balance .0 < 2 ^ 64 → ClosingFits c
+    → c .sums .balance .0 < 2 ^ 64 → ClosingFits c
 unfolding closingFits yearFits
 closing-widths owner c account h next own balance =
     let w = account-within owner account in
     let year : c .year ≤ owner .«open_year» = search (conjuncts, leb-true) in
     let option : c .option ≤ 1 = search (conjuncts, leb-true) in
-    let value : c .value .0 ≤ maxYearTicks = search (conjuncts, leb-true) in
-    let cost : c .cost .0 ≤ maxYearTicks = search (conjuncts, leb-true) in
-    let flat : c .«flat_rate» .0 ≤ maxFlatRate = search (conjuncts, leb-true) in
-    let contribution : c .contribution .0 ≤ maxContribution = search (conjuncts, leb-true) in
-    let liquidation : c .liquidation .0 ≤ maxYearTicks = search (conjuncts, leb-true) in
-    let lapsed : c .lapsed .0 ≤ maxYearTicks * (c .year - owner .details .year) = search (conjuncts, leb-true) in
+    let value : c .sums .value .0 ≤ maxYearTicks = search (conjuncts, leb-true) in
+    let cost : c .sums .cost .0 ≤ maxYearTicks = search (conjuncts, leb-true) in
+    let flat : c .sums .«flat_rate» .0 ≤ maxFlatRate = search (conjuncts, leb-true) in
+    let contribution : c .sums .contribution .0 ≤ maxContribution = search (conjuncts, leb-true) in
+    let liquidation : c .sums .liquidation .0 ≤ maxYearTicks = search (conjuncts, leb-true) in
+    let lapsed : c .sums .lapsed .0 ≤ maxYearTicks * (c .year - owner .details .year) = search (conjuncts, leb-true) in
     let last = w .to in
     record {
       next = next;

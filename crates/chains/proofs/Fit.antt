@@ -12,7 +12,7 @@ use lib.ListN.{length}
 use Rattle.units.specs.Limits.{maxYearTicks, maxFlatRate, maxContribution, mostYears, mostRecords}
 use Rattle.units.proofs.Bools.{and-left}
 use Rattle.layout.specs.Fields.{recordAt, advanceKind, closingKind}
-use Rattle.records.specs.declared.ClosingRecord.{ClosingRecord}
+use Rattle.accounts.specs.declared.ClosingSums.{ClosingSums}
 use Rattle.records.specs.Records.{accountIn, advanceIn, closingIn}
 use Rattle.book.specs.Book.{lengthFits, used, isUser, isAdvance, isClosing, nextOf, firstEntryOf, activationOf, openYearOf, accountAt}
 use Rattle.book.proofs.Lengths.{capacity-most}
@@ -41,10 +41,10 @@ module _ (b : List ℕ) (f : Faultless b) (i : ℕ) (u : isUser b i ≡ true) wh
         let span : openYearOf b i ≤ a + mostYears = omega (arith, years .activation, years .latest) in
         omega (arith, mul-le-mul-left cap span, mul-add cap a mostYears, whole)
 
-  closing-sum : (g : ClosingRecord → ℕ) (cap : ℕ) → ((c : ClosingRecord) → ClosingRanges c → g c ≤ cap) → sumOver (closingPart g b) (entriesOf b i) ≤ cap * mostYears
+  closing-sum : (g : ClosingSums → ℕ) (cap : ℕ) → ((c : ClosingSums) → ClosingRanges c → g c ≤ cap) → sumOver (closingPart g b) (entriesOf b i) ≤ cap * mostYears
   unfolding closingPart
   closing-sum g cap h =
-      closings-sum (closingPart g b) cap (λ e c. rw c (h (closingIn (recordAt b e)) (closing-ranges b f e c)))
+      closings-sum (closingPart g b) cap (λ e c. rw c (h (closingIn (recordAt b e) .sums) (closing-ranges b f e c)))
       (λ e a. rw (kinds-apart b advanceKind closingKind e (λ p. omega arith) a))
 
   pub balance-sizes : sumOver (λ e. natAbs (balancePart b e)) (entriesOf b i) ≤ maxContribution * mostYears

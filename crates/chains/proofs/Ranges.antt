@@ -14,6 +14,7 @@ use Rattle.units.specs.Limits.{maxYearTicks, maxFlatRate, maxContribution, maxP
 use Rattle.units.proofs.Bools.{and-left, and-right, or-cases}
 use Rattle.accounts.specs.declared.Account.{Account}
 use Rattle.layout.specs.Fields.{recordAt}
+use Rattle.accounts.specs.declared.ClosingSums.{ClosingSums}
 use Rattle.records.specs.declared.ClosingRecord.{ClosingRecord}
 use Rattle.records.specs.Records.{advanceIn, closingIn}
 use Rattle.book.specs.Book.{within, isUser, isAdvance, isClosing, ownerOf, accountAt, accountFits, detailsFit, openYearFits, runsFit, advancesFit, creditFits, halvesFit, yearFits, isRun, advanceFits, balanceFits, closingFits}
@@ -27,7 +28,7 @@ pub record YearsFit (a : Account) : Type 0 where
   pub ordered : a .details .year ≤ a .«open_year»
   pub latest : a .«open_year» ≤ lastOpenYear
 
-pub record ClosingRanges (c : ClosingRecord) : Type 0 where
+pub record ClosingRanges (c : ClosingSums) : Type 0 where
   pub value : c .value .0 ≤ maxYearTicks
   pub cost : c .cost .0 ≤ maxYearTicks
   pub flatRate : c .«flat_rate» .0 ≤ maxFlatRate
@@ -84,34 +85,34 @@ balance-size bits h =
     (λ (high : leb (2 ^ 64 - maxYearTicks) bits ≡ true). let l = leb-true (2 ^ 64 - maxYearTicks) bits high in rw (le-ltb bits (2 ^ 63) (omega arith)) (omega arith))
     (or-cases (leb bits maxContribution) (leb (2 ^ 64 - maxYearTicks) bits) h)
 
-closing-ranges-of : (owner : Account) (c : ClosingRecord) → YearsFit owner → closingFits owner c ≡ true → ClosingRanges c
+closing-ranges-of : (owner : Account) (c : ClosingRecord) → YearsFit owner → closingFits owner c ≡ true → ClosingRanges (c .sums)
 unfolding closingFits yearFits
 closing-ranges-of owner c y h =
     let year = yearFits owner (c .year) in
     let option = leb (c .option) 1 in
-    let value = leb (c .value .0) maxYearTicks in
-    let cost = leb (c .cost .0) maxYearTicks in
-    let flat = leb (c .«flat_rate» .0) maxFlatRate in
-    let due = leb (c .contribution .0) maxContribution in
-    let paid = leb (c .liquidation .0) maxYearTicks in
-    let lapsed = leb (c .lapsed .0) (maxYearTicks * (c .year - owner .details .year)) in
+    let value = leb (c .sums .value .0) maxYearTicks in
+    let cost = leb (c .sums .cost .0) maxYearTicks in
+    let flat = leb (c .sums .«flat_rate» .0) maxFlatRate in
+    let due = leb (c .sums .contribution .0) maxContribution in
+    let paid = leb (c .sums .liquidation .0) maxYearTicks in
+    let lapsed = leb (c .sums .lapsed .0) (maxYearTicks * (c .year - owner .details .year)) in
     let near = (value && cost) && (flat && due) in
-    let far = (paid && lapsed) && balanceFits (c .balance .0) in
+    let far = (paid && lapsed) && balanceFits (c .sums .balance .0) in
     let sums : (near && far) ≡ true = and-right (year && option) (near && far) h in
     let n : near ≡ true = and-left near far sums in
     let m : far ≡ true = and-right near far sums in
     let years = within-true (owner .details .year) (owner .«open_year») (c .year) (and-left year option (and-left (year && option) (near && far) h)) in
-    let lapse = leb-true (c .lapsed .0) (maxYearTicks * (c .year - owner .details .year)) (and-right paid lapsed (and-left (paid && lapsed) (balanceFits (c .balance .0)) m)) in
+    let lapse = leb-true (c .sums .lapsed .0) (maxYearTicks * (c .year - owner .details .year)) (and-right paid lapsed (and-left (paid && lapsed) (balanceFits (c .sums .balance .0)) m)) in
     let a = y .activation in
     let l = y .latest in
     record {
-      value = leb-true (c .value .0) maxYearTicks (and-left value cost (and-left (value && cost) (flat && due) n));
-      cost = leb-true (c .cost .0) maxYearTicks (and-right value cost (and-left (value && cost) (flat && due) n));
-      flatRate = leb-true (c .«flat_rate» .0) maxFlatRate (and-left flat due (and-right (value && cost) (flat && due) n));
-      contribution = leb-true (c .contribution .0) maxContribution (and-right flat due (and-right (value && cost) (flat && due) n));
-      liquidation = leb-true (c .liquidation .0) maxYearTicks (and-left paid lapsed (and-left (paid && lapsed) (balanceFits (c .balance .0)) m));
+      value = leb-true (c .sums .value .0) maxYearTicks (and-left value cost (and-left (value && cost) (flat && due) n));
+      cost = leb-true (c .sums .cost .0) maxYearTicks (and-right value cost (and-left (value && cost) (flat && due) n));
+      flatRate = leb-true (c .sums .«flat_rate» .0) maxFlatRate (and-left flat due (and-right (value && cost) (flat && due) n));
+      contribution = leb-true (c .sums .contribution .0) maxContribution (and-right flat due (and-right (value && cost) (flat && due) n));
+      liquidation = leb-true (c .sums .liquidation .0) maxYearTicks (and-left paid lapsed (and-left (paid && lapsed) (balanceFits (c .sums .balance .0)) m));
       lapsed = omega arith;
-      balance = balance-size (c .balance .0) (and-right (paid && lapsed) (balanceFits (c .balance .0)) m);
+      balance = balance-size (c .sums .balance .0) (and-right (paid && lapsed) (balanceFits (c .sums .balance .0)) m);
     }
 
 module _ (b : List ℕ) (f : Faultless b) where
@@ -121,7 +122,7 @@ module _ (b : List ℕ) (f : Faultless b) where
   pub credit-range : (i : ℕ) → isUser b i ≡ true → accountAt b i .credit .0 ≤ maxYearTicks * mostYears
   credit-range i u = credit-of (accountAt b i) (f .user i u .fits)
 
-  pub closing-ranges : (e : ℕ) → isClosing b e ≡ true → ClosingRanges (closingIn (recordAt b e))
+  pub closing-ranges : (e : ℕ) → isClosing b e ≡ true → ClosingRanges (closingIn (recordAt b e) .sums)
   closing-ranges e c =
       closing-ranges-of (accountAt b (ownerOf b e)) (closingIn (recordAt b e)) (user-years (ownerOf b e) (entry-owner b f e (closing-entry b e c) .0)) (book.closing-ranges b e (f .entry e (closing-entry b e c) .own) c)
 

@@ -8,7 +8,7 @@ use lib.IntN.{ℤ, pos, _+ℤ_}
 use mir.Syntax.{w64}
 use mir.Val.{toZ}
 use Rattle.layout.specs.Fields.{recordAt}
-use Rattle.records.specs.declared.ClosingRecord.{ClosingRecord}
+use Rattle.accounts.specs.declared.ClosingSums.{ClosingSums}
 use Rattle.records.specs.declared.AdvanceRecord.{AdvanceRecord}
 use Rattle.records.specs.Records.{advanceIn, closingIn}
 use Rattle.book.specs.Book.{isAdvance, isClosing, accountAt}
@@ -16,15 +16,15 @@ use Rattle.ledger.specs.Ledger.{Statement}
 use Rattle.book.specs.Chains.{entriesOf}
 
 -- what an entry adds to a sum over the closings, and to a sum over the advances whose year passes a test
-unfoldable pub closingPart : (ClosingRecord → ℕ) → List ℕ → ℕ → ℕ
-closingPart f b e = cond (isClosing b e) (f (closingIn (recordAt b e))) 0
+unfoldable pub closingPart : (ClosingSums → ℕ) → List ℕ → ℕ → ℕ
+closingPart f b e = cond (isClosing b e) (f (closingIn (recordAt b e) .sums)) 0
 
 unfoldable pub advancePart : (ℕ → Bool) → List ℕ → ℕ → ℕ
 advancePart p b e = cond (isAdvance b e && p (advanceIn (recordAt b e) .year)) (advanceIn (recordAt b e) .ticks .0) 0
 
 -- a balance is signed
 unfoldable pub balancePart : List ℕ → ℕ → ℤ
-balancePart b e = cond (isClosing b e) (toZ w64 (closingIn (recordAt b e) .balance .0)) (pos 0)
+balancePart b e = cond (isClosing b e) (toZ w64 (closingIn (recordAt b e) .sums .balance .0)) (pos 0)
 
 -- sums over the entries of a chain
 unfoldable pub sumOver : (ℕ → ℕ) → List ℕ → ℕ

@@ -11,41 +11,38 @@ use Rattle.accounts.specs.declared.Closed.{Closed}
 use Rattle.accounts.specs.declared.Settlement.{Settlement}
 use Rattle.accounts.specs.Account.{liquidationIn, lapsedIn, settlementOf, accountClosed, closedOf, settled}
 use Rattle.accounts.proofs.Outcomes.{outcome-liquidation, outcome-lapsed}
-use Rattle.records.specs.declared.ClosingRecord.{ClosingRecord}
+use Rattle.accounts.specs.declared.ClosingSums.{ClosingSums}
 use Rattle.records.specs.Records.{closingImage}
-use Rattle.records.specs.Entries.{closingEntry, closingRecord, entryImage}
+use Rattle.records.specs.Entries.{closingEntry, entryImage}
 use Rattle.book.specs.Book.{firstEntryOf}
 use Rattle.calls.specs.Changes.{enters, withEntry, applied}
 
-module _ (user : RecordIndex) (a : Account) (v : YearValues) where
-  -- the entry made of a settlement
-  pub entry-is : (first : RecordIndex) (s : Settlement) → s ≡ closedOf v a .settlement → (paidOut lapsed : Ticks)
-      → paidOut .0 ≡ liquidationIn (s .outcome) → lapsed .0 ≡ lapsedIn (s .outcome)
-      → record {
-        next = first;
-        option = a .option;
-        year = a .«open_year»;
-        value = v .value;
-        cost = v .cost;
-        «flat_rate» = v .«flat_rate»;
-        contribution = s .contribution;
-        liquidation = paidOut;
-        lapsed = lapsed;
-        balance = s .balance;
-        owner = user;
-      }
-      ≡ closingRecord (first .0) (user .0) (a .«open_year») (a .option) (settled a v)
-  unfolding settled closedOf settlementOf
-  entry-is first s e paidOut lapsed p l =
-      let option = a .option in
-      let k = a .credit .0 in
-      let out = ap ticks (p ∙ ap (λ x. liquidationIn (x .outcome)) e ∙ outcome-liquidation option k (v .value .0) (v .cost .0)) in
-      let gone = ap ticks (l ∙ ap (λ x. lapsedIn (x .outcome)) e ∙ outcome-lapsed option k (v .value .0) (v .cost .0)) in
-      rw (out, gone, e)
+-- the sums made of a settlement
+pub sums-are : (a : Account) (v : YearValues) (s : Settlement) → s ≡ closedOf v a .settlement → (paidOut lapsed : Ticks) → paidOut .0 ≡ liquidationIn (s .outcome)
+    → lapsed .0 ≡ lapsedIn (s .outcome)
+    → record {
+      value = v .value;
+      cost = v .cost;
+      «flat_rate» = v .«flat_rate»;
+      contribution = s .contribution;
+      liquidation = paidOut;
+      lapsed = lapsed;
+      balance = s .balance;
+    }
+    ≡ settled a v
+unfolding settled closedOf settlementOf
+sums-are a v s e paidOut lapsed p l =
+    let option = a .option in
+    let k = a .credit .0 in
+    let out = ap ticks (p ∙ ap (λ x. liquidationIn (x .outcome)) e ∙ outcome-liquidation option k (v .value .0) (v .cost .0)) in
+    let gone = ap ticks (l ∙ ap (λ x. lapsedIn (x .outcome)) e ∙ outcome-lapsed option k (v .value .0) (v .cost .0)) in
+    rw (out, gone, e)
 
-  pub year-booked : (b : List ℕ) (first : RecordIndex) → first ≡ recordIndex (firstEntryOf b (user .0)) → (after : Closed) → after ≡ closedOf v a → (entry : ClosingRecord)
-      → entry ≡ closingRecord (first .0) (user .0) (a .«open_year») (a .option) (settled a v) → (image : List ℕ) → image ≡ closingImage entry
-      → (b′ : List ℕ) → b′ ≡ withEntry (user .0) (after .account) image b
-      → b′ ≡ applied (user .0) (enters (accountClosed v a) (closingEntry (a .«open_year») (a .option) (settled a v))) b
-  unfolding applied entryImage closedOf
-  year-booked b first f after e entry is image g b′ w = rw (w, g, is, e, f)
+-- the entry in the book
+pub year-booked : (user : RecordIndex) (a : Account) (v : YearValues) (b : List ℕ) (first : RecordIndex) → first ≡ recordIndex (firstEntryOf b (user .0)) → (after : Closed)
+    → after ≡ closedOf v a → (sums : ClosingSums) → sums ≡ settled a v → (image : List ℕ)
+    → image ≡ closingImage (record { next = first; option = a .option; year = a .«open_year»; sums = sums; owner = user }) → (b′ : List ℕ)
+    → b′ ≡ withEntry (user .0) (after .account) image b
+    → b′ ≡ applied (user .0) (enters (accountClosed v a) (closingEntry (a .«open_year») (a .option) (settled a v))) b
+unfolding applied entryImage closedOf
+year-booked user a v b first f after e sums is image g b′ w = rw (w, g, is, e, f)

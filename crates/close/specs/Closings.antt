@@ -9,7 +9,6 @@ use Rattle.sheet.specs.YearSheet.{sheetUser}
 use Rattle.values.specs.declared.YearValues.{YearValues}
 use Rattle.accounts.specs.declared.Account.{Account}
 use Rattle.accounts.specs.Account.{balanceBits, settled, InRange}
-use Rattle.records.specs.declared.ClosingRecord.{ClosingRecord}
 use Rattle.values.specs.YearsValues.{yearValues}
 use Rattle.calls.specs.Refusals.{userAt}
 use Rattle.book.specs.Find.{findUser}

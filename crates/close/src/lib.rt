@@ -1,7 +1,8 @@
 // Closing a year (document 01, "Closing"): refusals 1 2 11 6 12 13 14 3, then the year's entry in front of the user's chain.
 ghost use mathlib.Core.Path.{_≡_};
 ghost use Rattle.accounts.specs.Account.{accountClosed, closedOf, settled};
-ghost use Rattle.records.specs.Entries.{closingEntry, closingRecord, sumsIn};
+ghost use Rattle.accounts.specs.declared.Account.{Account};
+ghost use Rattle.records.specs.Entries.{closingEntry};
 ghost use Rattle.calls.specs.Changes.{enters, applied};
 ghost use Rattle.calls.specs.Calls.{close};
 ghost use Rattle.answers.specs.Answers.{Answered};
@@ -35,36 +36,9 @@ fn no_sums() -> ClosingSums
     }
 }
 
-fn entry_sums(entry: ClosingRecord) -> ClosingSums
-    ensures { λ r. ⌜ r ≡ sumsIn entry ⌝ }
-{
-    let value = entry.value;
-    let cost = entry.cost;
-    let flat_rate = entry.flat_rate;
-    let contribution = entry.contribution;
-    let liquidation = entry.liquidation;
-    let lapsed = entry.lapsed;
-    let balance = entry.balance;
-    ClosingSums {
-        value,
-        cost,
-        flat_rate,
-        contribution,
-        liquidation,
-        lapsed,
-        balance,
-    }
-}
-
-// The entry of a settled year, in front of the entry that was first.
-fn closing_entry(
-    first: RecordIndex,
-    user: RecordIndex,
-    account: Account,
-    values: YearValues,
-    settlement: Settlement,
-) -> ClosingRecord
-    ensures { λ r. ⌜ (settlement ≡ closedOf values account .settlement → r ≡ closingRecord (first .0) (user .0) (account .«open_year») (account .option) (settled account values)) ⌝ }
+// The sums of a settled year.
+fn settled_sums(values: YearValues, settlement: Settlement) -> ClosingSums
+    ensures { λ r. ⌜ ((account : Account) → settlement ≡ closedOf values account .settlement → r ≡ settled account values) ⌝ }
 {
     let value = values.value;
     let cost = values.cost;
@@ -74,10 +48,7 @@ fn closing_entry(
     let outcome = settlement.outcome;
     let liquidation = accounts::liquidation_in(outcome);
     let lapsed = accounts::lapsed_in(outcome);
-    ClosingRecord {
-        next: first,
-        option: account.option,
-        year: account.open_year,
+    ClosingSums {
         value,
         cost,
         flat_rate,
@@ -85,7 +56,6 @@ fn closing_entry(
         liquidation,
         lapsed,
         balance,
-        owner: user,
     }
 }
 
@@ -102,10 +72,17 @@ fn book_year(
 {
     let first = view::first_entry_of(book, user);
     let after = account.closed(values);
-    let entry = closing_entry(first, user, account, values, after.settlement);
+    let sums = settled_sums(values, after.settlement);
+    let entry = ClosingRecord {
+        next: first,
+        option: account.option,
+        year: account.open_year,
+        sums,
+        owner: user,
+    };
     let image = records::closing_image(entry);
     writers::write_entry(book, user, after.account, image);
-    entry_sums(entry)
+    sums
 }
 
 pub fn close(book: &mut [u8], s: &[u8]) -> Closed

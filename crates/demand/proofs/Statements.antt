@@ -11,9 +11,8 @@ use lib.IntN.{ℤ, pos, _+ℤ_, +ℤ-idl}
 use mir.Syntax.{w64}
 use mir.Val.{toZ}
 use Rattle.layout.specs.Fields.{recordAt, advanceKind, closingKind}
-use Rattle.records.specs.declared.ClosingRecord.{ClosingRecord}
 use Rattle.records.specs.Records.{advanceIn, closingIn}
-use Rattle.records.specs.Entries.{Entry, advanceEntry, closingEntry, sumsIn, entryIn}
+use Rattle.records.specs.Entries.{Entry, advanceEntry, closingEntry, entryIn}
 use Rattle.accounts.specs.declared.ClosingSums.{ClosingSums}
 use Rattle.book.specs.Book.{kindAt, isUser, isAdvance, isClosing, isEntry, accountAt}
 use Rattle.book.specs.Chains.{entriesOf}
@@ -58,7 +57,7 @@ data Told (b : List ℕ) (e : ℕ) : Type 0 where
   an-advance : isAdvance b e ≡ true → isClosing b e ≡ false
       → entryIn (recordAt b e) ≡ advanceEntry (advanceIn (recordAt b e) .year) (advanceIn (recordAt b e) .run) (advanceIn (recordAt b e) .ticks) → Told b e
   a-closing : isAdvance b e ≡ false → isClosing b e ≡ true
-      → entryIn (recordAt b e) ≡ closingEntry (closingIn (recordAt b e) .year) (closingIn (recordAt b e) .option) (sumsIn (closingIn (recordAt b e))) → Told b e
+      → entryIn (recordAt b e) ≡ closingEntry (closingIn (recordAt b e) .year) (closingIn (recordAt b e) .option) (closingIn (recordAt b e) .sums) → Told b e
 
 told : (b : List ℕ) (e : ℕ) → isEntry b e ≡ true → Told b e
 unfolding entryIn kindAt
@@ -69,26 +68,26 @@ told b e h = by-kind (entry-cases b e h)
     by-kind (inr c) = let k : kindAt b e ≡ closingKind = kind-is b closingKind e c in a-closing (kinds-apart b closingKind advanceKind e (omega arith) c) c (rw k)
 
 module _ (b : List ℕ) where
-  sum-items : (f : ClosingRecord → ℕ) (g : Item → ℕ) → ((c : ClosingRecord) → f c ≡ g (itemOf (c .year) (c .option) (sumsIn c))) → (es : List ℕ) → All (IsEntry b) es
+  sum-items : (f : ClosingSums → ℕ) (g : Item → ℕ) → ((year option : ℕ) (s : ClosingSums) → f s ≡ g (itemOf year option s)) → (es : List ℕ) → All (IsEntry b) es
       → sumOver (closingPart f b) es ≡ sumItems g (itemsOf (entriesIn b es))
   unfolding sumOver closingPart sumItems itemsOf entriesIn
   sum-items f g h [] a = refl
   sum-items f g h (e ∷ es) a = by-kind (told b e (a .0)) (sum-items f g h es (a .1))
     where
       by-kind : Told b e → sumOver (closingPart f b) es ≡ sumItems g (itemsOf (entriesIn b es))
-          → cond (isClosing b e) (f (closingIn (recordAt b e))) 0 + sumOver (closingPart f b) es ≡ sumItems g (itemsOf (entryIn (recordAt b e) ∷ entriesIn b es))
+          → cond (isClosing b e) (f (closingIn (recordAt b e) .sums)) 0 + sumOver (closingPart f b) es ≡ sumItems g (itemsOf (entryIn (recordAt b e) ∷ entriesIn b es))
       by-kind (an-advance p q r) rest = rw (q, r) (zero-add (sumOver (closingPart f b) es) ∙ rest)
-      by-kind (a-closing p q r) rest = rw (q, r) (ap₂ _+_ (h (closingIn (recordAt b e))) rest)
+      by-kind (a-closing p q r) rest = rw (q, r) (ap₂ _+_ (h (closingIn (recordAt b e) .year) (closingIn (recordAt b e) .option) (closingIn (recordAt b e) .sums)) rest)
 
   sum-balances : (es : List ℕ) → All (IsEntry b) es → sumOverℤ (balancePart b) es ≡ sumBalances (itemsOf (entriesIn b es))
-  unfolding sumOverℤ balancePart sumBalances itemsOf entriesIn sumsIn
+  unfolding sumOverℤ balancePart sumBalances itemsOf entriesIn
   sum-balances [] a = refl
   sum-balances (e ∷ es) a = by-kind (told b e (a .0)) (sum-balances es (a .1))
     where
       by-kind : Told b e → sumOverℤ (balancePart b) es ≡ sumBalances (itemsOf (entriesIn b es))
-          → cond (isClosing b e) (toZ w64 (closingIn (recordAt b e) .balance .0)) (pos 0) +ℤ sumOverℤ (balancePart b) es ≡ sumBalances (itemsOf (entryIn (recordAt b e) ∷ entriesIn b es))
+          → cond (isClosing b e) (toZ w64 (closingIn (recordAt b e) .sums .balance .0)) (pos 0) +ℤ sumOverℤ (balancePart b) es ≡ sumBalances (itemsOf (entryIn (recordAt b e) ∷ entriesIn b es))
       by-kind (an-advance p q r) rest = rw (q, r) (+ℤ-idl (sumOverℤ (balancePart b) es) ∙ rest)
-      by-kind (a-closing p q r) rest = rw (q, r) (ap (λ (z : ℤ). toZ w64 (closingIn (recordAt b e) .balance .0) +ℤ z) rest)
+      by-kind (a-closing p q r) rest = rw (q, r) (ap (λ (z : ℤ). toZ w64 (closingIn (recordAt b e) .sums .balance .0) +ℤ z) rest)
 
   sum-advances : (p : ℕ → Bool) (es : List ℕ) → All (IsEntry b) es → sumOver (advancePart p b) es ≡ sumAdvances p (advancesOf (entriesIn b es))
   unfolding sumOver advancePart sumAdvances advancesOf entriesIn
@@ -119,16 +118,16 @@ stated v =
     }
 
 pub statement-stated : (b : List ℕ) → Faultless b → (i : ℕ) → isUser b i ≡ true → statementAt b i ≡ stated (viewAt b i)
-unfolding statementAt stated sumsIn
+unfolding statementAt stated
 statement-stated b g i u =
     let es = entriesOf b i in
     let all = are-entries b g i u in
-    let value = sum-items b (λ c. c .value .0) (λ x. x .value) (λ c. refl) es all in
-    let cost = sum-items b (λ c. c .cost .0) (λ x. x .cost) (λ c. refl) es all in
-    let flat = sum-items b (λ c. c .«flat_rate» .0) (λ x. x .flatRate) (λ c. refl) es all in
-    let contribution = sum-items b (λ c. c .contribution .0) (λ x. x .contribution) (λ c. refl) es all in
-    let liquidation = sum-items b (λ c. c .liquidation .0) (λ x. x .liquidation) (λ c. refl) es all in
-    let lapsed = sum-items b (λ c. c .lapsed .0) (λ x. x .lapsed) (λ c. refl) es all in
+    let value = sum-items b (λ c. c .value .0) (λ x. x .value) (λ year option s. refl) es all in
+    let cost = sum-items b (λ c. c .cost .0) (λ x. x .cost) (λ year option s. refl) es all in
+    let flat = sum-items b (λ c. c .«flat_rate» .0) (λ x. x .flatRate) (λ year option s. refl) es all in
+    let contribution = sum-items b (λ c. c .contribution .0) (λ x. x .contribution) (λ year option s. refl) es all in
+    let liquidation = sum-items b (λ c. c .liquidation .0) (λ x. x .liquidation) (λ year option s. refl) es all in
+    let lapsed = sum-items b (λ c. c .lapsed .0) (λ x. x .lapsed) (λ year option s. refl) es all in
     let balance = sum-balances b es all in
     let paid = sum-advances b (λ y. true) es all in
     let before = sum-advances b (λ y. ltb y (accountAt b i .«open_year»)) es all in

@@ -1,7 +1,7 @@
 // The ten figures of document 01, "Figures to prove, one table", as the proved functions work them: a figure a line, its
 // number and then its values.
 use accounts::Account;
-use libc::STDOUT_FILENO;
+use output::Row;
 use units::Kwh;
 use units::Rate;
 use units::Ticks;
@@ -11,57 +11,65 @@ use values::YearValues;
 ghost use mathlib.Core.Path.{_≡_};
 ghost use Rattle.figures.specs.Accounts.{opened, yearOf};
 
-fn begin(figure: u64) {
-    io::print_decimal(STDOUT_FILENO, figure);
+fn begin(figure: u64) -> Row {
+    output::put_number(output::no_text(), figure)
 }
 
-fn show(value: u64) {
-    io::write_all(STDOUT_FILENO, b" ");
-    io::print_decimal(STDOUT_FILENO, value);
+fn put_energy(row: Row, energy: Kwh) -> Row {
+    output::put_field(row, energy.0 as u64)
 }
 
-fn show_energy(energy: Kwh) {
-    show(energy.0 as u64);
+// What says something answers whether it was written.
+fn say(row: Row) -> bool {
+    output::write_row(b"figures: standard output", output::put(row, b'\n'))
 }
 
-fn end() {
-    io::write_all(STDOUT_FILENO, b"\n");
-}
-
-fn line(figure: u64, value: u64) {
-    begin(figure);
-    show(value);
-    end();
+fn line(figure: u64, value: u64) -> bool {
+    say(output::put_field(begin(figure), value))
 }
 
 // (1) and (2): the tiers of a domestic user, class 1, and the flat-rate part of their energies.
-fn tiers_and_flat_rate() {
+fn tiers_and_flat_rate() -> bool {
     let withdrawn = Kwh(3_000);
     let exchanged = units::smaller(withdrawn, Kwh(1_800));
     let tiers = tariff::annual_tiers(1, withdrawn, exchanged);
-    begin(1);
-    show_energy(tiers[0]);
-    show_energy(tiers[1]);
-    show_energy(tiers[2]);
-    show_energy(tiers[3]);
-    end();
+    let mut row = put_energy(begin(1), tiers[0]);
+    row = put_energy(row, tiers[1]);
+    row = put_energy(row, tiers[2]);
+    row = put_energy(row, tiers[3]);
     let rates = [Rate(3_000), Rate(4_000), Rate(6_000), Rate(7_000)];
-    line(2, tariff::flat_rate_of(tiers, rates).0);
+    let flat_rate = tariff::flat_rate_of(tiers, rates);
+    if !say(row) {
+        return false;
+    }
+    line(2, flat_rate.0)
 }
 
-// (3) to (7): mean rates, and tier rates of plant 1.
-fn rates() {
-    line(3, tariff::mean_rate(Rate(18), 12).0);
-    line(4, tariff::mean_rate(Rate(17), 12).0);
-    line(5, tariff::tier_rate(1, 50_000, Rate(2_000), Rate(6_000)).0);
-    line(6, tariff::tier_rate(1, 50_000, Rate(8_000), Rate(6_000)).0);
-    line(7, tariff::tier_rate(1, 20_000, Rate(2_000), Rate(6_000)).0);
+// (3) and (4): mean rates.
+fn mean_rates() -> bool {
+    if !line(3, tariff::mean_rate(Rate(18), 12).0) {
+        return false;
+    }
+    line(4, tariff::mean_rate(Rate(17), 12).0)
+}
+
+// (5) to (7): tier rates of plant 1.
+fn tier_rates() -> bool {
+    if !line(5, tariff::tier_rate(1, 50_000, Rate(2_000), Rate(6_000)).0) {
+        return false;
+    }
+    if !line(6, tariff::tier_rate(1, 50_000, Rate(8_000), Rate(6_000)).0) {
+        return false;
+    }
+    line(7, tariff::tier_rate(1, 20_000, Rate(2_000), Rate(6_000)).0)
 }
 
 // (8) and (9): what a run pays.
-fn advances() {
-    line(8, calendar::paid_of(Ticks(1_500_000)).0);
-    line(9, calendar::paid_of(Ticks(1_500_001)).0);
+fn advances() -> bool {
+    if !line(8, calendar::paid_of(Ticks(1_500_000)).0) {
+        return false;
+    }
+    line(9, calendar::paid_of(Ticks(1_500_001)).0)
 }
 
 // An account on credit, before its first closing.
@@ -102,7 +110,7 @@ fn year_of(value: u64, cost: u64) -> YearValues
 }
 
 // (10): two years on credit and one liquidated.
-fn closings() {
+fn closings() -> bool {
     let first = opened().closed(year_of(10, 4));
     let after_first = first.account;
     let second = after_first.closed(year_of(3, 5));
@@ -110,19 +118,30 @@ fn closings() {
     let third = after_second.elected(1).closed(year_of(9, 2));
     let settled = third.settlement;
     let outcome = settled.outcome;
-    begin(10);
-    show(first.settlement.contribution.0);
-    show(second.settlement.contribution.0);
-    show(third.settlement.contribution.0);
-    show(accounts::liquidation_in(outcome).0);
-    show(accounts::lapsed_in(outcome).0);
-    show(third.account.credit.0);
-    end();
+    let mut row = output::put_field(begin(10), first.settlement.contribution.0);
+    row = output::put_field(row, second.settlement.contribution.0);
+    row = output::put_field(row, third.settlement.contribution.0);
+    row = output::put_field(row, accounts::liquidation_in(outcome).0);
+    row = output::put_field(row, accounts::lapsed_in(outcome).0);
+    say(output::put_field(row, third.account.credit.0))
 }
 
 fn main() {
-    tiers_and_flat_rate();
-    rates();
-    advances();
+    if 1 < os::arg_count() {
+        output::tell_use(b"figures: give no argument\n");
+        return;
+    }
+    if !tiers_and_flat_rate() {
+        return;
+    }
+    if !mean_rates() {
+        return;
+    }
+    if !tier_rates() {
+        return;
+    }
+    if !advances() {
+        return;
+    }
     closings();
 }

@@ -50,25 +50,25 @@ is-closing b i n entry e some =
     (λ (h : isClosing b (closingAmong b (activationOf b i + n) (entriesOf b i)) ≡ true). rw e h) (found-closing b (activationOf b i + n) (entriesOf b i))
 
 -- a year adds at most its value to the credit
-over-most : (c : ClosingRecord) (k : ℕ) → c .value .0 ≤ maxYearTicks → creditOver c k ≤ k + maxYearTicks
+over-most : (c : ClosingRecord) (k : ℕ) → c .sums .value .0 ≤ maxYearTicks → creditOver c k ≤ k + maxYearTicks
 unfolding creditOver creditAfter
 over-most c k l = cond-capped (eqb (c .option) 1) (omega arith) (omega arith)
 
 module _ (b : List ℕ) (long : lengthFits b ≡ true) (good : sound b ≡ true) (e k : ℕ) (is : isClosing b e ≡ true) where
-  value-most : closingIn (recordAt b e) .value .0 ≤ maxYearTicks
+  value-most : closingIn (recordAt b e) .sums .value .0 ≤ maxYearTicks
   value-most = closing-ranges b (sound-faultless b long good) e is .value
 
-  pub credit-room : (c : ClosingRecord) (r : List ℕ) → r ≡ recordAt b e → c ≡ closingIn r → k ≤ maxYearTicks * mostYears → k + c .value .0 < 2 ^ 64
+  pub credit-room : (c : ClosingRecord) (r : List ℕ) → r ≡ recordAt b e → c ≡ closingIn r → k ≤ maxYearTicks * mostYears → k + c .sums .value .0 < 2 ^ 64
   credit-room c r there read most =
-      let v : c .value .0 ≤ maxYearTicks = rw (read, there) value-most in
+      let v : c .sums .value .0 ≤ maxYearTicks = rw (read, there) value-most in
       omega arith
 
-  pub credited : (c : ClosingRecord) (r : List ℕ) → r ≡ recordAt b e → c ≡ closingIn r → (o : Outcome) → o ≡ outcomeOf (c .option) k (c .value .0) (c .cost .0)
+  pub credited : (c : ClosingRecord) (r : List ℕ) → r ≡ recordAt b e → c ≡ closingIn r → (o : Outcome) → o ≡ outcomeOf (c .option) k (c .sums .value .0) (c .sums .cost .0)
       → (credit : ℕ) → credit ≡ creditIn o → (credit ≡ creditOver (closingIn (recordAt b e)) k) × (credit ≤ k + maxYearTicks)
   unfolding creditOver
   credited c r there read o f credit g =
       let same : credit ≡ creditOver (closingIn (recordAt b e)) k =
-      g ∙ ap creditIn f ∙ outcome-credit (c .option) k (c .value .0) (c .cost .0) ∙ rw (read, there) in
+      g ∙ ap creditIn f ∙ outcome-credit (c .option) k (c .sums .value .0) (c .sums .cost .0) ∙ rw (read, there) in
       (same, rw same (over-most (closingIn (recordAt b e)) k value-most))
 
 -- THE CREDIT AFTER THE FIRST n YEARS
@@ -106,14 +106,14 @@ pub year-is : (b : List ℕ) (i n : ℕ) (year : ℕ) → year ≡ activationOf 
     → record {
       year = year;
       option = c .option;
-      value = c .value;
-      cost = c .cost;
-      «flat_rate» = c .«flat_rate»;
-      contribution = c .contribution;
+      value = c .sums .value;
+      cost = c .sums .cost;
+      «flat_rate» = c .sums .«flat_rate»;
+      contribution = c .sums .contribution;
       advances = advances;
-      balance = c .balance;
-      liquidation = c .liquidation;
-      lapsed = c .lapsed;
+      balance = c .sums .balance;
+      liquidation = c .sums .liquidation;
+      lapsed = c .sums .lapsed;
       credit = credit;
     }
     ≡ yearOf b i n

@@ -34,7 +34,7 @@ closingAfter b i n = closingOf b i (activationOf b i + n)
 
 -- the credit after the first n years: "Closing" folded from zero over the chain's C, O and option
 unfoldable pub creditOver : ClosingRecord → ℕ → ℕ
-creditOver c k = creditAfter (c .option) k (c .value .0) (c .cost .0)
+creditOver c k = creditAfter (c .option) k (c .sums .value .0) (c .sums .cost .0)
 
 unfoldable pub creditAfterYears : List ℕ → ℕ → ℕ → ℕ
 creditAfterYears b i zero = 0
@@ -47,13 +47,13 @@ yearOf b i n =
     record {
       year = activationOf b i + n;
       option = closingIn (recordAt b (closingAfter b i n)) .option;
-      value = closingIn (recordAt b (closingAfter b i n)) .value;
-      cost = closingIn (recordAt b (closingAfter b i n)) .cost;
-      «flat_rate» = closingIn (recordAt b (closingAfter b i n)) .«flat_rate»;
-      contribution = closingIn (recordAt b (closingAfter b i n)) .contribution;
+      value = closingIn (recordAt b (closingAfter b i n)) .sums .value;
+      cost = closingIn (recordAt b (closingAfter b i n)) .sums .cost;
+      «flat_rate» = closingIn (recordAt b (closingAfter b i n)) .sums .«flat_rate»;
+      contribution = closingIn (recordAt b (closingAfter b i n)) .sums .contribution;
       advances = ticks (advancesOf b i (activationOf b i + n));
-      balance = closingIn (recordAt b (closingAfter b i n)) .balance;
-      liquidation = closingIn (recordAt b (closingAfter b i n)) .liquidation;
-      lapsed = closingIn (recordAt b (closingAfter b i n)) .lapsed;
+      balance = closingIn (recordAt b (closingAfter b i n)) .sums .balance;
+      liquidation = closingIn (recordAt b (closingAfter b i n)) .sums .liquidation;
+      lapsed = closingIn (recordAt b (closingAfter b i n)) .sums .lapsed;
       credit = ticks (creditAfterYears b i (suc n));
     }

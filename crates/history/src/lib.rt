@@ -100,7 +100,8 @@ fn credit_over(book: &[u8], entry: RecordIndex, credit: Ticks) -> Ticks
     ensures { λ r. ⌜ (r .0 ≡ creditOver (closingIn (recordAt (now (book .entry)) (entry .0))) (credit .0)) × (r .0 ≤ credit .0 + maxYearTicks) ⌝ }
 {
     let closing = records::closing_of(layout::record(book, entry));
-    let outcome = accounts::outcome_of(closing.option, credit, closing.value, closing.cost);
+    let sums = closing.sums;
+    let outcome = accounts::outcome_of(closing.option, credit, sums.value, sums.cost);
     accounts::credit_after(outcome)
 }
 
@@ -144,13 +145,14 @@ pub fn year_of(book: &[u8], user: RecordIndex, n: u16) -> Year
     let closing = records::closing_of(layout::record(book, closing_after(book, user, n)));
     let advances = advances_of(book, user, year);
     let credit = credit_after_years(book, user, n + 1);
-    let value = closing.value;
-    let cost = closing.cost;
-    let flat_rate = closing.flat_rate;
-    let contribution = closing.contribution;
-    let balance = closing.balance;
-    let liquidation = closing.liquidation;
-    let lapsed = closing.lapsed;
+    let sums = closing.sums;
+    let value = sums.value;
+    let cost = sums.cost;
+    let flat_rate = sums.flat_rate;
+    let contribution = sums.contribution;
+    let balance = sums.balance;
+    let liquidation = sums.liquidation;
+    let lapsed = sums.lapsed;
     Year {
         year,
         option: closing.option,

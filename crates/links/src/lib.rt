@@ -1,12 +1,9 @@
-// The rules of document 01, "Book", that a record keeps: ranges and zero bytes by its kind, and where its links lead. Any bytes
-// are a book here.
+// The rules of document 01, "Book", on where the links of a record lead. Any bytes are a book here.
 ghost use mathlib.Core.Path.{_≡_};
-ghost use mathlib.Core.Bool.{_&&_};
-ghost use Prim.Native.Nat.{_+_, _*_, _≤_};
+ghost use mathlib.Core.Bool.{true, _&&_};
 ghost use lib.Dec.{eqb};
-ghost use lib.ListN.{length};
-ghost use Rattle.layout.specs.Fields.{recordLength, userKind};
-ghost use Rattle.book.specs.Book.{kindAt, isUser, numberOf, rangesFit, zeroBytesFit, userNextFits, numberIsNew, firstEntryFits, entryNextFits, ownerFits, pointersTo, inOrder, firstInOrder, nextInOrder, linksFit, goodRecord, goodHead};
+ghost use Rattle.layout.specs.Fields.{userKind};
+ghost use Rattle.book.specs.Book.{kindAt, isUser, numberOf, ownRulesFit, userNextFits, numberIsNew, firstEntryFits, entryNextFits, ownerFits, pointersTo, inOrder, firstInOrder, nextInOrder, linksFit, goodRecord, goodHead};
 use layout::kind::USER;
 use layout::record;
 use units::RecordIndex;
@@ -24,21 +21,6 @@ use view::next_of;
 use view::number_of;
 use view::open_year_of;
 use view::owner_of;
-
-// WHAT DIFFERS BY KIND: ranges and zero bytes
-
-fn own_rules_fit(book: &[u8], index: RecordIndex) -> bool
-    requires { ⌜ recordLength * index .0 + recordLength ≤ length (now book) ⌝ }
-    ensures { λ r. ⌜ r ≡ (rangesFit (now (book .entry)) (index .0) && zeroBytesFit (now (book .entry)) (index .0)) ⌝ }
-{
-    let bytes = record(book, index);
-    let owner = record(book, layout::owner_of(bytes));
-    if layout::kind_of(bytes) == USER {
-        book::user_record_fits(bytes)
-    } else {
-        book::entry_record_fits(bytes, owner)
-    }
-}
 
 // LINKS OF A USER
 
@@ -152,15 +134,15 @@ pub fn links_fit(book: &[u8], index: RecordIndex, new: bool) -> bool
     }
 }
 
-// A record that the book has whole is judged with the number of pointers that lead to it and, if it is a user, with whether its
+// A record that keeps its own rules is judged with the number of pointers that lead to it and, if it is a user, with whether its
 // number is new: both are known of all records together at less cost than of each by itself.
 pub fn good_record(book: &[u8], index: RecordIndex, pointers: u16, new: bool) -> bool
     requires { ⌜ pointers ≡ pointersTo (now book) (index .0) ⌝ }
     requires { ⌜ (kindAt (now book) (index .0) ≡ userKind → new ≡ numberIsNew (now book) (index .0)) ⌝ }
-    requires { ⌜ recordLength * index .0 + recordLength ≤ length (now book) ⌝ }
+    requires { ⌜ ownRulesFit (now book) (index .0) ≡ true ⌝ }
     ensures { λ r. ⌜ r ≡ goodRecord (now (book .entry)) (index .0) ⌝ }
 {
-    (own_rules_fit(book, index) & links_fit(book, index, new)) & (pointers == 1)
+    links_fit(book, index, new) & (pointers == 1)
 }
 
 pub fn good_head(book: &[u8]) -> bool

@@ -1,7 +1,6 @@
 // The listing program of document 01: it reads a book on standard input and prints its listing. The text is
 // `listing_text`'s; here it is only read and written.
-use book_input::Input;
-use libc::STDOUT_FILENO;
+use input::Input;
 use listing_text::Listed;
 
 // The buffer has room for every listing.
@@ -10,14 +9,16 @@ fn list(book: &[u8]) {
     let Listed::Written(count) = listing_text::listing_of(book, &mut text) else {
         return;
     };
-    if !io::write_all(STDOUT_FILENO, &text[..count]) {
-        os::fail(b"listing: standard output");
-    }
+    output::write(b"listing: standard output", &text[..count]);
 }
 
 fn main() {
-    let mut book = book_input::buffer();
-    let Input::Read(count) = book_input::read_book(&mut book) else {
+    if 1 < os::arg_count() {
+        output::tell_use(b"listing: give the book on standard input, and no argument\n");
+        return;
+    }
+    let mut book = input::book_buffer();
+    let Input::Read(count) = input::read_book(&mut book) else {
         os::fail(b"listing: standard input");
         return;
     };

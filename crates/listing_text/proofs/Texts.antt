@@ -11,9 +11,9 @@ use Rattle.codec.proofs.Stores.{sets-stored, length-stored}
 use Rattle.book.specs.Book.{lengthFits, sound}
 use Rattle.book.specs.Chains.{usersOf}
 use Rattle.units.specs.declared.RecordIndex.{RecordIndex}
-use Rattle.soundness.specs.declared.Checked.{Checked}
-use Rattle.soundness.specs.declared.Checked.the-variants.{Length, Sound, Faulty}
-use Rattle.soundness.specs.Verdicts.{BookChecked, Accepted, Objected}
+use Rattle.soundness.specs.declared.Verdict.{Verdict}
+use Rattle.soundness.specs.declared.Verdict.the-variants.{Length, Sound, Faulty}
+use Rattle.soundness.specs.Verdicts.{BookJudged, Accepted, Objected}
 use Rattle.book.proofs.Faults.{faulty-not-sound}
 use Rattle.listing_text.specs.Listing.{blank, lineFeed, lines, refused, listing}
 use Rattle.listing_text.specs.Written.{longestRefusal, longestText, field, AllWritten}
@@ -40,21 +40,21 @@ unfolding refused field
 refused-short n = omega (arith, field-short n lineFeed)
 
 module _ (b : List ℕ) where
-  pub refused-length : (v : Checked) → BookChecked b v → v ≡ Length → listing b ≡ refused 1
+  pub refused-length : (v : Verdict) → BookJudged b 0 v → v ≡ Length → listing b ≡ refused 1
   unfolding listing
-  refused-length v h e = let short : lengthFits b ≡ false = subst (BookChecked b) e h in rw short
+  refused-length v h e = let short : lengthFits b ≡ false = subst (BookJudged b 0) e h in rw short
 
-  pub accepted : (v : Checked) → BookChecked b v → v ≡ Sound → Accepted b
-  accepted v h e = subst (BookChecked b) e h
+  pub accepted : (v : Verdict) {i : RecordIndex} → BookJudged b 0 v → v ≡ Sound i → Accepted b
+  accepted v h e = subst (BookJudged b 0) e h .0
 
   pub listed : Accepted b → listing b ≡ lines b (usersOf b)
   unfolding listing
   listed a = let long : lengthFits b ≡ true = a .fits in let good : sound b ≡ true = a .isSound in rw (long, good)
 
-  pub refused-faulty : (v : Checked) {i : RecordIndex} → BookChecked b v → v ≡ Faulty i → listing b ≡ refused 2
+  pub refused-faulty : (v : Verdict) {i : RecordIndex} → BookJudged b 0 v → v ≡ Faulty i → listing b ≡ refused 2
   unfolding listing
   refused-faulty v {i} h e =
-      let o : Objected b (i .0) = subst (BookChecked b) e h in
+      let o : Objected b (i .0) = subst (BookJudged b 0) e h in
       let long : lengthFits b ≡ true = o .fits in
       let bad : sound b ≡ false = faulty-not-sound b long (i .0) (o .isFaulty) in
       rw (long, bad)

@@ -10,7 +10,7 @@ ghost use Rattle.listing_text.specs.Listing.{mostDigits, decimal, lines,
 ghost use Rattle.listing_text.specs.Written.{longestField, longestLine, longestRefusal, longestText, field, accountLine, ListingAnswered};
 use accounts::Account;
 use book::MOST_RECORDS;
-use soundness::Checked;
+use soundness::Verdict;
 
 // The longest listing: of each user three numbers of at most twenty digits, each with a byte after it.
 const MOST_USERS: usize = MOST_RECORDS - 1;
@@ -115,9 +115,9 @@ fn text_of(book: &[u8], out: &mut [u8]) -> usize
     ensures { λ _. ⌜ now (out .exit) ≡ stored 0 (listing (now (book .entry))) (now (out .entry)) ⌝ }
 {
     match soundness::check(book) {
-        Checked::Length => refusal_of(out, 1),
-        Checked::Sound => lines_of(book, out),
-        Checked::Faulty(_) => refusal_of(out, 2),
+        Verdict::Length => refusal_of(out, 1),
+        Verdict::Sound(_) => lines_of(book, out),
+        Verdict::Faulty(_) => refusal_of(out, 2),
     }
 }
 

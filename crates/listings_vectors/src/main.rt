@@ -1,71 +1,80 @@
 // The listings of the books on standard input, a line each in hexadecimal, `-` for no bytes. For each it prints what the
 // listing program prints, then a line `end`.
-use libc::STDIN_FILENO;
-use libc::STDOUT_FILENO;
+use input::Found;
 use listing_text::Listed;
 use text::Bytes;
-use text::Line;
 
-fn show_error() {
-    io::write_all(STDOUT_FILENO, b"error\n");
+fn say(bytes: &[u8]) -> bool {
+    output::write(b"listings_vectors: standard output", bytes)
+}
+
+fn say_error() -> bool {
+    say(b"error\n")
 }
 
 fn is_no_bytes(line: &[u8]) -> bool {
     (line.len() == 1) & (codec::byte_at(line, 0) == b'-')
 }
 
-// The buffer has room for every listing.
-fn answer_book(book: &[u8]) {
+// The buffer has room for every listing. An answer is whether it was written.
+fn answer_book(book: &[u8]) -> bool {
     let mut text = listing_text::buffer();
     let Listed::Written(count) = listing_text::listing_of(book, &mut text) else {
-        return;
+        return false;
     };
-    io::write_all(STDOUT_FILENO, &text[..count]);
-    io::write_all(STDOUT_FILENO, b"end\n");
+    if !say(&text[..count]) {
+        return false;
+    }
+    say(b"end\n")
 }
 
-fn answer(line: &[u8]) {
+fn answer(line: &[u8]) -> bool {
     if is_no_bytes(line) {
-        answer_book(b"");
-        return;
+        return answer_book(b"");
     }
     let mut bytes = io::large_buffer();
     let Bytes::Read(count) = text::hex_from(line, 0, &mut bytes) else {
-        show_error();
-        return;
+        return say_error();
     };
-    answer_book(&bytes[..count]);
+    answer_book(&bytes[..count])
 }
 
-// A line of many pieces is longer than any that is answered.
-fn answer_piece(line: Line, piece: &[u8]) {
-    if line.cut {
-        return;
-    }
-    if line.rest {
-        show_error();
-        return;
-    }
-    answer(piece);
-}
-
-// A proved loop has to end, so the lines are counted down from a number that no input reaches.
-fn run(held: &mut [u8]) {
-    let mut line = text::start();
-    let mut left = u64::MAX;
-    while 0 < left {
-        line = text::next_line(STDIN_FILENO, held, line);
-        if line.ended {
-            return;
+// Answers what was found where a line was looked for, and says whether to look for the next.
+fn answer_found(found: Found, line: &[u8]) -> bool {
+    match found {
+        Found::Whole => answer(line),
+        Found::Long => say_error(),
+        Found::Half => {
+            say_error();
+            false
         }
+        Found::End => false,
+        Found::Failed => {
+            os::fail(b"listings_vectors: standard input");
+            false
+        }
+    }
+}
+
+// A proved loop has to end, so the lines are counted to a number that no input reaches.
+fn run(held: &mut [u8]) {
+    let mut line = input::start();
+    for turn in 0..u64::MAX {
+        line = input::next_line(held, line);
+        let found = line.found;
         let from = line.from;
         let to = line.to;
-        answer_piece(line, &held[from..to]);
-        left = left - 1;
+        if !answer_found(found, &held[from..to]) {
+            return;
+        }
     }
 }
 
 fn main() {
-    let mut held = text::buffer();
+    if 1 < os::arg_count() {
+        output::tell_use(b"listings_vectors: give the lines on standard input, and no argument\n");
+        return;
+    }
+    let mut held = input::line_buffer();
     run(&mut held);
 }

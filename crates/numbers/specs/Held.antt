@@ -1,27 +1,54 @@
--- A set of numbers in a table with open addressing: a number stands at its slot or above it, and no place between is empty. 0 is
--- an empty place and no number.
-use Prim.Native.Nat.{ℕ, _*_, _/_, _%_, _≤_, _<_}
+-- A set of numbers in a table with open addressing: for each number there is an order in which places are tried, and it stands at
+-- the first of them that was empty. 0 is an empty place and no number.
+use Prim.Native.Nat.{ℕ, zero, suc, _+_, _*_, _/_, _%_, _<_, min}
 use mathlib.Core.Path.{_≡_}
 use mathlib.Core.List.{List}
 use lib.ListN.{length, getD}
 
--- 2,048 slots, by the top 11 bits of a product modulo 2^32, and 800 places above them
+-- places for the numbers of the 800 records that a book can have
 abbrev pub places : ℕ
-places = 2848
+places = 2048
 
-unfoldable pub slotOf : ℕ → ℕ
-slotOf n = n * 2654435769 % 4294967296 / 2097152
+-- 2^32, and its golden section
+abbrev pub word : ℕ
+word = 4294967296
 
-pub record HeldAt (t : List ℕ) (n p : ℕ) : Type 0 where
+abbrev pub golden : ℕ
+golden = 2654435769
+
+-- places are tried in runs of 4 neighbours
+abbrev pub runLength : ℕ
+runLength = 4
+
+unfoldable pub remixed : ℕ → ℕ
+remixed m = (m * golden + 1) % word
+
+-- the number, mixed r times
+unfoldable pub mixed : ℕ → ℕ → ℕ
+mixed n zero = n
+mixed n (suc r) = remixed (mixed n r)
+
+-- the place as far along the table as a mixed number is along 2^32
+unfoldable pub startOf : ℕ → ℕ → ℕ
+startOf places m = m * min places word / word
+
+-- a place of run r, which starts from the number mixed r + 1 times; after the last place of the table comes the first
+unfoldable pub place : ℕ → ℕ → ℕ → ℕ → ℕ
+place places n r step = (startOf places (mixed n (r + 1)) + step) % places
+
+-- the k-th place that is tried for a number, counted from 0
+unfoldable pub probe : ℕ → ℕ → ℕ → ℕ
+probe places n k = place places n (k / runLength) (k % runLength)
+
+-- the number stands at its k-th place, and none of the places that are tried before is empty
+pub record HeldAt (t : List ℕ) (n k : ℕ) : Type 0 where
   pub some : 0 < n
-  pub from : slotOf n ≤ p
-  pub inside : p < length t
-  pub there : getD t p 0 ≡ n
-  pub full : (k : ℕ) → slotOf n ≤ k → k < p → getD t k 0 ≡ 0 → ⊥
+  pub there : getD t (probe (length t) n k) 0 ≡ n
+  pub full : (j : ℕ) → j < k → getD t (probe (length t) n j) 0 ≡ 0 → ⊥
 
 -- the table holds the number
 pub data Held (t : List ℕ) (n : ℕ) : Type 0 where
-  stands : (p : ℕ) → HeldAt t n p → Held t n
+  stands : (k : ℕ) → HeldAt t n k → Held t n
 
 -- a number that was not held is held, and what was held still is
 pub record Inserted (t : List ℕ) (n : ℕ) (after : List ℕ) : Type 0 where

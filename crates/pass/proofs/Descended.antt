@@ -9,15 +9,14 @@ use native.Mathlib.Numerals.{add-one}
 use native.Mathlib.Omega.{arith}
 use borrow.Author.Tests.{ne-eqb, eqb-true, eqb-false, leb-true, not-true}
 use lib.Dec.{eqb, leb}
-use lib.ListN.{length, getD, set, replicate}
+use lib.ListN.{length, getD, set}
 use lib.Seq.{getD-set-same, getD-set-other}
 use Rattle.units.specs.Limits.{mostRecords}
 use Rattle.units.proofs.Bools.{and-left, and-right}
 use Rattle.units.proofs.Folds.{below-suc}
 use Rattle.layout.specs.Fields.{recordLength, get, allZero, unnamedOfHead, unnamedOfUser, recordAt, kindField, numberField, nextField, ownerField, userKind}
-use Rattle.layout.proofs.Cells.{zero-byte}
 use Rattle.records.specs.Records.{accountIn}
-use Rattle.book.specs.Book.{used, usedFits, firstUser, kindAt, isUser, isEntry, accountAt, ownerOf, nextOf, firstEntryOf, openYearOf, activationOf, numberOf, levelIn, levelOf, yearsEnded, accountFits, entryRanges, rangesFit, unnamedOf, zeroBytesFit, lengthFits, detailsFit, openYearFits, runsFit, advancesFit, creditFits, halvesFit, sound}
+use Rattle.book.specs.Book.{used, usedFits, firstUser, kindAt, isUser, isEntry, accountAt, ownerOf, nextOf, firstEntryOf, openYearOf, activationOf, numberOf, levelIn, levelOf, yearsEnded, accountFits, entryRanges, rangesFit, zeroBytesFit, ownRulesFit, lengthFits, sound}
 use Rattle.book.proofs.Faults.{used-within, used-counted}
 use Rattle.book.proofs.RecordKinds.{has-kind, entry-of-kind, entry-no-user, not-both}
 use Rattle.book.proofs.Faultless.{ranges-entry}
@@ -27,7 +26,7 @@ use Rattle.descent.proofs.Sound.{passed-sound}
 use Rattle.book.specs.Find.{findBelow, findUser}
 use Rattle.book.proofs.Find.{found-none}
 use Rattle.numbers.specs.Held.{Held, Inserted}
-use Rattle.pass.specs.Steps.{entryDue, yearDue, UserFits, EntryFits, StateAfter, firstMet}
+use Rattle.pass.specs.Steps.{entryDue, yearDue, UserLeads, EntryLeads, StateAfter, firstMet}
 
 -- the user with a number is found among the records from `left` on, or is still to be looked for below
 pub record Sought (b : List ℕ) (n left found : ℕ) : Type 0 where
@@ -75,17 +74,17 @@ pub record Descended (b : List ℕ) (n left expected found : ℕ) (states seen :
   pub sought : Sought b n left found
 
 -- no state is known at first
-pub started : (b : List ℕ) (wanted n : ℕ) (seen : List ℕ) {left expected : ℕ} → left ≡ used b → 1 ≤ used b → expected ≡ firstUser b
-    → Descended b wanted left expected 0 (replicate n 0) seen
+pub started : (b : List ℕ) (wanted : ℕ) (states seen : List ℕ) → ((o : ℕ) → getD states o 0 ≡ 0) → {left expected : ℕ} → left ≡ used b → 1 ≤ used b → expected ≡ firstUser b
+    → Descended b wanted left expected 0 states seen
 unfolding dueUser dueEntry dueYear entryDue yearDue firstEntryOf openYearOf
-started b wanted n seen l lo e =
+started b wanted states seen none l lo e =
     record {
       gone = 0;
       place = omega arith;
       some = omega arith;
       user = e;
-      entry = λ o. rw (zero-byte n o);
-      year = λ o. rw (zero-byte n o);
+      entry = λ o. rw (none o);
+      year = λ o. rw (none o);
       each = λ d h. let z : ⊥ = omega arith in absurd z;
       held = λ d h. let z : ⊥ = omega arith in absurd z;
       sought = sought-first b wanted l;
@@ -93,7 +92,8 @@ started b wanted n seen l lo e =
 
 -- the record at `index` is met
 module _ (b : List ℕ) {wanted left expected found : ℕ} {states seen : List ℕ} (s : Descended b wanted left expected found states seen) (index : ℕ)
-    (l : left ≡ index + 1) (most : left ≤ mostRecords) (lo : 1 ≤ index) (r : List ℕ) (bytes : r ≡ recordAt b index) where
+    (l : left ≡ index + 1) (most : left ≤ mostRecords) (lo : 1 ≤ index) (r : List ℕ) (bytes : r ≡ recordAt b index)
+    (own : ownRulesFit b index ≡ true) where
   after : index + suc (s .gone) ≡ used b
   after = let p = s .place in omega arith
 
@@ -103,28 +103,21 @@ module _ (b : List ℕ) {wanted left expected found : ℕ} {states seen : List �
   inside : index < used b
   inside = let p = after in omega arith
 
+  ranges-fit : rangesFit b index ≡ true
+  ranges-fit = and-left (rangesFit b index) (zeroBytesFit b index) own
+
+  zeros-fit : zeroBytesFit b index ≡ true
+  zeros-fit = and-right (rangesFit b index) (zeroBytesFit b index) own
+
   -- a user
-  module _ (kind : get kindField r ≡ userKind) {state : ℕ} (known : state ≡ getD states index 0) (f : UserFits r index expected state)
-      {number : ℕ} (n : number ≡ get numberField r) {seen' : List ℕ} (ins : Inserted seen number seen') where
+  module _ (kind : get kindField r ≡ userKind) {state : ℕ}
+      (known : state ≡ getD states index 0) (f : UserLeads r index expected state) {number : ℕ} (n : number ≡ get numberField r) {seen' : List ℕ} (ins : Inserted seen number seen') where
     kind-here : kindAt b index ≡ userKind
     unfolding kindAt
     kind-here = rw bytes at kind
 
     user-here : isUser b index ≡ true
     user-here = has-kind b userKind index lo inside kind-here
-
-    own-here : (accountFits (accountIn (recordAt b index)) && allZero unnamedOfUser (recordAt b index)) ≡ true
-    own-here = rw bytes at (f .own)
-
-    ranges-here : rangesFit b index ≡ true
-    unfolding rangesFit
-    ranges-here =
-        rw kind-here (and-left (accountFits (accountIn (recordAt b index))) (allZero unnamedOfUser (recordAt b index)) own-here)
-
-    zeros-here : zeroBytesFit b index ≡ true
-    unfolding zeroBytesFit unnamedOf
-    zeros-here =
-        rw kind-here (and-right (accountFits (accountIn (recordAt b index))) (allZero unnamedOfUser (recordAt b index)) own-here)
 
     number-here : number ≡ numberOf b index
     unfolding numberOf
@@ -141,8 +134,8 @@ module _ (b : List ℕ) {wanted left expected found : ℕ} {states seen : List �
     met-user =
         record {
           user = rw here user-here;
-          ranges = rw here ranges-here;
-          zero-bytes = rw here zeros-here;
+          ranges = rw here ranges-fit;
+          zero-bytes = rw here zeros-fit;
           due = sym (s .user) ∙ f .due ∙ sym here;
           ended = rw here ended-here;
           opened = rw here opened-here;
@@ -168,8 +161,8 @@ module _ (b : List ℕ) {wanted left expected found : ℕ} {states seen : List �
         }
 
   -- an entry
-  module _ {home : ℕ} (h : home ≡ get ownerField r) (home-lo : 1 ≤ home) (home-hi : home < index) (owner : List ℕ) (owner-bytes : owner ≡ recordAt b home)
-      {state : ℕ} (known : state ≡ getD states home 0) (f : EntryFits r owner index state) {state' : ℕ} (after-state : StateAfter r state')
+  module _ {kind : ℕ} (k : kind ≡ get kindField r) (other : kind ≡ userKind → ⊥) {home : ℕ} (h : home ≡ get ownerField r) (home-lo : 1 ≤ home) (home-hi : home < index) (owner : List ℕ) (owner-bytes : owner ≡ recordAt b home)
+      {state : ℕ} (known : state ≡ getD states home 0) (f : EntryLeads r owner index state) {state' : ℕ} (after-state : StateAfter r state')
       (room : home < length states) where
     owner-here : ownerOf b index ≡ home
     unfolding ownerOf
@@ -197,22 +190,16 @@ module _ (b : List ℕ) {wanted left expected found : ℕ} {states seen : List �
     unfolding kindAt
     entry-kind-here = ap (get kindField) bytes
 
+    kind-other : kindAt b index ≡ userKind → ⊥
+    kind-other e = other (k ∙ entry-kind-here ∙ e)
+
     entry-ranges-here : entryRanges (accountAt b (ownerOf b index)) (recordAt b index) ≡ true
-    entry-ranges-here =
-        rw (owner-here, ← owner-bytes, ← bytes)
-        (and-left (entryRanges (accountIn owner) r) (allZero (unnamedOf (get kindField r)) r) (f .own))
+    unfolding rangesFit
+    entry-ranges-here = rw (ne-eqb (kindAt b index) userKind kind-other) at ranges-fit
 
     is-entry : isEntry b index ≡ true
     unfolding kindAt
     is-entry = entry-of-kind b index lo inside (ranges-entry (accountAt b (ownerOf b index)) (recordAt b index) entry-ranges-here)
-
-    ranges-fit : rangesFit b index ≡ true
-    unfolding rangesFit
-    ranges-fit = rw (ne-eqb (kindAt b index) userKind (entry-no-user b index is-entry)) entry-ranges-here
-
-    zeros-fit : zeroBytesFit b index ≡ true
-    unfolding zeroBytesFit
-    zeros-fit = rw (← entry-kind-here, ← bytes) (and-right (entryRanges (accountIn owner) r) (allZero (unnamedOf (get kindField r)) r) (f .own))
 
     level-due : levelOf b index + yearsEnded (kindAt b index) ≡ dueYear b (ownerOf b index) (s .gone)
     level-due = rw (← level-here, ← entry-kind-here) (f .year ∙ year-due)
@@ -278,18 +265,6 @@ module _ (b : List ℕ) {wanted left expected found : ℕ} {states seen : List �
               (λ u. absurd (not-both b (met b (s .gone)) u (met-entry .entry)));
           sought = sought-past b wanted (s .sought) index l most no-user;
         }
-
--- a user that fits has a number
-pub number-some : {r : List ℕ} {index expected state : ℕ} → UserFits r index expected state → 0 < get numberField r
-unfolding accountFits accountIn
-number-some {r} f =
-    let a = accountIn r in
-    let fits = and-left (accountFits a) (allZero unnamedOfUser r) (f .own) in
-    let known : (not (eqb (get numberField r) 0) && (detailsFit (a .details) (a .option) && openYearFits a)) ≡ true =
-    and-left (not (eqb (get numberField r) 0) && (detailsFit (a .details) (a .option) && openYearFits a))
-    ((runsFit a && advancesFit a) && (creditFits a && halvesFit a)) fits in
-    let some = eqb-false (get numberField r) 0 (not-true (eqb (get numberField r) 0) (and-left (not (eqb (get numberField r) 0)) (detailsFit (a .details) (a .option) && openYearFits a) known)) in
-    omega (arith, some)
 
 -- the book has room for each record that it uses, and the states have a place for it
 pub record Roomy (b : List ℕ) (left : ℕ) : Type 0 where

@@ -1,2 +1,4 @@
+pub mod OwnRules
 pub mod Tests
 pub mod Descended
+pub mod Passing

@@ -1,56 +1,46 @@
 -- What the tests of a record that passes say.
 use Prim.Native.Nat.{ℕ, _+_}
 use mathlib.Core.Path.{_≡_, sym, ap, ap₂, _∙_}
-use mathlib.Core.Bool.{Bool, true, false, not, _&&_}
+use mathlib.Core.Bool.{true, _&&_}
 use mathlib.Core.List.{List}
 use native.Mathlib.Omega.{arith}
-use borrow.Author.Tests.{eqb-true, ltb-true, not-false}
+use borrow.Author.Tests.{eqb-true, ltb-true}
 use lib.Dec.{eqb, ltb}
 use Rattle.units.specs.declared.RecordIndex.{RecordIndex}
 use Rattle.units.specs.Units.{recordIndex}
 use Rattle.units.proofs.Bools.{and-left, and-right}
-use Rattle.layout.specs.Fields.{get, allZero, unnamedOfUser, kindField, nextField, activationYearField, userKind}
-use Rattle.records.specs.Records.{accountIn}
-use Rattle.book.specs.Book.{accountFits, entryRanges, unnamedOf, levelIn, yearsEnded}
-use Rattle.pass.specs.Steps.{entryDue, yearDue, UserFits, EntryFits}
+use Rattle.layout.specs.Fields.{get, kindField, nextField, activationYearField, userKind}
+use Rattle.book.specs.Book.{levelIn, yearsEnded}
+use Rattle.pass.specs.Steps.{entryDue, yearDue, UserLeads, EntryLeads}
 
-pub user-tests : (r : List ℕ) (index : ℕ) {expected state year activation entry : ℕ} {own : Bool} → year ≡ yearDue r state
-    → activation ≡ get activationYearField r → entry ≡ entryDue r state → (eqb expected index && (eqb entry 0 && eqb year activation)) ≡ true
-    → own ≡ (accountFits (accountIn r) && allZero unnamedOfUser r) → own ≡ true → UserFits r index expected state
-user-tests r index {expected} {state} {year} {activation} {entry} y a e t o p =
-    let ended = and-right (eqb expected index) (eqb entry 0 && eqb year activation) t in
+pub user-tests : (r : List ℕ) (index : ℕ) {expected state year activation : ℕ} {entry : RecordIndex} → year ≡ yearDue r state
+    → activation ≡ get activationYearField r → entry ≡ recordIndex (entryDue r state) → (eqb expected index && (eqb (entry .0) 0 && eqb year activation)) ≡ true
+    → UserLeads r index expected state
+user-tests r index {expected} {state} {year} {activation} {entry} y a e t =
+    let ended = and-right (eqb expected index) (eqb (entry .0) 0 && eqb year activation) t in
     record {
-      due = eqb-true expected index (and-left (eqb expected index) (eqb entry 0 && eqb year activation) t);
-      ended = sym e ∙ eqb-true entry 0 (and-left (eqb entry 0) (eqb year activation) ended);
-      opened = sym y ∙ eqb-true year activation (and-right (eqb entry 0) (eqb year activation) ended) ∙ a;
-      own = sym o ∙ p;
+      due = eqb-true expected index (and-left (eqb expected index) (eqb (entry .0) 0 && eqb year activation) t);
+      ended = sym (ap (λ (i : RecordIndex). i .0) e) ∙ eqb-true (entry .0) 0 (and-left (eqb (entry .0) 0) (eqb year activation) ended);
+      opened = sym y ∙ eqb-true year activation (and-right (eqb (entry .0) 0) (eqb year activation) ended) ∙ a;
     }
 
-module _ (r owner : List ℕ) (index state : ℕ) {year from entry home : ℕ} {next : RecordIndex} (y : year ≡ levelIn r) (w : from ≡ yearDue owner state)
-    (e : entry ≡ entryDue owner state) (n : next ≡ recordIndex (get nextField r)) (k : home ≡ get kindField owner)
-    (t : not ((eqb entry index && ltb (next .0) index) && (ltb 0 year && eqb home userKind)) ≡ false) where
-  abbrev leads : Bool
-  leads = eqb entry index && ltb (next .0) index
-
-  abbrev dated : Bool
-  dated = ltb 0 year && eqb home userKind
-
-  led : leads ≡ true
-  led = and-left leads dated (not-false (leads && dated) t)
-
-  owned : dated ≡ true
-  owned = and-right leads dated (not-false (leads && dated) t)
-
-  pub entry-tests : {kind ended : ℕ} → kind ≡ get kindField r → ended ≡ yearsEnded kind → year + ended ≡ from
-      → {own : Bool} → own ≡ (entryRanges (accountIn owner) r && allZero (unnamedOf (get kindField r)) r) → own ≡ true → EntryFits r owner index state
-  entry-tests q d l o p =
-      let below = ltb-true (next .0) index (and-right (eqb entry index) (ltb (next .0) index) led) in
-      let some = ltb-true 0 year (and-left (ltb 0 year) (eqb home userKind) owned) in
-      record {
-        user = sym k ∙ eqb-true home userKind (and-right (ltb 0 year) (eqb home userKind) owned);
-        due = sym e ∙ eqb-true entry index (and-left (eqb entry index) (ltb (next .0) index) led);
-        next = omega (arith, ap (λ (i : RecordIndex). i .0) n);
-        some = omega arith;
-        year = ap₂ (λ (m s : ℕ). m + s) (sym y) (ap yearsEnded (sym q) ∙ sym d) ∙ l ∙ w;
-        own = sym o ∙ p;
-      }
+pub entry-tests : (r owner : List ℕ) (index state : ℕ) {level from home kind ended : ℕ} {entry next : RecordIndex} → level ≡ levelIn r
+    → entry ≡ recordIndex (entryDue owner state) → next ≡ recordIndex (get nextField r) → home ≡ get kindField owner → kind ≡ get kindField r
+    → ended ≡ yearsEnded kind → from ≡ yearDue owner state
+    → (((eqb (entry .0) index && ltb (next .0) index) && (ltb 0 level && eqb home userKind)) && eqb (level + ended) from) ≡ true
+    → EntryLeads r owner index state
+entry-tests r owner index state {level} {from} {home} {kind} {ended} {entry} {next} y e n k q d w t =
+    let leads = eqb (entry .0) index && ltb (next .0) index in
+    let dated = ltb 0 level && eqb home userKind in
+    let both = and-left (leads && dated) (eqb (level + ended) from) t in
+    let led = and-left leads dated both in
+    let known = and-right leads dated both in
+    let below = ltb-true (next .0) index (and-right (eqb (entry .0) index) (ltb (next .0) index) led) in
+    let some = ltb-true 0 level (and-left (ltb 0 level) (eqb home userKind) known) in
+    record {
+      user = sym k ∙ eqb-true home userKind (and-right (ltb 0 level) (eqb home userKind) known);
+      due = sym (ap (λ (i : RecordIndex). i .0) e) ∙ eqb-true (entry .0) index (and-left (eqb (entry .0) index) (ltb (next .0) index) led);
+      next = omega (arith, ap (λ (i : RecordIndex). i .0) n);
+      some = omega arith;
+      year = ap₂ (λ (m s : ℕ). m + s) (sym y) (ap yearsEnded (sym q) ∙ sym d) ∙ eqb-true (level + ended) from (and-right (leads && dated) (eqb (level + ended) from) t) ∙ w;
+    }

@@ -1,13 +1,14 @@
 -- What the pass keeps of each user, and what it tests where it meets a record.
-use Prim.Native.Nat.{ℕ, _+_, _/_, _%_, _<_}
+use Prim.Native.Nat.{ℕ, _+_, _/_, _%_, _≤_, _<_}
 use mathlib.Core.Path.{_≡_}
-use mathlib.Core.Bool.{true, cond, _&&_}
+use mathlib.Core.Bool.{true, false, cond, _&&_}
 use mathlib.Core.List.{List}
 use lib.Dec.{eqb}
-use Rattle.layout.specs.Fields.{get, allZero, unnamedOfUser, kindField, nextField, firstEntryField, activationYearField, openYearField, userKind}
-use Rattle.records.specs.Records.{accountIn}
+use lib.ListN.{length, getD}
+use Rattle.layout.specs.Fields.{get, kindField, nextField, firstEntryField, activationYearField, openYearField, userKind}
+use Rattle.units.specs.declared.RecordIndex.{RecordIndex}
 use Rattle.units.specs.Units.{recordIndex}
-use Rattle.book.specs.Book.{accountFits, entryRanges, unnamedOf, levelIn, yearsEnded, sound}
+use Rattle.book.specs.Book.{used, levelIn, yearsEnded, ownRulesFit, faulty, sound}
 use Rattle.book.specs.Find.{findUser}
 use Rattle.pass.specs.declared.Passed.{Passed}
 
@@ -23,21 +24,19 @@ unfoldable pub yearDue : List ℕ → ℕ → ℕ
 yearDue r state = cond (eqb state 0) (get openYearField r) (state % years)
 
 -- a user at an index: the users' chain leads to it, and its own chain has ended
-pub record UserFits (r : List ℕ) (index expected state : ℕ) : Type 0 where
+pub record UserLeads (r : List ℕ) (index expected state : ℕ) : Type 0 where
   pub due : expected ≡ index
   pub ended : entryDue r state ≡ 0
   pub opened : yearDue r state ≡ get activationYearField r
-  pub own : (accountFits (accountIn r) && allZero unnamedOfUser r) ≡ true
 
 -- an entry at an index: its owner's chain leads to it with its level, or, a closing, with the year after, and on to an entry
 -- that is still to be met
-pub record EntryFits (r owner : List ℕ) (index state : ℕ) : Type 0 where
+pub record EntryLeads (r owner : List ℕ) (index state : ℕ) : Type 0 where
   pub user : get kindField owner ≡ userKind
   pub due : entryDue owner state ≡ index
   pub next : get nextField r < index
   pub some : 0 < levelIn r
   pub year : levelIn r + yearsEnded (get kindField r) ≡ yearDue owner state
-  pub own : (entryRanges (accountIn owner) r && allZero (unnamedOf (get kindField r)) r) ≡ true
 
 -- the state once the entry is met
 pub record StateAfter (r : List ℕ) (state : ℕ) : Type 0 where
@@ -48,7 +47,18 @@ pub record StateAfter (r : List ℕ) (state : ℕ) : Type 0 where
 unfoldable pub firstMet : ℕ → ℕ → ℕ → ℕ → ℕ
 firstMet found index number wanted = cond (eqb number wanted && eqb found 0) index found
 
--- where the pass is unsure it says nothing of the book
-abbrev pub PassedOver : List ℕ → ℕ → Passed → Type 0
-PassedOver b n Passed.Unsure = Unit {0}
-PassedOver b n (Passed.Sound i) = (sound b ≡ true) × (i ≡ recordIndex (findUser b n))
+-- what the pass begins with: a state for each record, none of them known, and a table of numbers
+pub record Tables (records : ℕ) (states seen : List ℕ) : Type 0 where
+  pub room : records ≤ length states
+  pub unknown : (o : ℕ) → getD states o 0 ≡ 0
+  pub places : 0 < length seen
+
+-- what the pass answers where it meets a record that is faulty by itself
+abbrev pub faultyAt : RecordIndex → Passed
+faultyAt i = record { faulty = i; joined = false; user = recordIndex 0 }
+
+-- What the pass says. Where the chains do not lead to every record, some record is faulty, and the pass does not say which.
+pub record PassedOver (b : List ℕ) (n : ℕ) (p : Passed) : Type 0 where
+  pub named : (p .faulty .0 ≡ 0 → ⊥) → faulty b (p .faulty .0) ≡ true
+  pub own : p .faulty .0 ≡ 0 → (i : ℕ) → 1 ≤ i → i < used b → ownRulesFit b i ≡ true
+  pub whole : p .joined ≡ true → (sound b ≡ true) × (p .user ≡ recordIndex (findUser b n))

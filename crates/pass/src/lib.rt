@@ -1,12 +1,12 @@
-// A sound book told in one pass over its records, from the last one down (document 01, "Book"). Where the pass does not accept a
-// book nothing is said of it: the judge that names a faulty record decides.
+// One pass over the records of a book, from the last one down (document 01, "Book"). It tests each record's own rules, tells
+// whether the chains lead to every record, and finds the user with a number on its way.
 ghost use mathlib.Core.Path.{_≡_};
 ghost use mathlib.Core.Bool.{true};
 ghost use Prim.Native.Nat.{_<_};
-ghost use lib.ListN.{length};
-ghost use Rattle.layout.specs.Fields.{recordLength, get, nextField};
-ghost use Rattle.book.specs.Book.{lengthFits};
-ghost use Rattle.pass.specs.Steps.{years, entryDue, yearDue, UserFits, EntryFits, StateAfter, firstMet, PassedOver};
+ghost use Rattle.units.specs.Units.{recordIndex};
+ghost use Rattle.layout.specs.Fields.{get, nextField};
+ghost use Rattle.book.specs.Book.{lengthFits, used, usedFits, goodHead};
+ghost use Rattle.pass.specs.Steps.{years, entryDue, yearDue, UserLeads, EntryLeads, StateAfter, firstMet, faultyAt, Tables, PassedOver};
 use book::MOST_RECORDS;
 use layout::kind::USER;
 use layout::whole_record;
@@ -14,131 +14,163 @@ use numbers::PLACES;
 use units::RecordIndex;
 use units::UserNumber;
 
-// What the pass says of a book: nothing, or that it is sound, with the user that was looked for, 0 for none.
-pub enum Passed {
-    Unsure,
-    Sound(RecordIndex),
+// What the pass says of a book: a record that is faulty, 0 for none; whether the chains lead to all records; and the user that was
+// looked for, 0 for none.
+pub struct Passed {
+    pub faulty: RecordIndex,
+    pub joined: bool,
+    pub user: RecordIndex,
 }
+
+fn faulty_at(index: RecordIndex) -> Passed
+    ensures { λ p. ⌜ p ≡ faultyAt index ⌝ }
+{
+    Passed {
+        faulty: index,
+        joined: false,
+        user: RecordIndex(0),
+    }
+}
+
+// A small book, and places for the numbers of its users.
+const FEW_RECORDS: usize = 32;
+
+const FEW_PLACES: usize = 64;
 
 // No year reaches this.
 const YEARS: u32 = 65_536;
 
-// The entry and the year that are due of a user, from its state and its record.
-fn entry_due(r: &[u8], state: u32) -> u32
-    ensures { λ e. ⌜ e ≡ entryDue (now (r .entry)) state ⌝ }
+// The state of a user: 0 until an entry of it is met, then the next of that entry and its level in one word. With the user's
+// record it tells the entry and the year that are due.
+struct State(u32);
+
+fn entry_due(r: &[u8], state: State) -> RecordIndex
+    ensures { λ e. ⌜ e ≡ recordIndex (entryDue (now (r .entry)) (state .0)) ⌝ }
 {
-    if state == 0 {
-        layout::first_entry_of(r).0
+    if state.0 == 0 {
+        layout::first_entry_of(r)
     } else {
-        state / YEARS
+        RecordIndex(state.0 / YEARS)
     }
 }
 
-fn year_due(r: &[u8], state: u32) -> u16
-    ensures { λ y. ⌜ y ≡ yearDue (now (r .entry)) state ⌝ }
+fn year_due(r: &[u8], state: State) -> u16
+    ensures { λ y. ⌜ y ≡ yearDue (now (r .entry)) (state .0) ⌝ }
 {
-    if state == 0 {
+    if state.0 == 0 {
         layout::open_year_of(r)
     } else {
-        (state % YEARS) as u16
+        (state.0 % YEARS) as u16
     }
 }
 
 // The state of an owner once the entry is met.
-fn state_after(r: &[u8]) -> u32
+fn state_after(r: &[u8]) -> State
     requires { ⌜ get nextField (now r) < years ⌝ }
-    ensures { λ s. ⌜ StateAfter (now (r .entry)) s ⌝ }
+    ensures { λ s. ⌜ StateAfter (now (r .entry)) (s .0) ⌝ }
 {
-    layout::next_of(r).0 * YEARS + book::level_of(r) as u32
+    let both = layout::next_of(r).0 * YEARS + book::level_of(r) as u32;
+    State(both)
 }
 
 // A user is met where the users' chain leads, at the end of its own chain.
-fn user_fits(r: &[u8], index: usize, expected: u32, state: u32) -> bool
-    requires { ⌜ length (now r) ≡ recordLength ⌝ }
-    ensures { λ s. ⌜ (s ≡ true → UserFits (now (r .entry)) index expected state) ⌝ }
+fn user_leads(r: &[u8], index: RecordIndex, expected: RecordIndex, state: State) -> bool
+    ensures { λ s. ⌜ (s ≡ true → UserLeads (now (r .entry)) (index .0) (expected .0) (state .0)) ⌝ }
 {
     let opened = year_due(r, state) == layout::activation_year_of(r);
-    let ended = (entry_due(r, state) == 0) & opened;
-    if (expected as usize == index) & ended {
-        book::user_record_fits(r)
-    } else {
-        false
-    }
+    let ended = (entry_due(r, state).0 == 0) & opened;
+    (expected.0 == index.0) & ended
 }
 
 // An entry is met where its owner's chain leads. Its next is a record still to be met, so that the state has room for it.
-fn entry_fits(r: &[u8], owner: &[u8], index: usize, state: u32) -> bool
-    requires { ⌜ length (now r) ≡ recordLength ⌝ }
-    ensures { λ s. ⌜ (s ≡ true → EntryFits (now (r .entry)) (now (owner .entry)) index state) ⌝ }
+fn entry_leads(r: &[u8], owner: &[u8], index: RecordIndex, state: State) -> bool
+    ensures { λ s. ⌜ (s ≡ true → EntryLeads (now (r .entry)) (now (owner .entry)) (index .0) (state .0)) ⌝ }
 {
     let level = book::level_of(r);
-    let from = year_due(owner, state);
-    let due = entry_due(owner, state) as usize == index;
-    let leads = due & ((layout::next_of(r).0 as usize) < index);
-    if !(leads & ((0 < level) & (layout::kind_of(owner) == USER))) {
-        return false;
-    }
-    if level as u32 + book::years_ended(layout::kind_of(r)) == from as u32 {
-        book::entry_record_fits(r, owner)
-    } else {
-        false
-    }
+    let due = entry_due(owner, state).0 == index.0;
+    let leads = due & (layout::next_of(r).0 < index.0);
+    let dated = (0 < level) & (layout::kind_of(owner) == USER);
+    let ended = book::years_ended(layout::kind_of(r));
+    (leads & dated) & (level as u32 + ended == year_due(owner, state) as u32)
 }
 
 // The record of the user that is looked for: the first that is met with the number, as long as none was.
-fn first_met(found: usize, index: usize, number: u32, wanted: u32) -> usize
-    ensures { λ r. ⌜ r ≡ firstMet found index number wanted ⌝ }
+fn first_met(found: u32, index: RecordIndex, number: UserNumber, wanted: UserNumber) -> u32
+    ensures { λ r. ⌜ r ≡ firstMet found (index .0) (number .0) (wanted .0) ⌝ }
 {
-    if (number == wanted) & (found == 0) {
-        index
+    if (number.0 == wanted.0) & (found == 0) {
+        index.0
     } else {
         found
     }
 }
 
-// Of each user the pass keeps its state, and of all the numbers that it has seen. On the way it finds the user with a number.
-pub fn find(book: &[u8], wanted: UserNumber) -> Passed
+// Of each user the pass keeps its state, and of all the numbers that it has seen.
+fn pass_over(book: &[u8], wanted: UserNumber, states: &mut [u32], seen: &mut [u32]) -> Passed
     requires { ⌜ lengthFits (now book) ≡ true ⌝ }
-    ensures { λ r. ⌜ PassedOver (now (book .entry)) (wanted .0) r ⌝ }
+    requires { ⌜ usedFits (now book) ≡ true ⌝ }
+    requires { ⌜ goodHead (now book) ≡ true ⌝ }
+    requires { ⌜ Tables (used (now book)) (now states) (now seen) ⌝ }
+    ensures { λ p. ⌜ PassedOver (now (book .entry)) (wanted .0) p ⌝ }
 {
-    let head = layout::record(book, RecordIndex(0));
-    if !(view::used_fits(book) & layout::head_rest_zero(head)) {
-        return Passed::Unsure;
-    }
-    let mut states = [0u32; MOST_RECORDS];
-    let mut seen = [0u32; PLACES];
-    let mut found = 0;
+    let mut joined = true;
+    let mut found: u32 = 0;
     let mut expected = view::first_user(book).0;
-    let mut left = view::used(book) as usize;
+    let mut left = view::used(book);
     while 1 < left {
-        let index = left - 1;
-        let r = whole_record(book, index);
+        let last = left - 1;
+        let index = RecordIndex(last);
+        let r = whole_record(book, last as usize);
         if layout::kind_of(r) == USER {
-            if !user_fits(r, index, expected, states[index]) {
-                return Passed::Unsure;
+            if !book::user_record_fits(r) {
+                return faulty_at(index);
             }
             let number = layout::number_of(r);
-            if !numbers::insert(&mut seen, number.0) {
-                return Passed::Unsure;
-            }
-            found = first_met(found, index, number.0, wanted.0);
+            let new = numbers::insert(seen, number);
+            let state = states[last as usize];
+            let leads = user_leads(r, index, RecordIndex(expected), State(state));
+            joined = joined & (new & leads);
+            found = first_met(found, index, number, wanted);
             expected = layout::next_of(r).0;
         } else {
-            let home = layout::owner_of(r).0 as usize;
-            if (home == 0) | (index <= home) {
-                return Passed::Unsure;
+            let home = layout::owner_of(r);
+            if (home.0 == 0) | (last <= home.0) {
+                return faulty_at(index);
             }
-            let owner = whole_record(book, home);
-            if !entry_fits(r, owner, index, states[home]) {
-                return Passed::Unsure;
+            let owner = whole_record(book, home.0 as usize);
+            if !book::entry_record_fits(r, owner) {
+                return faulty_at(index);
             }
-            states[home] = state_after(r);
+            let state = states[home.0 as usize];
+            if entry_leads(r, owner, index, State(state)) {
+                states[home.0 as usize] = state_after(r).0;
+            } else {
+                joined = false;
+            }
         }
-        left = index;
+        left = last;
     }
-    if expected == 0 {
-        Passed::Sound(RecordIndex(found as u32))
+    Passed {
+        faulty: RecordIndex(0),
+        joined: joined & (expected == 0),
+        user: RecordIndex(found),
+    }
+}
+
+// Tables for the records that the book uses: those for 800 take longer to clear than a small book to pass over.
+pub fn find(book: &[u8], wanted: UserNumber) -> Passed
+    requires { ⌜ lengthFits (now book) ≡ true ⌝ }
+    requires { ⌜ usedFits (now book) ≡ true ⌝ }
+    requires { ⌜ goodHead (now book) ≡ true ⌝ }
+    ensures { λ p. ⌜ PassedOver (now (book .entry)) (wanted .0) p ⌝ }
+{
+    if view::used(book) as usize <= FEW_RECORDS {
+        let mut states = [0u32; FEW_RECORDS];
+        let mut seen = [0u32; FEW_PLACES];
+        pass_over(book, wanted, &mut states, &mut seen)
     } else {
-        Passed::Unsure
+        let mut states = [0u32; MOST_RECORDS];
+        let mut seen = [0u32; PLACES];
+        pass_over(book, wanted, &mut states, &mut seen)
     }
 }

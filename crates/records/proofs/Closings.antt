@@ -19,13 +19,13 @@ pub record ClosingFits (c : ClosingRecord) : Type 0 where
   pub next : c .next .0 < 2 ^ 32
   pub option : c .option < 2 ^ 8
   pub year : c .year < 2 ^ 16
-  pub value : c .value .0 < 2 ^ 64
-  pub cost : c .cost .0 < 2 ^ 64
-  pub «flat_rate» : c .«flat_rate» .0 < 2 ^ 64
-  pub contribution : c .contribution .0 < 2 ^ 64
-  pub liquidation : c .liquidation .0 < 2 ^ 64
-  pub lapsed : c .lapsed .0 < 2 ^ 64
-  pub balance : c .balance .0 < 2 ^ 64
+  pub value : c .sums .value .0 < 2 ^ 64
+  pub cost : c .sums .cost .0 < 2 ^ 64
+  pub «flat_rate» : c .sums .«flat_rate» .0 < 2 ^ 64
+  pub contribution : c .sums .contribution .0 < 2 ^ 64
+  pub liquidation : c .sums .liquidation .0 < 2 ^ 64
+  pub lapsed : c .sums .lapsed .0 < 2 ^ 64
+  pub balance : c .sums .balance .0 < 2 ^ 64
   pub owner : c .owner .0 < 2 ^ 32
 
 -- what the fields of a record of this kind hold
@@ -34,13 +34,13 @@ pub record ClosingReads (c : ClosingRecord) (r : List ℕ) : Type 0 where
   pub kind : get kindField r ≡ closingKind
   pub option : get closingOptionField r ≡ c .option
   pub year : get yearField r ≡ c .year
-  pub value : get valueField r ≡ c .value .0
-  pub cost : get costField r ≡ c .cost .0
-  pub «flat_rate» : get flatRateField r ≡ c .«flat_rate» .0
-  pub contribution : get contributionField r ≡ c .contribution .0
-  pub liquidation : get liquidationField r ≡ c .liquidation .0
-  pub lapsed : get lapsedField r ≡ c .lapsed .0
-  pub balance : get balanceField r ≡ c .balance .0
+  pub value : get valueField r ≡ c .sums .value .0
+  pub cost : get costField r ≡ c .sums .cost .0
+  pub «flat_rate» : get flatRateField r ≡ c .sums .«flat_rate» .0
+  pub contribution : get contributionField r ≡ c .sums .contribution .0
+  pub liquidation : get liquidationField r ≡ c .sums .liquidation .0
+  pub lapsed : get lapsedField r ≡ c .sums .lapsed .0
+  pub balance : get balanceField r ≡ c .sums .balance .0
   pub owner : get ownerField r ≡ c .owner .0
 
 module _ (c : ClosingRecord) where
@@ -88,13 +88,16 @@ closing-decoded c r h =
       next = recordIndex (h .next i);
       option = h .option i;
       year = h .year i;
-      value = ticks (h .value i);
-      cost = ticks (h .cost i);
-      «flat_rate» = ticks (h .«flat_rate» i);
-      contribution = ticks (h .contribution i);
-      liquidation = ticks (h .liquidation i);
-      lapsed = ticks (h .lapsed i);
-      balance = record { 0 = h .balance i };
+      sums =
+          record {
+            value = ticks (h .value i);
+            cost = ticks (h .cost i);
+            «flat_rate» = ticks (h .«flat_rate» i);
+            contribution = ticks (h .contribution i);
+            liquidation = ticks (h .liquidation i);
+            lapsed = ticks (h .lapsed i);
+            balance = record { 0 = h .balance i };
+          };
       owner = recordIndex (h .owner i);
     }
 

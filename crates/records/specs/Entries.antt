@@ -16,24 +16,12 @@ pub data Entry : Type 0 where
   advanceEntry : (year run : ℕ) (paid : Ticks) → Entry
   closingEntry : (year option : ℕ) (sums : ClosingSums) → Entry
 
--- the sums of a closing's record, and what the bytes of an entry say
-unfoldable pub sumsIn : ClosingRecord → ClosingSums
-sumsIn c =
-    record {
-      value = c .value;
-      cost = c .cost;
-      «flat_rate» = c .«flat_rate»;
-      contribution = c .contribution;
-      liquidation = c .liquidation;
-      lapsed = c .lapsed;
-      balance = c .balance;
-    }
-
+-- what the bytes of an entry say
 abbrev pub ofAdvance : AdvanceRecord → Entry
 ofAdvance a = advanceEntry (a .year) (a .run) (a .ticks)
 
 abbrev pub ofClosing : ClosingRecord → Entry
-ofClosing c = closingEntry (c .year) (c .option) (sumsIn c)
+ofClosing c = closingEntry (c .year) (c .option) (c .sums)
 
 unfoldable pub entryIn : List ℕ → Entry
 entryIn r = cond (eqb (get kindField r) closingKind) (ofClosing (closingIn r)) (ofAdvance (advanceIn r))
@@ -43,20 +31,7 @@ abbrev pub advanceRecord : ℕ → ℕ → ℕ → ℕ → Ticks → AdvanceReco
 advanceRecord next owner year run paid = record { next = recordIndex next; run = run; year = year; ticks = paid; owner = recordIndex owner }
 
 abbrev pub closingRecord : ℕ → ℕ → ℕ → ℕ → ClosingSums → ClosingRecord
-closingRecord next owner year option s =
-    record {
-      next = recordIndex next;
-      option = option;
-      year = year;
-      value = s .value;
-      cost = s .cost;
-      «flat_rate» = s .«flat_rate»;
-      contribution = s .contribution;
-      liquidation = s .liquidation;
-      lapsed = s .lapsed;
-      balance = s .balance;
-      owner = recordIndex owner;
-    }
+closingRecord next owner year option s = record { next = recordIndex next; option = option; year = year; sums = s; owner = recordIndex owner }
 
 unfoldable pub entryImage : ℕ → ℕ → Entry → List ℕ
 entryImage next owner (advanceEntry year run paid) = advanceImage (advanceRecord next owner year run paid)

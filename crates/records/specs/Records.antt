@@ -57,13 +57,13 @@ closingCells c =
     ∷ (kindField holds closingKind)
     ∷ (closingOptionField holds c .option)
     ∷ (yearField holds c .year)
-    ∷ (valueField holds c .value .0)
-    ∷ (costField holds c .cost .0)
-    ∷ (flatRateField holds c .«flat_rate» .0)
-    ∷ (contributionField holds c .contribution .0)
-    ∷ (liquidationField holds c .liquidation .0)
-    ∷ (lapsedField holds c .lapsed .0)
-    ∷ (balanceField holds c .balance .0)
+    ∷ (valueField holds c .sums .value .0)
+    ∷ (costField holds c .sums .cost .0)
+    ∷ (flatRateField holds c .sums .«flat_rate» .0)
+    ∷ (contributionField holds c .sums .contribution .0)
+    ∷ (liquidationField holds c .sums .liquidation .0)
+    ∷ (lapsedField holds c .sums .lapsed .0)
+    ∷ (balanceField holds c .sums .balance .0)
     ∷ (ownerField holds c .owner .0)
     ∷ []
 
@@ -113,12 +113,15 @@ closingIn r =
       next = recordIndex (get nextField r);
       option = get closingOptionField r;
       year = get yearField r;
-      value = ticks (get valueField r);
-      cost = ticks (get costField r);
-      «flat_rate» = ticks (get flatRateField r);
-      contribution = ticks (get contributionField r);
-      liquidation = ticks (get liquidationField r);
-      lapsed = ticks (get lapsedField r);
-      balance = record { 0 = get balanceField r };
+      sums =
+          record {
+            value = ticks (get valueField r);
+            cost = ticks (get costField r);
+            «flat_rate» = ticks (get flatRateField r);
+            contribution = ticks (get contributionField r);
+            liquidation = ticks (get liquidationField r);
+            lapsed = ticks (get lapsedField r);
+            balance = record { 0 = get balanceField r };
+          };
       owner = recordIndex (get ownerField r);
     }

@@ -5,6 +5,7 @@ ghost use Rattle.layout.specs.Fields.{recordLength};
 ghost use Rattle.records.specs.Records.{headImage, userImage, advanceImage, closingImage, accountIn, advanceIn, closingIn};
 use accounts::Account;
 use accounts::Balance;
+use accounts::ClosingSums;
 use layout::kind;
 use layout::place;
 use layout::put_u8;
@@ -37,13 +38,7 @@ pub struct ClosingRecord {
     pub next: RecordIndex,
     pub option: u8,
     pub year: u16,
-    pub value: Ticks,
-    pub cost: Ticks,
-    pub flat_rate: Ticks,
-    pub contribution: Ticks,
-    pub liquidation: Ticks,
-    pub lapsed: Ticks,
-    pub balance: Balance,
+    pub sums: ClosingSums,
     pub owner: RecordIndex,
 }
 
@@ -90,13 +85,10 @@ pub fn advance_of(r: &[u8]) -> AdvanceRecord
     }
 }
 
-pub fn closing_of(r: &[u8]) -> ClosingRecord
-    ensures { λ c. ⌜ c ≡ closingIn (now (r .entry)) ⌝ }
+fn sums_of(r: &[u8]) -> ClosingSums
+    ensures { λ s. ⌜ s ≡ closingIn (now (r .entry)) .sums ⌝ }
 {
-    ClosingRecord {
-        next: layout::next_of(r),
-        option: layout::read_u8(r, place::CLOSING_OPTION),
-        year: layout::year_of(r),
+    ClosingSums {
         value: Ticks(codec::read_u64(r, place::VALUE)),
         cost: Ticks(codec::read_u64(r, place::COST)),
         flat_rate: Ticks(codec::read_u64(r, place::FLAT_RATE)),
@@ -104,6 +96,17 @@ pub fn closing_of(r: &[u8]) -> ClosingRecord
         liquidation: Ticks(codec::read_u64(r, place::LIQUIDATION)),
         lapsed: Ticks(codec::read_u64(r, place::LAPSED)),
         balance: Balance(codec::read_u64(r, place::BALANCE)),
+    }
+}
+
+pub fn closing_of(r: &[u8]) -> ClosingRecord
+    ensures { λ c. ⌜ c ≡ closingIn (now (r .entry)) ⌝ }
+{
+    ClosingRecord {
+        next: layout::next_of(r),
+        option: layout::read_u8(r, place::CLOSING_OPTION),
+        year: layout::year_of(r),
+        sums: sums_of(r),
         owner: layout::owner_of(r),
     }
 }
@@ -181,17 +184,18 @@ pub fn advance_image(advance: AdvanceRecord) -> [u8; 80]
 pub fn closing_image(closing: ClosingRecord) -> [u8; 80]
     ensures { λ r. ⌜ r ≡ closingImage closing ⌝ }
 {
+    let sums = closing.sums;
     let image = [0; 80];
     let image = put_u32(image, place::NEXT, closing.next.0);
     let image = put_u8(image, place::KIND, kind::CLOSING);
     let image = put_u8(image, place::CLOSING_OPTION, closing.option);
     let image = put_u16(image, place::YEAR, closing.year);
-    let image = put_u64(image, place::VALUE, closing.value.0);
-    let image = put_u64(image, place::COST, closing.cost.0);
-    let image = put_u64(image, place::FLAT_RATE, closing.flat_rate.0);
-    let image = put_u64(image, place::CONTRIBUTION, closing.contribution.0);
-    let image = put_u64(image, place::LIQUIDATION, closing.liquidation.0);
-    let image = put_u64(image, place::LAPSED, closing.lapsed.0);
-    let image = put_u64(image, place::BALANCE, closing.balance.0);
+    let image = put_u64(image, place::VALUE, sums.value.0);
+    let image = put_u64(image, place::COST, sums.cost.0);
+    let image = put_u64(image, place::FLAT_RATE, sums.flat_rate.0);
+    let image = put_u64(image, place::CONTRIBUTION, sums.contribution.0);
+    let image = put_u64(image, place::LIQUIDATION, sums.liquidation.0);
+    let image = put_u64(image, place::LAPSED, sums.lapsed.0);
+    let image = put_u64(image, place::BALANCE, sums.balance.0);
     put_u32(image, place::OWNER, closing.owner.0)
 }

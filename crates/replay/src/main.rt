@@ -5,14 +5,13 @@ use accounts::ClosingSums;
 use advance::Advanced;
 use answers::Reply;
 use close::Closed;
-use libc::STDIN_FILENO;
-use libc::STDOUT_FILENO;
+use input::Found;
 use listing_text::Listed;
+use output::Row;
 use script::Order;
 use statement::Stated;
 use statements::Sums;
 use text::Bytes;
-use text::Line;
 use units::Rate;
 use units::UserNumber;
 use units::WideKwh;
@@ -20,129 +19,129 @@ use values::Details;
 ghost use Prim.Native.Nat.{_+_, _*_, _≤_};
 ghost use lib.ListN.{length};
 ghost use Rattle.script.specs.Orders.{longestBook};
-ghost use Rattle.replay.specs.Lines.{LineDone, PieceDone};
+ghost use Rattle.replay.specs.Lines.{LineDone, FoundDone};
 
-fn show(n: u64) {
-    io::print_decimal(STDOUT_FILENO, n);
+// What the longest dump takes: two digits a byte, and the line feed.
+const DUMP: usize = 131_073;
+
+// The length of the book after a line, and whether to look for the next one.
+struct Step {
+    len: usize,
+    more: bool,
 }
 
-fn show_next(n: u64) {
-    io::write_all(STDOUT_FILENO, b" ");
-    show(n);
+// What says something answers whether it was written.
+fn say_text(bytes: &[u8]) -> bool {
+    output::write(b"replay: standard output", bytes)
 }
 
-fn show_balance(balance: Balance) {
+fn say_error() -> bool {
+    say_text(b"error\n")
+}
+
+fn say(row: Row) -> bool {
+    output::write_row(b"replay: standard output", output::put(row, b'\n'))
+}
+
+fn put_balance(row: Row, balance: Balance) -> Row {
     if accounts::signed(balance) < 0 {
-        io::write_all(STDOUT_FILENO, b" -");
-        show(std::num::wrapping_sub_u64(0, balance.0));
+        output::put_number(
+            output::put_text(row, b" -"),
+            std::num::wrapping_sub_u64(0, balance.0),
+        )
     } else {
-        show_next(balance.0);
+        output::put_field(row, balance.0)
     }
 }
 
-fn end_line() {
-    io::write_all(STDOUT_FILENO, b"\n");
+fn refusal_of(reply: Reply) -> Row {
+    output::put_number(output::no_text(), reply.refusal as u64)
 }
 
-fn show_error() {
-    io::write_all(STDOUT_FILENO, b"error\n");
+// What an enrolment answers. After a 2 the record stands in the place of the values, whatever the call.
+fn say_record(reply: Reply) -> bool {
+    say(output::put_field(refusal_of(reply), reply.record.0 as u64))
 }
 
-// The number of an answer. After a 2 the record stands in the place of the values; else they follow.
-fn begin(reply: Reply) -> bool {
-    show(reply.refusal as u64);
+fn say_fresh(refusal: u32) -> bool {
+    say(output::put_number(output::no_text(), refusal as u64))
+}
+
+fn say_elected(reply: Reply) -> bool {
     if reply.refusal == 2 {
-        show_next(reply.record.0 as u64);
+        return say_record(reply);
     }
-    reply.refusal != 2
+    say(refusal_of(reply))
 }
 
-fn show_fresh(refusal: u32) {
-    show(refusal as u64);
-    end_line();
-}
-
-fn show_enrolled(reply: Reply) {
-    if begin(reply) {
-        show_next(reply.record.0 as u64);
+fn say_advanced(answer: Advanced) -> bool {
+    if answer.reply.refusal == 2 {
+        return say_record(answer.reply);
     }
-    end_line();
+    say(output::put_field(refusal_of(answer.reply), answer.ticks.0))
 }
 
-fn show_elected(reply: Reply) {
-    begin(reply);
-    end_line();
+fn put_closing(row: Row, sums: ClosingSums) -> Row {
+    let mut longer = output::put_field(row, sums.value.0);
+    longer = output::put_field(longer, sums.cost.0);
+    longer = output::put_field(longer, sums.flat_rate.0);
+    longer = output::put_field(longer, sums.contribution.0);
+    longer = output::put_field(longer, sums.liquidation.0);
+    longer = output::put_field(longer, sums.lapsed.0);
+    put_balance(longer, sums.balance)
 }
 
-fn show_advanced(answer: Advanced) {
-    if begin(answer.reply) {
-        show_next(answer.ticks.0);
+fn say_closed(answer: Closed) -> bool {
+    if answer.reply.refusal == 2 {
+        return say_record(answer.reply);
     }
-    end_line();
+    say(put_closing(refusal_of(answer.reply), answer.sums))
 }
 
-fn show_closing(sums: ClosingSums) {
-    show_next(sums.value.0);
-    show_next(sums.cost.0);
-    show_next(sums.flat_rate.0);
-    show_next(sums.contribution.0);
-    show_next(sums.liquidation.0);
-    show_next(sums.lapsed.0);
-    show_balance(sums.balance);
+fn put_sums(row: Row, sums: Sums) -> Row {
+    let mut longer = output::put_field(row, sums.open_year);
+    longer = output::put_field(longer, sums.credit.0);
+    longer = output::put_field(longer, sums.value.0);
+    longer = output::put_field(longer, sums.cost.0);
+    longer = output::put_field(longer, sums.flat_rate.0);
+    longer = output::put_field(longer, sums.contribution.0);
+    longer = output::put_field(longer, sums.liquidation.0);
+    longer = output::put_field(longer, sums.lapsed.0);
+    longer = put_balance(longer, sums.balance);
+    longer = output::put_field(longer, sums.advances.0);
+    output::put_field(longer, sums.closed_advances.0)
 }
 
-fn show_closed(answer: Closed) {
-    if begin(answer.reply) {
-        show_closing(answer.sums);
+fn say_stated(answer: Stated) -> bool {
+    if answer.reply.refusal == 2 {
+        return say_record(answer.reply);
     }
-    end_line();
-}
-
-fn show_sums(sums: Sums) {
-    show_next(sums.open_year);
-    show_next(sums.credit.0);
-    show_next(sums.value.0);
-    show_next(sums.cost.0);
-    show_next(sums.flat_rate.0);
-    show_next(sums.contribution.0);
-    show_next(sums.liquidation.0);
-    show_next(sums.lapsed.0);
-    show_balance(sums.balance);
-    show_next(sums.advances.0);
-    show_next(sums.closed_advances.0);
-}
-
-fn show_stated(answer: Stated) {
-    if begin(answer.reply) {
-        show_sums(answer.sums);
-    }
-    end_line();
+    say(put_sums(refusal_of(answer.reply), answer.sums))
 }
 
 // Prints the book in hexadecimal, by way of `out`.
-fn dump(book: &[u8], out: &mut [u8])
+fn dump(book: &[u8], out: &mut [u8]) -> bool
     requires { ⌜ 2 * length (now book) + 1 ≤ length (now out) ⌝ }
 {
     let end = text::hex_to(book, out);
     out[end] = b'\n';
-    io::write_all(STDOUT_FILENO, &out[..end + 1]);
+    say_text(&out[..end + 1])
 }
 
 // Prints the listing, by way of `out`, which has room for every listing.
-fn list(book: &[u8], out: &mut [u8]) {
+fn list(book: &[u8], out: &mut [u8]) -> bool {
     let Listed::Written(count) = listing_text::listing_of(book, out) else {
-        return;
+        return false;
     };
-    io::write_all(STDOUT_FILENO, &out[..count]);
+    say_text(&out[..count])
 }
 
-fn close_year(book: &mut [u8], line: &[u8], at: usize) {
+fn close_year(book: &mut [u8], line: &[u8], at: usize) -> bool {
     let mut sheet = io::large_buffer();
     let Bytes::Read(count) = text::hex_from(line, at, &mut sheet) else {
-        show_error();
-        return;
+        return say_error();
     };
-    show_closed(close::close(book, &sheet[..count]));
+    say_closed(close::close(book, &sheet[..count]))
 }
 
 fn new_book(buffer: &mut [u8], len: usize) -> usize
@@ -155,25 +154,26 @@ fn new_book(buffer: &mut [u8], len: usize) -> usize
     len
 }
 
-fn load_book(buffer: &mut [u8], len: usize, line: &[u8], at: usize) -> usize
+fn load_book(buffer: &mut [u8], len: usize, line: &[u8], at: usize) -> Step
     requires { ⌜ len ≤ length (now buffer) ⌝ }
-    ensures { λ r. ⌜ r ≤ length (now (buffer .exit)) ⌝ }
+    ensures { λ r. ⌜ r .len ≤ length (now (buffer .exit)) ⌝ }
 {
-    match text::hex_from(line, at, buffer) {
-        Bytes::Read(count) => count,
-        Bytes::Wrong => {
-            show_error();
-            len
-        }
+    let Bytes::Read(count) = text::hex_from(line, at, buffer) else {
+        let more = say_error();
+        return Step { len, more };
+    };
+    Step {
+        len: count,
+        more: true,
     }
 }
 
 // Makes a call on the book and prints its answer.
-fn call(order: Order, line: &[u8], book: &mut [u8], out: &mut [u8])
+fn call(order: Order, line: &[u8], book: &mut [u8], out: &mut [u8]) -> bool
     requires { ⌜ 2 * length (now book) + 1 ≤ length (now out) ⌝ }
 {
     match order {
-        Order::Fresh => show_fresh(soundness::fresh(book)),
+        Order::Fresh => say_fresh(soundness::fresh(book)),
         Order::Enrol {
             number,
             class,
@@ -192,7 +192,7 @@ fn call(order: Order, line: &[u8], book: &mut [u8], out: &mut [u8])
                 month,
                 island,
             };
-            show_enrolled(enrol::enrol(book, UserNumber(number), details, option));
+            say_record(enrol::enrol(book, UserNumber(number), details, option))
         }
         Order::Elect {
             number,
@@ -200,9 +200,7 @@ fn call(order: Order, line: &[u8], book: &mut [u8], out: &mut [u8])
             year,
             month,
             day,
-        } => {
-            show_elected(elect::elect(book, UserNumber(number), option, year, month, day));
-        }
+        } => { say_elected(elect::elect(book, UserNumber(number), option, year, month, day)) }
         Order::Advance {
             number,
             year,
@@ -211,7 +209,7 @@ fn call(order: Order, line: &[u8], book: &mut [u8], out: &mut [u8])
             estimate1,
             estimate2,
         } => {
-            show_advanced(advance::advance(
+            say_advanced(advance::advance(
                 book,
                 UserNumber(number),
                 year,
@@ -219,87 +217,95 @@ fn call(order: Order, line: &[u8], book: &mut [u8], out: &mut [u8])
                 Rate(rate),
                 WideKwh(estimate1),
                 WideKwh(estimate2),
-            ));
+            ))
         }
         Order::Close(at) => close_year(book, line, at),
-        Order::Statement(number) => show_stated(statement::statement(book, UserNumber(number))),
+        Order::Statement(number) => say_stated(statement::statement(book, UserNumber(number))),
         Order::Dump => dump(book, out),
         Order::List => list(book, out),
-        Order::New(_) => show_error(),
-        Order::Load(_) => show_error(),
-        Order::Wrong => show_error(),
+        Order::New(_) => say_error(),
+        Order::Load(_) => say_error(),
+        Order::Wrong => say_error(),
     }
 }
 
-// Does what a line asks on the book in the first `len` bytes of the buffer, and answers the length of the book after it.
-fn answer(line: &[u8], buffer: &mut [u8], len: usize, out: &mut [u8]) -> usize
+// Does what a line asks on the book in the first `len` bytes of the buffer.
+fn answer(line: &[u8], buffer: &mut [u8], len: usize, out: &mut [u8]) -> Step
     requires { ⌜ (longestBook ≤ length (now buffer)) × (len ≤ length (now buffer)) ⌝ }
     requires { ⌜ 2 * length (now buffer) + 1 ≤ length (now out) ⌝ }
-    ensures { λ r. ⌜ LineDone (now (line .entry)) (now (buffer .entry)) (now (buffer .exit)) len r ⌝ }
+    ensures { λ r. ⌜ LineDone (now (line .entry)) (now (buffer .entry)) (now (buffer .exit)) len (r .len) ⌝ }
 {
     let order = script::order_of(line);
     match order {
-        Order::New(n) => new_book(buffer, n),
+        Order::New(n) => Step {
+            len: new_book(buffer, n),
+            more: true,
+        },
         Order::Load(at) => load_book(buffer, len, line, at),
-        Order::Wrong => {
-            show_error();
-            len
-        }
-        _ => {
-            call(order, line, &mut buffer[..len], out);
-            len
-        }
+        Order::Wrong => Step {
+            len,
+            more: say_error(),
+        },
+        _ => Step {
+            len,
+            more: call(order, line, &mut buffer[..len], out),
+        },
     }
 }
 
-// A line of many pieces is longer than any that is answered.
-fn answer_piece(line: Line, piece: &[u8], buffer: &mut [u8], len: usize, out: &mut [u8]) -> usize
+// Answers what was found where a line was looked for. Only a whole line is made a call.
+fn answer_found(found: Found, line: &[u8], buffer: &mut [u8], len: usize, out: &mut [u8]) -> Step
     requires { ⌜ (longestBook ≤ length (now buffer)) × (len ≤ length (now buffer)) ⌝ }
     requires { ⌜ 2 * length (now buffer) + 1 ≤ length (now out) ⌝ }
-    ensures { λ r. ⌜ PieceDone line (now (piece .entry)) (now (buffer .entry)) (now (buffer .exit)) len r ⌝ }
+    ensures { λ r. ⌜ FoundDone found (now (line .entry)) (now (buffer .entry)) (now (buffer .exit)) len r ⌝ }
 {
-    if line.cut {
-        return len;
+    match found {
+        Found::Whole => answer(line, buffer, len, out),
+        Found::Long => Step {
+            len,
+            more: say_error(),
+        },
+        Found::Half => {
+            say_error();
+            Step { len, more: false }
+        }
+        Found::End => Step { len, more: false },
+        Found::Failed => {
+            os::fail(b"replay: standard input");
+            Step { len, more: false }
+        }
     }
-    if line.rest {
-        show_error();
-        return len;
-    }
-    answer(piece, buffer, len, out)
 }
 
-// The reader of lines takes an input that cannot be read for one that has ended: one read more tells them apart.
-fn end_input() {
-    let mut more = [0u8; 1];
-    if libc::read(STDIN_FILENO, &mut more) < 0 {
-        os::fail(b"replay: standard input");
-    }
-}
-
-// A proved loop has to end, so the lines are counted down from a number that no input reaches.
+// A proved loop has to end, so the lines are counted to a number that no input reaches.
 fn run(held: &mut [u8], buffer: &mut [u8], out: &mut [u8])
     requires { ⌜ longestBook ≤ length (now buffer) ⌝ }
     requires { ⌜ 2 * length (now buffer) + 1 ≤ length (now out) ⌝ }
 {
-    let mut line = text::start();
+    let mut line = input::start();
     let mut len = 0;
-    let mut left = u64::MAX;
-    while 0 < left {
-        line = text::next_line(STDIN_FILENO, held, line);
-        if line.ended {
-            end_input();
-            return;
-        }
+    for turn in 0..u64::MAX {
+        line = input::next_line(held, line);
+        let found = line.found;
         let from = line.from;
         let to = line.to;
-        len = answer_piece(line, &held[from..to], buffer, len, out);
-        left = left - 1;
+        let step = answer_found(found, &held[from..to], buffer, len, out);
+        if !step.more {
+            return;
+        }
+        len = step.len;
     }
 }
 
 fn main() {
-    let mut held = text::buffer();
+    if 1 < os::arg_count() {
+        output::tell_use(
+            b"replay: give the lines of a script on standard input, and no argument\n",
+        );
+        return;
+    }
+    let mut held = input::line_buffer();
     let mut buffer = io::large_buffer();
-    let mut out = text::buffer();
+    let mut out = [0u8; DUMP];
     run(&mut held, &mut buffer, &mut out);
 }

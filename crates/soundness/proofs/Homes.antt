@@ -10,8 +10,9 @@ use borrow.Author.Count.{below-more}
 use borrow.Author.Tests.{ne-eqb}
 use Rattle.units.proofs.Bools.{and-left, and-right}
 use Rattle.layout.specs.Fields.{userKind}
-use Rattle.book.specs.Book.{used, usedFits, kindAt, isUser, isEntry, ownerOf, ownerFits, rangesFit, zeroBytesFit, linksFit, goodRecord, faulty}
-use Rattle.book.proofs.Faults.{faulty-record}
+use Rattle.book.specs.Book.{used, usedFits, kindAt, isUser, isEntry, ownerOf, ownerFits, rangesFit, zeroBytesFit, linksFit, goodRecord}
+use Rattle.book.proofs.Faults.{faulty-record, ownerless-bad}
+use Rattle.soundness.specs.Verdicts.{RecordsJudged}
 use Rattle.book.proofs.Faultless.{owner-before, good-known}
 use Rattle.book.proofs.RecordKinds.{kind-from-one, kind-below, entry-index, entry-no-user, no-user}
 use Rattle.owners.specs.Owners.{owns, lastOwned}
@@ -55,14 +56,6 @@ module _ (b : List ℕ) (i : ℕ) where
       by-good : (t : Bool) → goodRecord b i ≡ t → goodRecord b i ≡ false
       by-good true g = absurd (false≢true (rw (u, e) at (good-known b i g lo hi)))
       by-good false g = g
-
-  no-links : (kindAt b i ≡ userKind → ⊥) → ownerFits b i ≡ false → linksFit b i ≡ false
-  unfolding linksFit
-  no-links u f = rw (ne-eqb (kindAt b i) userKind u, f)
-
-  ownerless-bad : (kindAt b i ≡ userKind → ⊥) → ownerFits b i ≡ false → goodRecord b i ≡ false
-  unfolding goodRecord
-  ownerless-bad u f = rw (no-links u f, and-false (rangesFit b i && zeroBytesFit b i))
 
 -- a record that is neither a user nor an entry of a user before it is not good
 pub stray-bad : (b : List ℕ) (i : ℕ) → 1 ≤ i → i < used b → isUser b i ≡ false → (isEntry b i && ownerFits b i) ≡ false
@@ -113,17 +106,9 @@ pub homes-next : (b : List ℕ) (i : ℕ) → ((j : ℕ) → 1 ≤ j → j < i �
 homes-next b i before here j p h = below-more (λ m. 1 ≤ m → Home b m) i (λ m l q. before m q l) (λ _. here) j h p
 
 -- what the loops leave: no faulty record, or the index of one
-pub record Outcome (b : List ℕ) (bad : ℕ) : Type 0 where
-  pub none : bad ≡ 0 → (i : ℕ) → 1 ≤ i → i < used b → goodRecord b i ≡ true
-  pub some : (bad ≡ 0 → ⊥) → faulty b bad ≡ true
+pub none-bad : (b : List ℕ) (n : ℕ) → used b ≤ n → ((j : ℕ) → 1 ≤ j → j < n → Home b j) → RecordsJudged b 0
+none-bad b n l homes = record { none = λ _. homes-good b (λ j p h. homes j p (omega arith)); some = λ f. absurd (f refl) }
 
-pub outcome-none : (b : List ℕ) (bad n : ℕ) → bad ≡ 0 → used b ≤ n → ((j : ℕ) → 1 ≤ j → j < n → Home b j) → Outcome b bad
-outcome-none b bad n z l homes =
-    record { none = λ _. homes-good b (λ j p h. homes j p (omega arith)); some = λ f. absurd (f z) }
-
-pub outcome-some : (b : List ℕ) (bad i : ℕ) → usedFits b ≡ true → bad ≡ i → 1 ≤ i → i < used b → goodRecord b i ≡ false → Outcome b bad
-outcome-some b bad i u e p h g =
-    record {
-      none = λ z. let f : ⊥ = omega arith in absurd f;
-      some = λ _. rw e (faulty-record b u i p h ∙ ap not g);
-    }
+pub this-bad : (b : List ℕ) (i : ℕ) → usedFits b ≡ true → 1 ≤ i → i < used b → goodRecord b i ≡ false → RecordsJudged b i
+this-bad b i u p h g =
+    record { none = λ z. let f : ⊥ = omega arith in absurd f; some = λ _. faulty-record b u i p h ∙ ap not g }

@@ -9,9 +9,10 @@ use borrow.Author.Tests.{eqb-true}
 use lib.Dec.{eqb}
 use Rattle.units.proofs.Bools.{and-left, and-right}
 use Rattle.units.proofs.Folds.{none-of}
-use Rattle.layout.specs.Fields.{userKind}
-use Rattle.book.specs.Book.{isUser, numberOf, numberIsNew}
-use Rattle.book.proofs.RecordKinds.{kind-from-one}
+use Rattle.layout.specs.Fields.{get, recordAt, kindField, userKind}
+use Rattle.book.specs.Book.{kindAt, isUser, numberOf, ownRulesFit, numberIsNew}
+use Rattle.book.proofs.RecordKinds.{kind-is, kind-from-one}
+use Rattle.pass.proofs.OwnRules.{number-some, user-own}
 use Rattle.numbers.specs.Held.{Held, Inserted}
 
 -- the table holds the number of each user below n
@@ -27,6 +28,13 @@ seen-other b i {table} n seen =
     record {
       each = below-more (λ j. isUser b j ≡ true → Held table (numberOf b j)) i (seen .each) (λ u. absurd (true≢false (sym u ∙ n)));
     }
+
+-- a user that keeps its own rules has a number
+pub has-number : (b : List ℕ) (i : ℕ) → isUser b i ≡ true → ownRulesFit b i ≡ true → 0 < numberOf b i
+unfolding numberOf kindAt
+has-number b i user own =
+    let kind : get kindField (recordAt b i) ≡ userKind = kind-is b userKind i user in
+    number-some (recordAt b i) (sym (user-own b i refl refl kind) ∙ own)
 
 -- a user's number is put into the table, which held those before it if `all` says so
 module _ (b : List ℕ) (i : ℕ) {number : ℕ} {table after : List ℕ} (all put : Bool) (seen : all ≡ true → Seen b i table)

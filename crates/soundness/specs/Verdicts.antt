@@ -6,21 +6,18 @@ use mathlib.Core.Bool.{true, false, cond}
 use mathlib.Core.List.{List}
 use lib.ListN.{length}
 use Rattle.units.specs.Units.{recordIndex}
-use Rattle.book.specs.Book.{lengthFits, freshBook, used, goodRecord, faulty, sound}
+use Rattle.book.specs.Book.{lengthFits, freshBook, used, ownRulesFit, goodRecord, faulty, sound}
 use Rattle.book.specs.Find.{findUser}
 use Rattle.soundness.specs.declared.Verdict.{Verdict}
-use Rattle.soundness.specs.declared.Checked.{Checked}
-use Rattle.soundness.specs.declared.Found.{Found}
 
--- of the records but the head, where u fits
-abbrev pub RecordsJudged : List ℕ → Verdict → Type 0
-RecordsJudged b Verdict.Sound = (i : ℕ) → 1 ≤ i → i < used b → goodRecord b i ≡ true
-RecordsJudged b (Verdict.Faulty i) = faulty b (i .0) ≡ true
+-- all records but the head keep their own rules
+abbrev pub OwnRulesFit : List ℕ → Type 0
+OwnRulesFit b = (i : ℕ) → 1 ≤ i → i < used b → ownRulesFit b i ≡ true
 
--- of a book whose length fits
-abbrev pub Judged : List ℕ → Verdict → Type 0
-Judged b Verdict.Sound = sound b ≡ true
-Judged b (Verdict.Faulty i) = faulty b (i .0) ≡ true
+-- the records but the head, where u fits: none is faulty, or this one is
+pub record RecordsJudged (b : List ℕ) (bad : ℕ) : Type 0 where
+  pub none : bad ≡ 0 → (i : ℕ) → 1 ≤ i → i < used b → goodRecord b i ≡ true
+  pub some : (bad ≡ 0 → ⊥) → faulty b bad ≡ true
 
 -- a book that neither refusal 1 nor refusal 2 meets
 pub record Accepted (b : List ℕ) : Type 0 where
@@ -32,16 +29,11 @@ pub record Objected (b : List ℕ) (i : ℕ) : Type 0 where
   pub fits : lengthFits b ≡ true
   pub isFaulty : faulty b i ≡ true
 
-abbrev pub BookChecked : List ℕ → Checked → Type 0
-BookChecked b Checked.Length = lengthFits b ≡ false
-BookChecked b Checked.Sound = Accepted b
-BookChecked b (Checked.Faulty i) = Objected b (i .0)
-
--- the same, and where the book is sound the user with a number, 0 for none
-abbrev pub BookSearched : List ℕ → ℕ → Found → Type 0
-BookSearched b n Found.Length = lengthFits b ≡ false
-BookSearched b n (Found.Sound i) = Accepted b × (i ≡ recordIndex (findUser b n))
-BookSearched b n (Found.Faulty i) = Objected b (i .0)
+-- what each verdict says of a book and a user number: in a sound book it names the user with the number, 0 for none
+abbrev pub BookJudged : List ℕ → ℕ → Verdict → Type 0
+BookJudged b n Verdict.Length = lengthFits b ≡ false
+BookJudged b n (Verdict.Sound i) = Accepted b × (i ≡ recordIndex (findUser b n))
+BookJudged b n (Verdict.Faulty i) = Objected b (i .0)
 
 -- "fresh 1": the only refusal of fresh
 unfoldable pub freshAnswer : List ℕ → ℕ

@@ -9,7 +9,7 @@ use lib.IntN.{ℤ, pos, _+ℤ_, +ℤ-idl}
 use mir.Syntax.{w64}
 use mir.Val.{toZ}
 use Rattle.layout.specs.Fields.{recordAt, advanceKind, closingKind}
-use Rattle.records.specs.declared.ClosingRecord.{ClosingRecord}
+use Rattle.accounts.specs.declared.ClosingSums.{ClosingSums}
 use Rattle.records.specs.Records.{advanceIn, closingIn}
 use Rattle.book.specs.Book.{isAdvance, isClosing}
 use Rattle.chains.specs.Statements.{closingPart, advancePart, balancePart, sumOver, sumOverℤ}
@@ -18,16 +18,16 @@ use Rattle.book.proofs.RecordKinds.{kinds-apart}
 module _ (b : List ℕ) (e : ℕ) (es : List ℕ) where
   -- a closing joins the sums over closings and passes those over advances
   module _ (closing : isClosing b e ≡ true) where
-    pub closing-joins : (g : ClosingRecord → ℕ) (x w : ℕ) → x + sumOver (closingPart g b) (e ∷ es) ≡ w → x + g (closingIn (recordAt b e)) + sumOver (closingPart g b) es ≡ w
+    pub closing-joins : (g : ClosingSums → ℕ) (x w : ℕ) → x + sumOver (closingPart g b) (e ∷ es) ≡ w → x + g (closingIn (recordAt b e) .sums) + sumOver (closingPart g b) es ≡ w
     unfolding sumOver closingPart
-    closing-joins g x w h = let t : x + (g (closingIn (recordAt b e)) + sumOver (closingPart g b) es) ≡ w = rw closing at h in omega arith
+    closing-joins g x w h = let t : x + (g (closingIn (recordAt b e) .sums) + sumOver (closingPart g b) es) ≡ w = rw closing at h in omega arith
 
     pub closing-passes : (p : ℕ → Bool) (x w : ℕ) → x + sumOver (advancePart p b) (e ∷ es) ≡ w → x + sumOver (advancePart p b) es ≡ w
     unfolding sumOver advancePart
     closing-passes p x w h =
         let t : x + (0 + sumOver (advancePart p b) es) ≡ w = rw (kinds-apart b closingKind advanceKind e (λ q. omega arith) closing) at h in omega arith
 
-    pub balance-part : balancePart b e ≡ toZ w64 (closingIn (recordAt b e) .balance .0)
+    pub balance-part : balancePart b e ≡ toZ w64 (closingIn (recordAt b e) .sums .balance .0)
     unfolding balancePart
     balance-part = rw closing
 
@@ -39,7 +39,7 @@ module _ (b : List ℕ) (e : ℕ) (es : List ℕ) where
     advance-joins p x w h =
         let t : x + (cond (p (advanceIn (recordAt b e) .year)) (advanceIn (recordAt b e) .ticks .0) 0 + sumOver (advancePart p b) es) ≡ w = rw advance at h in omega arith
 
-    pub advance-passes : (g : ClosingRecord → ℕ) (x w : ℕ) → x + sumOver (closingPart g b) (e ∷ es) ≡ w → x + sumOver (closingPart g b) es ≡ w
+    pub advance-passes : (g : ClosingSums → ℕ) (x w : ℕ) → x + sumOver (closingPart g b) (e ∷ es) ≡ w → x + sumOver (closingPart g b) es ≡ w
     unfolding sumOver closingPart
     advance-passes g x w h =
         let t : x + (0 + sumOver (closingPart g b) es) ≡ w = rw (kinds-apart b advanceKind closingKind e (λ q. omega arith) advance) at h in omega arith

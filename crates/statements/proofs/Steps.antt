@@ -21,7 +21,7 @@ module _ (b : List ℕ) (e kind : ℕ) (entry : isEntry b e ≡ true) (shown : k
       ⊎-elim (λ (a : isAdvance b e ≡ true). a) (λ (c : isClosing b e ≡ true). absurd (k (shown ∙ kind-index b closingKind e c .1 .1)))
       (entry-cases b e entry)
 
-pub closing-entry-added : (b : List ℕ) (e : ℕ) (s : Sums) → isClosing b e ≡ true → entryAdded b e s ≡ closingAdded (closingIn (recordAt b e)) s
+pub closing-entry-added : (b : List ℕ) (e : ℕ) (s : Sums) → isClosing b e ≡ true → entryAdded b e s ≡ closingAdded (closingIn (recordAt b e) .sums) s
 unfolding entryAdded
 closing-entry-added b e s c = rw c
 

@@ -16,7 +16,7 @@ use Rattle.units.specs.Limits.{maxContribution, mostYears}
 use Rattle.accounts.proofs.Balances.{signed-back}
 use Rattle.layout.specs.Fields.{recordAt}
 use Rattle.records.specs.declared.AdvanceRecord.{AdvanceRecord}
-use Rattle.records.specs.declared.ClosingRecord.{ClosingRecord}
+use Rattle.accounts.specs.declared.ClosingSums.{ClosingSums}
 use Rattle.records.specs.Records.{advanceIn, closingIn}
 use Rattle.book.specs.Book.{isAdvance, isClosing}
 use Rattle.ledger.specs.Ledger.{Statement}
@@ -56,8 +56,8 @@ module _ (b : List ℕ) (whole : Statement) (e : ℕ) (es : List ℕ) (s : Sums)
   sizes-left = fewer-sizes (λ k. natAbs (balancePart b k)) e es (maxContribution * mostYears) (t .sizes)
 
   module _ (closing : isClosing b e ≡ true) where
-    abbrev c : ClosingRecord
-    c = closingIn (recordAt b e)
+    abbrev c : ClosingSums
+    c = closingIn (recordAt b e) .sums
 
     abbrev sum : ℤ
     sum = toZ w64 (s .balance .0) +ℤ toZ w64 (c .balance .0)
@@ -71,7 +71,7 @@ module _ (b : List ℕ) (whole : Statement) (e : ℕ) (es : List ℕ) (s : Sums)
         let rest = sumOverℤ (balancePart b) es in
         omega (arith, mag-size sum, size-before (toZ w64 (s .balance .0)) (toZ w64 (c .balance .0)) rest (whole .balance) balance-left, size-of-sum (balancePart b) es, sizes-left, fit .balance)
 
-    room : (g : ClosingRecord → ℕ) (x w : ℕ) → w < 2 ^ 63 → x + sumOver (closingPart g b) (e ∷ es) ≡ w → x + g c < 2 ^ 64
+    room : (g : ClosingSums → ℕ) (x w : ℕ) → w < 2 ^ 63 → x + sumOver (closingPart g b) (e ∷ es) ≡ w → x + g c < 2 ^ 64
     room g x w l h = omega (arith, closing-joins b e es closing g x w h)
 
     pub closing-room : ClosingRoom c s

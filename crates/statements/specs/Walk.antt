@@ -13,7 +13,7 @@ use Rattle.accounts.specs.declared.Account.{Account}
 use Rattle.accounts.specs.Account.{balanceBits}
 use Rattle.layout.specs.Fields.{recordAt}
 use Rattle.records.specs.declared.AdvanceRecord.{AdvanceRecord}
-use Rattle.records.specs.declared.ClosingRecord.{ClosingRecord}
+use Rattle.accounts.specs.declared.ClosingSums.{ClosingSums}
 use Rattle.records.specs.Records.{advanceIn, closingIn}
 use Rattle.book.specs.Book.{isAdvance, isClosing}
 use Rattle.ledger.specs.Ledger.{Statement}
@@ -68,7 +68,7 @@ sumsBefore a =
       «closed_advances» = ticks 0;
     }
 
-unfoldable pub closingAdded : ClosingRecord → Sums → Sums
+unfoldable pub closingAdded : ClosingSums → Sums → Sums
 closingAdded c s =
     record {
       «open_year» = s .«open_year»;
@@ -102,10 +102,10 @@ advanceAdded a s =
     }
 
 unfoldable pub entryAdded : List ℕ → ℕ → Sums → Sums
-entryAdded b e s = cond (isClosing b e) (closingAdded (closingIn (recordAt b e)) s) (advanceAdded (advanceIn (recordAt b e)) s)
+entryAdded b e s = cond (isClosing b e) (closingAdded (closingIn (recordAt b e) .sums) s) (advanceAdded (advanceIn (recordAt b e)) s)
 
 -- sums that hold one entry more
-pub record ClosingRoom (c : ClosingRecord) (s : Sums) : Type 0 where
+pub record ClosingRoom (c : ClosingSums) (s : Sums) : Type 0 where
   pub value : s .value .0 + c .value .0 < 2 ^ 64
   pub cost : s .cost .0 + c .cost .0 < 2 ^ 64
   pub «flat_rate» : s .«flat_rate» .0 + c .«flat_rate» .0 < 2 ^ 64
@@ -119,5 +119,5 @@ pub record AdvanceRoom (a : AdvanceRecord) (s : Sums) : Type 0 where
   pub «closed_advances» : s .«closed_advances» .0 + a .ticks .0 < 2 ^ 64
 
 pub record EntryRoom (b : List ℕ) (e : ℕ) (s : Sums) : Type 0 where
-  pub closing : isClosing b e ≡ true → ClosingRoom (closingIn (recordAt b e)) s
+  pub closing : isClosing b e ≡ true → ClosingRoom (closingIn (recordAt b e) .sums) s
   pub advance : isAdvance b e ≡ true → AdvanceRoom (advanceIn (recordAt b e)) s

@@ -14,9 +14,9 @@ ghost use Rattle.chains.specs.Statements.{statementAt};
 ghost use Rattle.statements.specs.Walk.{sumsOf, sumsBefore, closingAdded, advanceAdded, entryAdded, ClosingRoom, AdvanceRoom, EntryRoom};
 use accounts::Account;
 use accounts::Balance;
+use accounts::ClosingSums;
 use layout::kind;
 use records::AdvanceRecord;
-use records::ClosingRecord;
 use units::RecordIndex;
 use units::Ticks;
 
@@ -45,7 +45,7 @@ pub fn joined(a: Balance, b: Balance) -> Balance
 }
 
 impl Sums {
-    fn with_closing(mut self, closing: ClosingRecord) -> Sums
+    fn with_closing(mut self, closing: ClosingSums) -> Sums
         requires { ⌜ ClosingRoom closing self ⌝ }
         ensures { λ r. ⌜ r ≡ closingAdded closing self ⌝ }
     {
@@ -91,7 +91,8 @@ fn with_entry(book: &[u8], at: RecordIndex, kind: u8, sums: Sums) -> Sums
 {
     let r = layout::whole_record(book, at.0 as usize);
     if kind == kind::CLOSING {
-        sums.with_closing(records::read_closing(r))
+        let closing = records::read_closing(r);
+        sums.with_closing(closing.sums)
     } else {
         sums.with_advance(records::read_advance(r))
     }

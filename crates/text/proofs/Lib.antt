@@ -3,5 +3,3 @@ pub mod HexDigits
 pub mod Fields
 pub mod HexTexts
 pub mod HexWriting
-pub mod Lines
-pub mod MoreRead

@@ -1,16 +1,15 @@
--- What a text holds: decimal numbers, bytes in hexadecimal, lines. A text is a list of bytes in ASCII; a byte past its end
--- reads as 0, which is no digit, no blank and no line feed.
+-- What a text holds: decimal numbers, bytes in hexadecimal. A text is a list of bytes in ASCII; a byte past its end reads as
+-- 0, which is no digit and no blank.
 use Prim.Native.Nat.{ℕ, zero, suc, _+_, _-_, _*_, _^_, _/_, _%_, _≤_, _<_}
 use mathlib.Core.Path.{_≡_}
 use mathlib.Core.Bool.{Bool, true, false, cond, _&&_, _||_}
 use mathlib.Core.List.{List, [], _∷_}
 use lib.Dec.{leb, ltb, eqb}
-use lib.ListN.{length, getD, take, drop}
+use lib.ListN.{length, getD, drop}
 use Rattle.units.specs.Folds.{allBelow}
 use Rattle.text.specs.declared.Number.{Number}
 use Rattle.text.specs.declared.Number.the-variants as number
 use Rattle.text.specs.declared.Numbers.{Numbers}
-use Rattle.text.specs.declared.Line.{Line}
 use Rattle.text.specs.declared.Bytes.{Bytes}
 use Rattle.text.specs.declared.Bytes.the-variants as bytes
 
@@ -106,47 +105,3 @@ pub record HexWritten (bytes before after : List ℕ) (r : ℕ) : Type 0 where
   pub count : r ≡ 2 * length bytes
   pub same : length after ≡ length before
   pub each : (i : ℕ) → i < length bytes → HexSpelt bytes after i
-
--- the first line feed from a place on, or the end of the text where there is none
-pub record LineEnd (s : List ℕ) (from r : ℕ) : Type 0 where
-  pub within : r ≤ length s
-  pub after : from ≤ length s → from ≤ r
-  pub before : (k : ℕ) → from ≤ k → k < r → getD s k 0 ≡ 10 → ⊥
-  pub found : r < length s → getD s r 0 ≡ 10
-
--- the bytes between two places stand at the front
-pub record RestKept (before : List ℕ) (from to : ℕ) (after : List ℕ) : Type 0 where
-  pub same : length after ≡ length before
-  pub front : (i : ℕ) → i < to - from → getD after i 0 ≡ getD before (from + i) 0
-
--- a text that was read after what is kept: that stays
-pub record ReadOn (before : List ℕ) (kept r : ℕ) (after : List ℕ) : Type 0 where
-  pub most : r ≤ length after
-  pub least : kept ≤ r
-  pub same : length after ≡ length before
-  pub front : take kept after ≡ take kept before
-
--- a line that is held: no line feed stands in it, and one stands before what comes after it
-pub record LineHeld (held : List ℕ) (r : Line) : Type 0 where
-  pub from : r .from ≤ r .to
-  pub to : r .to ≤ r .next
-  pub next : r .next ≤ r .filled
-  pub filled : r .filled ≤ length held
-  pub one : (k : ℕ) → r .from ≤ k → k < r .to → getD held k 0 ≡ 10 → ⊥
-  pub feed : r .to < r .next → getD held (r .to) 0 ≡ 10
-
--- the line from a place on, of the bytes to `filled`: it is cut where the buffer ends before it does
-pub record LineFrom (held : List ℕ) (from filled : ℕ) (wasCut : Bool) (r : Line) : Type 0 where
-  pub line : LineHeld held r
-  pub start : r .from ≡ from
-  pub end : r .filled ≡ filled
-  pub cut : r .cut ≡ (eqb (r .to) filled && eqb filled (length held))
-  pub rest : r .rest ≡ wasCut
-  pub ended : r .ended ≡ eqb from filled
-
--- the line after another: what was held after that one is where this one begins
-pub record LineAfter (before : List ℕ) (line : Line) (after : List ℕ) (r : Line) : Type 0 where
-  pub same : length after ≡ length before
-  pub next : LineFrom after (r .from) (r .filled) (line .cut) r
-  pub room : r .from + (line .filled - line .next) ≤ r .filled
-  pub kept : (i : ℕ) → i < line .filled - line .next → getD after (r .from + i) 0 ≡ getD before (line .next + i) 0

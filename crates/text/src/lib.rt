@@ -1,11 +1,10 @@
-// Lines of text as programs read them: decimal numbers with one blank before each, bytes in hexadecimal. Every string of
-// bytes is an ordinary input.
+// Text as programs read it: decimal numbers with one blank before each, bytes in hexadecimal. Every string of bytes is an
+// ordinary input.
 ghost use mathlib.Core.Path.{_≡_};
 ghost use mathlib.Core.Bool.{true};
-ghost use mathlib.Core.List.{List};
-ghost use Prim.Native.Nat.{ℕ, _+_, _-_, _*_, _^_, _≤_};
+ghost use Prim.Native.Nat.{_+_, _*_, _^_, _≤_};
 ghost use lib.ListN.{length, getD, drop};
-ghost use Rattle.text.specs.Text.{narrow, isDigit, isHexDigit, hexDigit, hexByte, isHex, numberAt, NextWithin, afterBlank, fieldAt, FieldsRead, HexRead, HexWritten, LineEnd, RestKept, ReadOn, LineHeld, LineFrom, LineAfter};
+ghost use Rattle.text.specs.Text.{narrow, isDigit, isHexDigit, hexDigit, hexByte, isHex, numberAt, NextWithin, afterBlank, fieldAt, FieldsRead, HexRead, HexWritten};
 
 // A number that stands at a place, and the place after it.
 pub enum Number {
@@ -20,31 +19,10 @@ pub struct Numbers {
     pub next: usize,
 }
 
-// A line that is held: its bytes stand from `from` to `to`, without the line feed; what comes after it stands from `next`
-// to `filled`. Where it does not fit into what is held it comes in pieces: each but the last is `cut`, each but the first
-// is the `rest` of a piece before it.
-pub struct Line {
-    pub from: usize,
-    pub to: usize,
-    pub next: usize,
-    pub filled: usize,
-    pub cut: bool,
-    pub rest: bool,
-    // No line was left.
-    pub ended: bool,
-}
-
 // How many bytes were read.
 pub enum Bytes {
     Read(usize),
     Wrong,
-}
-
-// What a program holds of its input at once.
-pub fn buffer() -> [u8; 262144]
-    ensures { λ r. ⌜ 262144 ≡ length r ⌝ }
-{
-    [0; 262144]
 }
 
 fn is_digit(b: u8) -> bool
@@ -212,111 +190,4 @@ pub fn hex_to(bytes: &[u8], out: &mut [u8]) -> usize
         out[2 * k + 1] = digit_of(bytes[k] % 16);
     }
     2 * bytes.len()
-}
-
-// Where the line that a place stands in ends: at its line feed, or where the text ends.
-fn line_end(s: &[u8], from: usize) -> usize
-    ensures { λ r. ⌜ LineEnd (now (s .entry)) from r ⌝ }
-{
-    let mut at = from;
-    while at < s.len() {
-        if s[at] == b'\n' {
-            return at;
-        }
-        at += 1;
-    }
-    s.len()
-}
-
-// Moves the bytes between two places to the front, and answers how many they are.
-fn keep_rest(held: &mut [u8], from: usize, to: usize) -> usize
-    requires { ⌜ (from ≤ to) × (to ≤ length (now held)) ⌝ }
-    ensures { λ r. ⌜ r ≡ to - from ⌝ }
-    ensures { λ _. ⌜ RestKept (now (held .entry)) from to (now (held .exit)) ⌝ }
-{
-    let count = to - from;
-    for k in 0..count {
-        held[k] = held[from + k];
-    }
-    count
-}
-
-// One read after what is kept at the front; the answer is how much is held then: no more than before at the end of the
-// input.
-fn read_once(fd: i32, held: &mut [u8], kept: usize) -> usize
-    requires { ⌜ kept ≤ length (now held) ⌝ }
-    ensures { λ r. ⌜ ReadOn (now (held .entry)) kept r (now (held .exit)) ⌝ }
-{
-    let rest = &mut held[kept..];
-    let got = libc::read(fd, rest);
-    kept + io::count(got, rest)
-}
-
-// Reads on after what is kept at the front until a line ends in what was read, to the end of the buffer or of the input, and
-// answers how much it holds then. So whoever types a line gets its answer before typing the next. A proved loop has to end:
-// the reads are counted to a number that no input needs.
-fn read_on(fd: i32, held: &mut [u8], kept: usize) -> usize
-    requires { ⌜ kept ≤ length (now held) ⌝ }
-    ensures { λ r. ⌜ ReadOn (now (held .entry)) kept r (now (held .exit)) ⌝ }
-{
-    let mut filled = kept;
-    for turn in 0..u64::MAX {
-        let more = read_once(fd, held, filled);
-        if line_end(&held[..more], filled) < more {
-            return more;
-        }
-        if more == filled {
-            return more;
-        }
-        filled = more;
-    }
-    filled
-}
-
-// Before the first line: nothing is held.
-pub fn start() -> Line
-    ensures { λ r. ⌜ ((held : List ℕ) → LineHeld held r) ⌝ }
-{
-    Line {
-        from: 0,
-        to: 0,
-        next: 0,
-        filled: 0,
-        cut: false,
-        rest: false,
-        ended: false,
-    }
-}
-
-// The line from a place on, of the `filled` bytes that are held.
-fn line_from(held: &[u8], from: usize, filled: usize, rest: bool) -> Line
-    requires { ⌜ (from ≤ filled) × (filled ≤ length (now held)) ⌝ }
-    ensures { λ r. ⌜ LineFrom (now (held .entry)) from filled rest r ⌝ }
-{
-    let to = line_end(&held[..filled], from);
-    Line {
-        from,
-        to,
-        next: if to < filled { to + 1 } else { to },
-        filled,
-        cut: (to == filled) & (filled == held.len()),
-        rest,
-        ended: from == filled,
-    }
-}
-
-// The line after another. Where its end is not held yet, what is held of it moves to the front and more is read.
-pub fn next_line(fd: i32, held: &mut [u8], line: Line) -> Line
-    requires { ⌜ LineHeld (now held) line ⌝ }
-    ensures { λ r. ⌜ LineAfter (now (held .entry)) line (now (held .exit)) r ⌝ }
-{
-    let next = line.next;
-    let filled = line.filled;
-    let end = line_end(&held[..filled], next);
-    if end < filled {
-        return line_from(held, next, filled, line.cut);
-    }
-    let kept = keep_rest(held, next, filled);
-    let more = read_on(fd, held, kept);
-    line_from(held, 0, more, line.cut)
 }

@@ -1,9 +1,8 @@
 // The year's values of the sheets on standard input, a line each: class, plant, power, island and the sheet in
 // hexadecimal. For each it prints C, O, F and the two halves, or `refused` with the number of the refusal.
-use libc::STDIN_FILENO;
-use libc::STDOUT_FILENO;
+use input::Found;
+use output::Row;
 use text::Bytes;
-use text::Line;
 use text::Number;
 use values::Details;
 use values::YearValues;
@@ -42,99 +41,89 @@ fn request_of(line: &[u8]) -> Request
     }
 }
 
-fn show(n: u64) {
-    io::print_decimal(STDOUT_FILENO, n);
+fn say(row: Row) -> bool {
+    output::write_row(b"values_vectors: standard output", row)
 }
 
-fn blank() {
-    io::write_all(STDOUT_FILENO, b" ");
+fn say_error() -> bool {
+    say(output::put_text(output::no_text(), b"error\n"))
 }
 
-fn end_line() {
-    io::write_all(STDOUT_FILENO, b"\n");
+fn say_refused(number: u64) -> bool {
+    let row = output::put_field(output::put_text(output::no_text(), b"refused"), number);
+    say(output::put(row, b'\n'))
 }
 
-fn show_refused(number: u64) {
-    io::write_all(STDOUT_FILENO, b"refused ");
-    show(number);
-    end_line();
+fn say_values(v: YearValues) -> bool {
+    let mut row = output::put_number(output::no_text(), v.value.0);
+    row = output::put_field(row, v.cost.0);
+    row = output::put_field(row, v.flat_rate.0);
+    row = output::put_field(row, v.half1.0 as u64);
+    row = output::put_field(row, v.half2.0 as u64);
+    say(output::put(row, b'\n'))
 }
 
-fn show_error() {
-    io::write_all(STDOUT_FILENO, b"error\n");
-}
-
-fn show_values(v: YearValues) {
-    show(v.value.0);
-    blank();
-    show(v.cost.0);
-    blank();
-    show(v.flat_rate.0);
-    blank();
-    show(v.half1.0 as u64);
-    blank();
-    show(v.half2.0 as u64);
-    end_line();
-}
-
-fn answer_sheet(details: Details, s: &[u8]) {
+// An answer is whether it was written.
+fn answer_sheet(details: Details, s: &[u8]) -> bool {
     if sheet::header_wrong(s) {
-        show_refused(11);
-        return;
+        return say_refused(11);
     }
     if sheet::number_wrong(s) {
-        show_refused(13);
-        return;
+        return say_refused(13);
     }
     if sheet::domestic_excess(details.class, s) {
-        show_refused(14);
-        return;
+        return say_refused(14);
     }
-    show_values(values::year_values(s, details));
+    say_values(values::year_values(s, details))
 }
 
-fn answer(line: &[u8]) {
+fn answer(line: &[u8]) -> bool {
     let Request::Sheet { details, at } = request_of(line) else {
-        show_error();
-        return;
+        return say_error();
     };
     let mut bytes = io::buffer();
     let Bytes::Read(count) = text::hex_from(line, at, &mut bytes) else {
-        show_error();
-        return;
+        return say_error();
     };
-    answer_sheet(details, &bytes[..count]);
+    answer_sheet(details, &bytes[..count])
 }
 
-// A line of many pieces is longer than any that is answered.
-fn answer_piece(line: Line, piece: &[u8]) {
-    if line.cut {
-        return;
-    }
-    if line.rest {
-        show_error();
-        return;
-    }
-    answer(piece);
-}
-
-// A proved loop has to end, so the lines are counted down from a number that no input reaches.
-fn run(held: &mut [u8]) {
-    let mut line = text::start();
-    let mut left = u64::MAX;
-    while 0 < left {
-        line = text::next_line(STDIN_FILENO, held, line);
-        if line.ended {
-            return;
+// Answers what was found where a line was looked for, and says whether to look for the next.
+fn answer_found(found: Found, line: &[u8]) -> bool {
+    match found {
+        Found::Whole => answer(line),
+        Found::Long => say_error(),
+        Found::Half => {
+            say_error();
+            false
         }
+        Found::End => false,
+        Found::Failed => {
+            os::fail(b"values_vectors: standard input");
+            false
+        }
+    }
+}
+
+// A proved loop has to end, so the lines are counted to a number that no input reaches.
+fn run(held: &mut [u8]) {
+    let mut line = input::start();
+    for turn in 0..u64::MAX {
+        line = input::next_line(held, line);
+        let found = line.found;
         let from = line.from;
         let to = line.to;
-        answer_piece(line, &held[from..to]);
-        left = left - 1;
+        if !answer_found(found, &held[from..to]) {
+            return;
+        }
     }
 }
 
 fn main() {
-    let mut held = text::buffer();
+    if 1 < os::arg_count() {
+        output::tell_use(b"values_vectors: give the lines on standard input, and no argument\n");
+        return;
+    }
+    let mut held = input::line_buffer();
     run(&mut held);
 }

@@ -1,69 +1,77 @@
 // The check of the books on standard input, a line each in hexadecimal. For each it prints `sound`, `faulty` with the index
 // of the record named, or `refused 1` where no book has the length.
-use libc::STDIN_FILENO;
-use libc::STDOUT_FILENO;
-use soundness::Checked;
+use input::Found;
+use output::Row;
+use soundness::Verdict;
 use text::Bytes;
-use text::Line;
 
-fn show_error() {
-    io::write_all(STDOUT_FILENO, b"error\n");
+fn say(row: Row) -> bool {
+    output::write_row(b"verdicts_vectors: standard output", row)
 }
 
-fn answer_book(book: &[u8]) {
+fn say_error() -> bool {
+    say(output::put_text(output::no_text(), b"error\n"))
+}
+
+// An answer is whether it was written.
+fn answer_book(book: &[u8]) -> bool {
     match soundness::check(book) {
-        Checked::Length => {
-            io::write_all(STDOUT_FILENO, b"refused 1\n");
-        }
-        Checked::Sound => {
-            io::write_all(STDOUT_FILENO, b"sound\n");
-        }
-        Checked::Faulty(index) => {
-            io::write_all(STDOUT_FILENO, b"faulty ");
-            io::print_decimal(STDOUT_FILENO, index.0 as u64);
-            io::write_all(STDOUT_FILENO, b"\n");
+        Verdict::Length => say(output::put_text(output::no_text(), b"refused 1\n")),
+        Verdict::Sound(_) => say(output::put_text(output::no_text(), b"sound\n")),
+        Verdict::Faulty(index) => {
+            let row = output::put_field(
+                output::put_text(output::no_text(), b"faulty"),
+                index.0 as u64,
+            );
+            say(output::put(row, b'\n'))
         }
     }
 }
 
-fn answer(line: &[u8]) {
+fn answer(line: &[u8]) -> bool {
     let mut bytes = io::large_buffer();
     let Bytes::Read(count) = text::hex_from(line, 0, &mut bytes) else {
-        show_error();
-        return;
+        return say_error();
     };
-    answer_book(&bytes[..count]);
+    answer_book(&bytes[..count])
 }
 
-// A line of many pieces is longer than any that is answered.
-fn answer_piece(line: Line, piece: &[u8]) {
-    if line.cut {
-        return;
-    }
-    if line.rest {
-        show_error();
-        return;
-    }
-    answer(piece);
-}
-
-// A proved loop has to end, so the lines are counted down from a number that no input reaches.
-fn run(held: &mut [u8]) {
-    let mut line = text::start();
-    let mut left = u64::MAX;
-    while 0 < left {
-        line = text::next_line(STDIN_FILENO, held, line);
-        if line.ended {
-            return;
+// Answers what was found where a line was looked for, and says whether to look for the next.
+fn answer_found(found: Found, line: &[u8]) -> bool {
+    match found {
+        Found::Whole => answer(line),
+        Found::Long => say_error(),
+        Found::Half => {
+            say_error();
+            false
         }
+        Found::End => false,
+        Found::Failed => {
+            os::fail(b"verdicts_vectors: standard input");
+            false
+        }
+    }
+}
+
+// A proved loop has to end, so the lines are counted to a number that no input reaches.
+fn run(held: &mut [u8]) {
+    let mut line = input::start();
+    for turn in 0..u64::MAX {
+        line = input::next_line(held, line);
+        let found = line.found;
         let from = line.from;
         let to = line.to;
-        answer_piece(line, &held[from..to]);
-        left = left - 1;
+        if !answer_found(found, &held[from..to]) {
+            return;
+        }
     }
 }
 
 fn main() {
-    let mut held = text::buffer();
+    if 1 < os::arg_count() {
+        output::tell_use(b"verdicts_vectors: give the lines on standard input, and no argument\n");
+        return;
+    }
+    let mut held = input::line_buffer();
     run(&mut held);
 }

@@ -20,6 +20,9 @@ const MOST_GROWTH: f64 = 24.0;
 /// The library and the peer take about the same time. Without its one pass the library takes three times as long.
 const MOST_BESIDE_PEER: f64 = 2.0;
 
+/// Numbers chosen to collide in the library's table cost twice as much as any; a walk from one slot took 30 times as long.
+const MOST_COLLIDING: f64 = 4.0;
+
 const ROUNDS: usize = 1_000;
 const ATTEMPTS: usize = 5;
 
@@ -111,6 +114,14 @@ fn speed() {
             MOST_BESIDE_PEER,
             &format!("statement of 800 records of {name} beside the peer"),
             || ratio(peer_turn(&books[1]), turn("statement", &books[1]), [2, 2]),
+        );
+    }
+    for numbers in [Numbers::Colliding, Numbers::CollidingTwice] {
+        let book = book_of_users(800, numbers);
+        is_below(
+            MOST_COLLIDING,
+            &format!("statement of 800 records, {} beside scattered", numbers.name()),
+            || ratio(turn("statement", &users[1]), turn("statement", &book), [2, 2]),
         );
     }
 }

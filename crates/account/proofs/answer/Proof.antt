@@ -1,37 +1,43 @@
 -- By the check of the book.
 use denote.Ref.{now}
 use mathlib.Core.Path.{subst}
-use Rattle.soundness.specs.Verdicts.{BookChecked}
+use Rattle.soundness.specs.Verdicts.{BookJudged}
+use Rattle.account.proofs.Users.{named}
 use borrow.Author.Needs.{needs}
 use Rattle.account.proofs.answer.Statement.{statement}
 use Rattle.account.proofs.answer.Tie as tie
 
-check-requires : tie.Need-check-requires
-check-requires c κs = search needs
+find-requires : tie.Need-find-requires
+find-requires c κs = search needs
 
 enum-told : tie.Need-enum-told
 enum-told c = search needs
 
-slice-aggregate-out : tie.Need-slice-aggregate-out
-slice-aggregate-out c = search needs
+slice-aggregate-say-text : tie.Need-slice-aggregate-say-text
+slice-aggregate-say-text c = search needs
 
-out-requires : tie.Need-out-requires
-out-requires c κs = search needs
+say-text-requires : tie.Need-say-text-requires
+say-text-requires c κs = search needs
 
 enum-told-2 : tie.Need-enum-told-2
 enum-told-2 c = search needs
 
-slice-aggregate-out-2 : tie.Need-slice-aggregate-out-2
-slice-aggregate-out-2 c = search needs
+slice-aggregate-say-text-2 : tie.Need-slice-aggregate-say-text-2
+slice-aggregate-say-text-2 c = search needs
 
-out-requires-2 : tie.Need-out-requires-2
-out-requires-2 c κs = search needs
+say-text-requires-2 : tie.Need-say-text-requires-2
+say-text-requires-2 c κs = search needs
 
-enum-told-3 : tie.Need-enum-told-3
-enum-told-3 c = search needs
+enum-known-user : tie.Need-enum-known-user
+enum-known-user c = search needs
 
 answer-sound-requires : tie.Need-answer-sound-requires
-answer-sound-requires c κs = subst (BookChecked (now (c .before .before .before .before .args .book))) (c .enum-told3 .given .1) (c .before .before .check .ensures)
+answer-sound-requires c κs =
+    let s = c .before .before .before .before .before in
+    let b = now (s .args .book) in
+    let n = s .args .number .0 in
+    let said = subst (BookJudged b n) (c .before .user .given .1) (c .before .before .before .find .ensures) in
+    (said .0, named b n _ (said .1))
 
 returns : tie.Need-returns
 returns c = search needs
@@ -46,14 +52,14 @@ pub answer-spec : {M : Type 1} → statement M
 answer-spec =
     tie.close
     (tie.spec
-    check-requires
+    find-requires
     enum-told
-    slice-aggregate-out
-    out-requires
+    slice-aggregate-say-text
+    say-text-requires
     enum-told-2
-    slice-aggregate-out-2
-    out-requires-2
-    enum-told-3
+    slice-aggregate-say-text-2
+    say-text-requires-2
+    enum-known-user
     answer-sound-requires
     returns
     returns-2

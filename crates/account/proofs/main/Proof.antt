@@ -14,17 +14,17 @@ enum-known-number c = search needs
 enum-told : tie.Need-enum-told
 enum-told c = search needs
 
-slice-aggregate-write-all : tie.Need-slice-aggregate-write-all
-slice-aggregate-write-all c = search needs
+slice-aggregate-tell-use : tie.Need-slice-aggregate-tell-use
+slice-aggregate-tell-use c = search needs
 
-write-all-requires : tie.Need-write-all-requires
-write-all-requires c κs = search needs
+tell-use-requires : tie.Need-tell-use-requires
+tell-use-requires c κs = search needs
 
 returns : tie.Need-returns
 returns c = search needs
 
-buffer-requires : tie.Need-buffer-requires
-buffer-requires c κs = search needs
+book-buffer-requires : tie.Need-book-buffer-requires
+book-buffer-requires c κs = search needs
 
 slice-aggregate-read-book : tie.Need-slice-aggregate-read-book
 slice-aggregate-read-book c = search needs
@@ -49,14 +49,14 @@ returns-2 c = search needs
 
 array-share-prefix-book : tie.Need-array-share-prefix-book
 array-share-prefix-book c =
-    let within = rw (c .before .count .given .1) at (c .before .before .before .before .read-book .ensures) in
-    within
+    let within = rw (c .before .count .given .1) at (c .before .before .before .before .read-book .ensures .within) in
+    within .1
 
 slice-aggregate-answer : tie.Need-slice-aggregate-answer
 slice-aggregate-answer c =
     let r = c .before .before .before .before .before .read-book in
-    let within = rw (c .before .before .count .given .1) at (r .ensures) in
-    sym (length-take-le (c .before .before .count .given .0 .0) (r .last .0) within)
+    let within = rw (c .before .before .count .given .1) at (r .ensures .within) in
+    sym (length-take-le (c .before .before .count .given .0 .0) (r .last .0) (within .1))
 
 answer-requires : tie.Need-answer-requires
 answer-requires c κs = search needs
@@ -71,10 +71,10 @@ main-spec =
     request-requires
     enum-known-number
     enum-told
-    slice-aggregate-write-all
-    write-all-requires
+    slice-aggregate-tell-use
+    tell-use-requires
     returns
-    buffer-requires
+    book-buffer-requires
     slice-aggregate-read-book
     read-book-requires
     enum-known-count

@@ -2,7 +2,7 @@
 use denote.Ref.{now}
 use mathlib.Core.Path.{subst, sym}
 use Rattle.units.specs.Units.{recordIndex}
-use Rattle.soundness.specs.Verdicts.{BookSearched}
+use Rattle.soundness.specs.Verdicts.{BookJudged}
 use Rattle.answers.specs.declared.Reply.{Reply}
 use Rattle.answers.specs.Looks.{LookedAt}
 use Rattle.answers.proofs.Looks.{looked-length, looked-faulty, looked-sound}
@@ -30,18 +30,18 @@ returns c =
     let a = c .before .before .before .before .before .args in
     let b = now (a .book) in
     let n = a .number .0 in
-    let short = looked-length b n (subst (BookSearched b n) (c .before .enum-told .given .1) (c .before .before .before .find .ensures)) in
+    let short = looked-length b n (subst (BookJudged b n) (c .before .enum-told .given .1) (c .before .before .before .find .ensures)) in
     subst (λ (r : Reply). LookedAt b n (r .refusal) (r .«record» .0) (recordIndex 0)) (sym (c .refused .ensures)) short
 
 returns-2 : tie.Need-returns-2
 returns-2 c =
     let a = c .before .before .before .before .before .args in
-    looked-faulty (now (a .book)) (a .number .0) _ (subst (BookSearched (now (a .book)) (a .number .0)) (c .before .index .given .1) (c .before .before .before .find .ensures))
+    looked-faulty (now (a .book)) (a .number .0) _ (subst (BookJudged (now (a .book)) (a .number .0)) (c .before .index .given .1) (c .before .before .before .find .ensures))
 
 returns-3 : tie.Need-returns-3
 returns-3 c =
     let a = c .before .before .before .before .before .args in
-    looked-sound (now (a .book)) (a .number .0) _ (subst (BookSearched (now (a .book)) (a .number .0)) (c .before .user .given .1) (c .before .before .before .find .ensures))
+    looked-sound (now (a .book)) (a .number .0) _ (subst (BookJudged (now (a .book)) (a .number .0)) (c .before .user .given .1) (c .before .before .before .find .ensures))
 
 pub look-spec : {M : Type 1} → statement M
 look-spec =

@@ -31,37 +31,39 @@ closed-requires-3 : tie.Need-closed-requires-3
 closed-requires-3 c κs =
     let two = c .before .before .before in
     let one = two .before .before .before in
-    rw (c .year-of3 .ensures, c .before .elected .ensures, two .closed2 .ensures, two .before .year-of2 .ensures, one .closed .ensures, one .before .year-of .ensures, one .before .before .opened .ensures) third-in-range
+    let first = one .before .year-of .ensures in
+    let opened = one .before .before .opened .ensures in
+    rw (c .year-of3 .ensures, c .before .elected .ensures, two .closed2 .ensures, two .before .year-of2 .ensures, one .closed .ensures, first, opened) third-in-range
 
 begin-requires : tie.Need-begin-requires
 begin-requires c κs = search needs
 
-show-requires : tie.Need-show-requires
-show-requires c κs = search needs
+put-field-requires : tie.Need-put-field-requires
+put-field-requires c κs = search needs
 
-show-requires-2 : tie.Need-show-requires-2
-show-requires-2 c κs = search needs
+put-field-requires-2 : tie.Need-put-field-requires-2
+put-field-requires-2 c κs = search needs
 
-show-requires-3 : tie.Need-show-requires-3
-show-requires-3 c κs = search needs
+put-field-requires-3 : tie.Need-put-field-requires-3
+put-field-requires-3 c κs = search needs
 
 liquidation-in-requires : tie.Need-liquidation-in-requires
 liquidation-in-requires c κs = search needs
 
-show-requires-4 : tie.Need-show-requires-4
-show-requires-4 c κs = search needs
+put-field-requires-4 : tie.Need-put-field-requires-4
+put-field-requires-4 c κs = search needs
 
 lapsed-in-requires : tie.Need-lapsed-in-requires
 lapsed-in-requires c κs = search needs
 
-show-requires-5 : tie.Need-show-requires-5
-show-requires-5 c κs = search needs
+put-field-requires-5 : tie.Need-put-field-requires-5
+put-field-requires-5 c κs = search needs
 
-show-requires-6 : tie.Need-show-requires-6
-show-requires-6 c κs = search needs
+put-field-requires-6 : tie.Need-put-field-requires-6
+put-field-requires-6 c κs = search needs
 
-end-requires : tie.Need-end-requires
-end-requires c κs = search needs
+say-requires : tie.Need-say-requires
+say-requires c κs = search needs
 
 returns : tie.Need-returns
 returns c = search needs
@@ -79,13 +81,13 @@ closings-spec =
     year-of-requires-3
     closed-requires-3
     begin-requires
-    show-requires
-    show-requires-2
-    show-requires-3
+    put-field-requires
+    put-field-requires-2
+    put-field-requires-3
     liquidation-in-requires
-    show-requires-4
+    put-field-requires-4
     lapsed-in-requires
-    show-requires-5
-    show-requires-6
-    end-requires
+    put-field-requires-5
+    put-field-requires-6
+    say-requires
     returns)

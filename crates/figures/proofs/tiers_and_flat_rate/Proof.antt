@@ -25,43 +25,46 @@ annual-tiers-requires c κs = search needs
 begin-requires : tie.Need-begin-requires
 begin-requires c κs = search needs
 
-array-copy-out-show-energy : tie.Need-array-copy-out-show-energy
-array-copy-out-show-energy c = search needs
+array-copy-out-put-energy : tie.Need-array-copy-out-put-energy
+array-copy-out-put-energy c = search needs
 
-show-energy-requires : tie.Need-show-energy-requires
-show-energy-requires c κs = search needs
+put-energy-requires : tie.Need-put-energy-requires
+put-energy-requires c κs = search needs
 
-array-copy-out-show-energy-2 : tie.Need-array-copy-out-show-energy-2
-array-copy-out-show-energy-2 c = search needs
+array-copy-out-put-energy-2 : tie.Need-array-copy-out-put-energy-2
+array-copy-out-put-energy-2 c = search needs
 
-show-energy-requires-2 : tie.Need-show-energy-requires-2
-show-energy-requires-2 c κs = search needs
+put-energy-requires-2 : tie.Need-put-energy-requires-2
+put-energy-requires-2 c κs = search needs
 
-array-copy-out-show-energy-3 : tie.Need-array-copy-out-show-energy-3
-array-copy-out-show-energy-3 c = search needs
+array-copy-out-put-energy-3 : tie.Need-array-copy-out-put-energy-3
+array-copy-out-put-energy-3 c = search needs
 
-show-energy-requires-3 : tie.Need-show-energy-requires-3
-show-energy-requires-3 c κs = search needs
+put-energy-requires-3 : tie.Need-put-energy-requires-3
+put-energy-requires-3 c κs = search needs
 
-array-copy-out-show-energy-4 : tie.Need-array-copy-out-show-energy-4
-array-copy-out-show-energy-4 c = search needs
+array-copy-out-put-energy-4 : tie.Need-array-copy-out-put-energy-4
+array-copy-out-put-energy-4 c = search needs
 
-show-energy-requires-4 : tie.Need-show-energy-requires-4
-show-energy-requires-4 c κs = search needs
-
-end-requires : tie.Need-end-requires
-end-requires c κs = search needs
+put-energy-requires-4 : tie.Need-put-energy-requires-4
+put-energy-requires-4 c κs = search needs
 
 flat-rate-of-requires : tie.Need-flat-rate-of-requires
 flat-rate-of-requires c κs =
-    let tiers = c .before .before .before .before .before .before .before .before .before .before in
+    let tiers = c .before .before .before .before .before .before .before .before .before in
     (λ t l. rates-fit t, omega (arith, tiers .annual-tiers .ensures .1, tiers .before .smaller .ensures))
+
+say-requires : tie.Need-say-requires
+say-requires c κs = search needs
+
+returns : tie.Need-returns
+returns c = search needs
 
 line-requires : tie.Need-line-requires
 line-requires c κs = search needs
 
-returns : tie.Need-returns
-returns c = search needs
+returns-2 : tie.Need-returns-2
+returns-2 c = search needs
 
 pub tiers-and-flat-rate-spec : {M : Type 1} → statement M
 tiers-and-flat-rate-spec =
@@ -70,15 +73,16 @@ tiers-and-flat-rate-spec =
     smaller-requires
     annual-tiers-requires
     begin-requires
-    array-copy-out-show-energy
-    show-energy-requires
-    array-copy-out-show-energy-2
-    show-energy-requires-2
-    array-copy-out-show-energy-3
-    show-energy-requires-3
-    array-copy-out-show-energy-4
-    show-energy-requires-4
-    end-requires
+    array-copy-out-put-energy
+    put-energy-requires
+    array-copy-out-put-energy-2
+    put-energy-requires-2
+    array-copy-out-put-energy-3
+    put-energy-requires-3
+    array-copy-out-put-energy-4
+    put-energy-requires-4
     flat-rate-of-requires
+    say-requires
+    returns
     line-requires
-    returns)
+    returns-2)

@@ -14,18 +14,20 @@ closing-of-requires c κs = search needs
 
 outcome-of-requires : tie.Need-outcome-of-requires
 outcome-of-requires c κs =
-    let s = c .before .before .before in
+    let closing = c .before in
+    let s = closing .before .before .before in
     let a = s .args in
-    credit-room (now (a .book)) (s .pre .0) (s .pre .1 .0) (a .entry .0) (a .credit .0) (s .pre .1 .1 .0) (c .closing-of .result) (now (c .before .«record» .result)) (c .before .«record» .ensures) (c .closing-of .ensures) (s .pre .1 .1 .1)
+    credit-room (now (a .book)) (s .pre .0) (s .pre .1 .0) (a .entry .0) (a .credit .0) (s .pre .1 .1 .0) (closing .closing-of .result) (now (closing .before .«record» .result)) (closing .before .«record» .ensures) (closing .closing-of .ensures) (s .pre .1 .1 .1)
 
 credit-after-requires : tie.Need-credit-after-requires
 credit-after-requires c κs = search needs
 
 returns : tie.Need-returns
 returns c =
-    let s = c .before .before .before .before .before in
+    let closing = c .before .before .before in
+    let s = closing .before .before .before in
     let a = s .args in
-    credited (now (a .book)) (s .pre .0) (s .pre .1 .0) (a .entry .0) (a .credit .0) (s .pre .1 .1 .0) (c .before .before .closing-of .result) (now (c .before .before .before .«record» .result)) (c .before .before .before .«record» .ensures) (c .before .before .closing-of .ensures) (c .before .outcome-of .result) (c .before .outcome-of .ensures) (c .credit-after .result .0) (c .credit-after .ensures)
+    credited (now (a .book)) (s .pre .0) (s .pre .1 .0) (a .entry .0) (a .credit .0) (s .pre .1 .1 .0) (closing .closing-of .result) (now (closing .before .«record» .result)) (closing .before .«record» .ensures) (closing .closing-of .ensures) (c .before .outcome-of .result) (c .before .outcome-of .ensures) (c .credit-after .result .0) (c .credit-after .ensures)
 
 pub credit-over-spec : {M : Type 1} → statement M
 credit-over-spec =

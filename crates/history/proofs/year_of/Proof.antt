@@ -44,13 +44,13 @@ credit-after-years-requires c κs =
 
 returns : tie.Need-returns
 returns c =
-    let a = c .before .before .before .before .before .before .before .before .before .before .before .before .before .before .args in
+    let a = c .before .before .before .before .before .before .before .before .before .before .before .before .before .before .before .args in
     let b = now (a .book) in
-    let entry = c .before .before .before .before .before .before .before .before .before .before .before .closing-after in
-    let bytes = c .before .before .before .before .before .before .before .before .before .before .«record» in
-    let closing = c .before .before .before .before .before .before .before .before .before .closing-of in
-    let year = ap (λ y. y + a .n) (c .before .before .before .before .before .before .before .before .before .before .before .before .activation-of .ensures) in
-    year-is b (a .user .0) (a .n) (c .before .before .before .before .before .before .before .before .before .before .before .before .activation-of .result + a .n) year (entry .result) (entry .ensures) (now (bytes .result)) (bytes .ensures) (closing .result) (closing .ensures) (c .before .before .before .before .before .before .before .before .advances-of .result) (c .before .before .before .before .before .before .before .credit-after-years .result) (c .before .before .before .before .before .before .before .before .advances-of .ensures) (c .before .before .before .before .before .before .before .credit-after-years .ensures)
+    let entry = c .before .before .before .before .before .before .before .before .before .before .before .before .closing-after in
+    let bytes = c .before .before .before .before .before .before .before .before .before .before .before .«record» in
+    let closing = c .before .before .before .before .before .before .before .before .before .before .closing-of in
+    let year = ap (λ y. y + a .n) (c .before .before .before .before .before .before .before .before .before .before .before .before .before .activation-of .ensures) in
+    year-is b (a .user .0) (a .n) (c .before .before .before .before .before .before .before .before .before .before .before .before .before .activation-of .result + a .n) year (entry .result) (entry .ensures) (now (bytes .result)) (bytes .ensures) (closing .result) (closing .ensures) (c .before .before .before .before .before .before .before .before .before .advances-of .result) (c .before .before .before .before .before .before .before .before .credit-after-years .result) (c .before .before .before .before .before .before .before .before .before .advances-of .ensures) (c .before .before .before .before .before .before .before .before .credit-after-years .ensures)
 
 pub year-of-spec : {M : Type 1} → statement M
 year-of-spec =

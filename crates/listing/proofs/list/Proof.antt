@@ -23,31 +23,25 @@ enum-told c = search needs
 returns : tie.Need-returns
 returns c = search needs
 
+slice-aggregate-write : tie.Need-slice-aggregate-write
+slice-aggregate-write c = search needs
+
 array-share-prefix-text : tie.Need-array-share-prefix-text
 array-share-prefix-text c =
-    let written = rw (c .before .count .given .1) at (c .before .before .before .before .listing-of .ensures) in
+    let written = rw (c .before .before .count .given .1) at (c .before .before .before .before .before .listing-of .ensures) in
     written .within
 
-slice-aggregate-write-all : tie.Need-slice-aggregate-write-all
-slice-aggregate-write-all c =
-    let l = c .before .before .before .before .before .listing-of in
-    let written = rw (c .before .before .count .given .1) at (l .ensures) in
-    sym (length-take-le (c .before .before .count .given .0 .0) (l .last .1 .0) (written .within))
+slice-aggregate-write-2 : tie.Need-slice-aggregate-write-2
+slice-aggregate-write-2 c =
+    let l = c .before .before .before .before .before .before .listing-of in
+    let written = rw (c .before .before .before .count .given .1) at (l .ensures) in
+    sym (length-take-le (c .before .before .before .count .given .0 .0) (l .last .1 .0) (written .within))
 
-write-all-requires : tie.Need-write-all-requires
-write-all-requires c κs = search needs
-
-slice-aggregate-fail : tie.Need-slice-aggregate-fail
-slice-aggregate-fail c = search needs
-
-fail-requires : tie.Need-fail-requires
-fail-requires c κs = search needs
+write-requires : tie.Need-write-requires
+write-requires c κs = search needs
 
 returns-2 : tie.Need-returns-2
 returns-2 c = search needs
-
-returns-3 : tie.Need-returns-3
-returns-3 c = search needs
 
 pub list-spec : {M : Type 1} → statement M
 list-spec =
@@ -59,10 +53,8 @@ list-spec =
     enum-known-count
     enum-told
     returns
+    slice-aggregate-write
     array-share-prefix-text
-    slice-aggregate-write-all
-    write-all-requires
-    slice-aggregate-fail
-    fail-requires
-    returns-2
-    returns-3)
+    slice-aggregate-write-2
+    write-requires
+    returns-2)

@@ -5,8 +5,20 @@ use borrow.Author.Needs.{needs}
 use Rattle.listing.proofs.main.Statement.{statement}
 use Rattle.listing.proofs.main.Tie as tie
 
-buffer-requires : tie.Need-buffer-requires
-buffer-requires c κs = search needs
+arg-count-requires : tie.Need-arg-count-requires
+arg-count-requires c κs = search needs
+
+slice-aggregate-tell-use : tie.Need-slice-aggregate-tell-use
+slice-aggregate-tell-use c = search needs
+
+tell-use-requires : tie.Need-tell-use-requires
+tell-use-requires c κs = search needs
+
+returns : tie.Need-returns
+returns c = search needs
+
+book-buffer-requires : tie.Need-book-buffer-requires
+book-buffer-requires c κs = search needs
 
 slice-aggregate-read-book : tie.Need-slice-aggregate-read-book
 slice-aggregate-read-book c = search needs
@@ -26,39 +38,43 @@ slice-aggregate-fail c = search needs
 fail-requires : tie.Need-fail-requires
 fail-requires c κs = search needs
 
-returns : tie.Need-returns
-returns c = search needs
+returns-2 : tie.Need-returns-2
+returns-2 c = search needs
 
 array-share-prefix-book : tie.Need-array-share-prefix-book
 array-share-prefix-book c =
-    let within = rw (c .before .count .given .1) at (c .before .before .before .before .read-book .ensures) in
-    within
+    let within = rw (c .before .count .given .1) at (c .before .before .before .before .read-book .ensures .within) in
+    within .1
 
 slice-aggregate-list : tie.Need-slice-aggregate-list
 slice-aggregate-list c =
     let r = c .before .before .before .before .before .read-book in
-    let within = rw (c .before .before .count .given .1) at (r .ensures) in
-    sym (length-take-le (c .before .before .count .given .0 .0) (r .last .0) within)
+    let within = rw (c .before .before .count .given .1) at (r .ensures .within) in
+    sym (length-take-le (c .before .before .count .given .0 .0) (r .last .0) (within .1))
 
 list-requires : tie.Need-list-requires
 list-requires c κs = search needs
 
-returns-2 : tie.Need-returns-2
-returns-2 c = search needs
+returns-3 : tie.Need-returns-3
+returns-3 c = search needs
 
 pub main-spec : {M : Type 1} → statement M
 main-spec =
     tie.close
     (tie.spec
-    buffer-requires
+    arg-count-requires
+    slice-aggregate-tell-use
+    tell-use-requires
+    returns
+    book-buffer-requires
     slice-aggregate-read-book
     read-book-requires
     enum-known-count
     enum-told
     slice-aggregate-fail
     fail-requires
-    returns
+    returns-2
     array-share-prefix-book
     slice-aggregate-list
     list-requires
-    returns-2)
+    returns-3)

@@ -32,8 +32,8 @@ enum-known-count c = search needs
 enum-told : tie.Need-enum-told
 enum-told c = search needs
 
-show-error-requires : tie.Need-show-error-requires
-show-error-requires c κs = search needs
+say-error-requires : tie.Need-say-error-requires
+say-error-requires c κs = search needs
 
 returns-2 : tie.Need-returns-2
 returns-2 c = search needs
@@ -68,7 +68,7 @@ answer-spec =
     hex-from-requires
     enum-known-count
     enum-told
-    show-error-requires
+    say-error-requires
     returns-2
     array-share-prefix-bytes
     slice-aggregate-answer-book-2

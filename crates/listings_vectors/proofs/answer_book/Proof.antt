@@ -28,23 +28,26 @@ array-share-prefix-text c =
     let written = rw (c .before .count .given .1) at (c .before .before .before .before .listing-of .ensures) in
     written .within
 
-slice-aggregate-write-all : tie.Need-slice-aggregate-write-all
-slice-aggregate-write-all c =
+slice-aggregate-say : tie.Need-slice-aggregate-say
+slice-aggregate-say c =
     let l = c .before .before .before .before .before .listing-of in
     let written = rw (c .before .before .count .given .1) at (l .ensures) in
     sym (length-take-le (c .before .before .count .given .0 .0) (l .last .1 .0) (written .within))
 
-write-all-requires : tie.Need-write-all-requires
-write-all-requires c κs = search needs
-
-slice-aggregate-write-all-2 : tie.Need-slice-aggregate-write-all-2
-slice-aggregate-write-all-2 c = search needs
-
-write-all-requires-2 : tie.Need-write-all-requires-2
-write-all-requires-2 c κs = search needs
+say-requires : tie.Need-say-requires
+say-requires c κs = search needs
 
 returns-2 : tie.Need-returns-2
 returns-2 c = search needs
+
+slice-aggregate-say-2 : tie.Need-slice-aggregate-say-2
+slice-aggregate-say-2 c = search needs
+
+say-requires-2 : tie.Need-say-requires-2
+say-requires-2 c κs = search needs
+
+returns-3 : tie.Need-returns-3
+returns-3 c = search needs
 
 pub answer-book-spec : {M : Type 1} → statement M
 answer-book-spec =
@@ -57,8 +60,9 @@ answer-book-spec =
     enum-told
     returns
     array-share-prefix-text
-    slice-aggregate-write-all
-    write-all-requires
-    slice-aggregate-write-all-2
-    write-all-requires-2
-    returns-2)
+    slice-aggregate-say
+    say-requires
+    returns-2
+    slice-aggregate-say-2
+    say-requires-2
+    returns-3)

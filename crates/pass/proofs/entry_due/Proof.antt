@@ -12,11 +12,11 @@ first-entry-of-requires c κs = search needs
 
 returns : tie.Need-returns
 unfolding entryDue
-returns c = rw (eq-eqb (c .before .before .before .args .state) 0 (c .before .if1 .taken)) (ap (λ (i : RecordIndex). i .0) (c .first-entry-of .ensures))
+returns c = rw (eq-eqb (c .before .before .before .before .args .state .0) 0 (c .before .if1 .taken)) (c .first-entry-of .ensures)
 
 returns-2 : tie.Need-returns-2
 unfolding entryDue
-returns-2 c = rw (ne-eqb (c .before .before .args .state) 0 (c .if1 .left))
+returns-2 c = rw (ne-eqb (c .before .before .before .before .args .state .0) 0 (c .before .if1 .left))
 
 pub entry-due-spec : {M : Type 1} → statement M
 entry-due-spec = tie.close (tie.spec first-entry-of-requires returns returns-2)

@@ -11,17 +11,17 @@ use Rattle.pass.proofs.state_after.Tie as tie
 next-of-requires : tie.Need-next-of-requires
 next-of-requires c κs = search needs
 
-mul-result : tie.Need-mul-result
-mul-result c = omega (arith, ap (λ (i : RecordIndex). i .0) (c .before .next-of .ensures), c .before .before .before .pre)
+mul-both : tie.Need-mul-both
+mul-both c = omega (arith, ap (λ (i : RecordIndex). i .0) (c .before .next-of .ensures), c .before .before .before .pre)
 
 level-of-requires : tie.Need-level-of-requires
 level-of-requires c κs = search needs
 
-cast-result : tie.Need-cast-result
-cast-result c = search needs
+cast-both : tie.Need-cast-both
+cast-both c = search needs
 
-add-result : tie.Need-add-result
-add-result c = omega (arith, ap (λ (i : RecordIndex). i .0) (c .before .before .next-of .ensures), c .before .before .before .before .pre)
+add-both : tie.Need-add-both
+add-both c = omega (arith, ap (λ (i : RecordIndex). i .0) (c .before .before .next-of .ensures), c .before .before .before .before .pre)
 
 returns : tie.Need-returns
 returns c =
@@ -31,4 +31,4 @@ returns c =
 pub state-after-spec : {M : Type 1} → statement M
 state-after-spec =
     tie.close
-    (tie.spec next-of-requires mul-result level-of-requires cast-result add-result returns)
+    (tie.spec next-of-requires mul-both level-of-requires cast-both add-both returns)

@@ -13,11 +13,11 @@ cast-result c = search needs
 
 returns : tie.Need-returns
 unfolding yearDue
-returns c = rw (eq-eqb (c .before .before .before .args .state) 0 (c .before .if1 .taken)) ((c .open-year-of .ensures))
+returns c = rw (eq-eqb (c .before .before .before .before .args .state .0) 0 (c .before .if1 .taken)) (c .open-year-of .ensures)
 
 returns-2 : tie.Need-returns-2
 unfolding yearDue
-returns-2 c = rw (ne-eqb (c .before .before .args .state) 0 (c .if1 .left))
+returns-2 c = rw (ne-eqb (c .before .before .before .before .args .state .0) 0 (c .before .if1 .left))
 
 pub year-due-spec : {M : Type 1} → statement M
 year-due-spec = tie.close (tie.spec open-year-of-requires cast-result returns returns-2)

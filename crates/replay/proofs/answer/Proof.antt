@@ -34,8 +34,8 @@ load-book-requires c κs = search needs
 enum-told : tie.Need-enum-told
 enum-told c = search needs
 
-show-error-requires : tie.Need-show-error-requires
-show-error-requires c κs = search needs
+say-error-requires : tie.Need-say-error-requires
+say-error-requires c κs = search needs
 
 slice-relend-prefix-call : tie.Need-slice-relend-prefix-call
 slice-relend-prefix-call c = search needs
@@ -104,7 +104,7 @@ answer-spec =
     enum-known-order-2
     load-book-requires
     enum-told
-    show-error-requires
+    say-error-requires
     slice-relend-prefix-call
     slice-aggregate-call
     call-requires

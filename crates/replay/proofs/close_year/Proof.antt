@@ -20,8 +20,8 @@ enum-known-count c = search needs
 enum-told : tie.Need-enum-told
 enum-told c = search needs
 
-show-error-requires : tie.Need-show-error-requires
-show-error-requires c κs = search needs
+say-error-requires : tie.Need-say-error-requires
+say-error-requires c κs = search needs
 
 returns : tie.Need-returns
 returns c = search needs
@@ -41,8 +41,8 @@ slice-aggregate-close c =
 close-requires : tie.Need-close-requires
 close-requires c κs = search needs
 
-show-closed-requires : tie.Need-show-closed-requires
-show-closed-requires c κs = search needs
+say-closed-requires : tie.Need-say-closed-requires
+say-closed-requires c κs = search needs
 
 same-length : tie.Need-same-length
 same-length c = search needs
@@ -59,11 +59,11 @@ close-year-spec =
     hex-from-requires
     enum-known-count
     enum-told
-    show-error-requires
+    say-error-requires
     returns
     array-share-prefix-sheet
     slice-aggregate-close
     close-requires
-    show-closed-requires
+    say-closed-requires
     same-length
     returns-2)

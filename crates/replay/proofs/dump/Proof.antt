@@ -14,19 +14,19 @@ hex-to-requires c κs = search needs
 slice-write-out : tie.Need-slice-write-out
 slice-write-out c = search needs
 
-add-write-all : tie.Need-add-write-all
-add-write-all c = search needs
+add-say-text : tie.Need-add-say-text
+add-say-text c = search needs
 
-slice-reshare-prefix-write-all : tie.Need-slice-reshare-prefix-write-all
-slice-reshare-prefix-write-all c = simp length-set (omega arith)
+slice-reshare-prefix-say-text : tie.Need-slice-reshare-prefix-say-text
+slice-reshare-prefix-say-text c = simp length-set (omega arith)
 
-slice-aggregate-write-all : tie.Need-slice-aggregate-write-all
-slice-aggregate-write-all c =
+slice-aggregate-say-text : tie.Need-slice-aggregate-say-text
+slice-aggregate-say-text c =
     let text = c .before .before .before .hex-to in
     sym (length-take-le (text .result + 1) (set (text .last .1 .0) (text .result) 10) (simp length-set (omega arith)))
 
-write-all-requires : tie.Need-write-all-requires
-write-all-requires c κs = search needs
+say-text-requires : tie.Need-say-text-requires
+say-text-requires c κs = search needs
 
 same-length : tie.Need-same-length
 same-length c = search needs
@@ -40,9 +40,9 @@ dump-spec =
     (tie.spec
     hex-to-requires
     slice-write-out
-    add-write-all
-    slice-reshare-prefix-write-all
-    slice-aggregate-write-all
-    write-all-requires
+    add-say-text
+    slice-reshare-prefix-say-text
+    slice-aggregate-say-text
+    say-text-requires
     same-length
     returns)

@@ -20,20 +20,20 @@ same-length c = search needs
 returns : tie.Need-returns
 returns c = search needs
 
-slice-reshare-prefix-write-all : tie.Need-slice-reshare-prefix-write-all
-slice-reshare-prefix-write-all c =
+slice-reshare-prefix-say-text : tie.Need-slice-reshare-prefix-say-text
+slice-reshare-prefix-say-text c =
     let written = rw (c .before .count .given .1) at (c .before .before .before .before .before .listing-of .ensures) in
     written .within
 
-slice-aggregate-write-all : tie.Need-slice-aggregate-write-all
-slice-aggregate-write-all c =
+slice-aggregate-say-text : tie.Need-slice-aggregate-say-text
+slice-aggregate-say-text c =
     let text = c .before .before .before .before .before .before .listing-of in
     let count = c .before .before .count .given in
     let written = rw (count .1) at (text .ensures) in
     sym (length-take-le (count .0 .0) (text .last .1 .0) (written .within))
 
-write-all-requires : tie.Need-write-all-requires
-write-all-requires c κs = search needs
+say-text-requires : tie.Need-say-text-requires
+say-text-requires c κs = search needs
 
 same-length-2 : tie.Need-same-length-2
 same-length-2 c = search needs
@@ -50,8 +50,8 @@ list-spec =
     enum-told
     same-length
     returns
-    slice-reshare-prefix-write-all
-    slice-aggregate-write-all
-    write-all-requires
+    slice-reshare-prefix-say-text
+    slice-aggregate-say-text
+    say-text-requires
     same-length-2
     returns-2)

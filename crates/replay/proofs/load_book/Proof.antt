@@ -1,4 +1,4 @@
--- The bytes that were read stand within the buffer.
+-- The bytes read stand within the buffer.
 use borrow.Author.Needs.{needs}
 use Rattle.replay.proofs.load_book.Statement.{statement}
 use Rattle.replay.proofs.load_book.Tie as tie
@@ -12,22 +12,22 @@ enum-known-count c = search needs
 enum-told : tie.Need-enum-told
 enum-told c = search needs
 
-show-error-requires : tie.Need-show-error-requires
-show-error-requires c κs = search needs
+say-error-requires : tie.Need-say-error-requires
+say-error-requires c κs = search needs
 
 same-length : tie.Need-same-length
 same-length c = search needs
 
 returns : tie.Need-returns
-returns c =
-    let filled = rw (c .before .count .given .1) at (c .before .before .before .before .before .hex-from .ensures) in
-    filled .room
+returns c = search needs
 
 same-length-2 : tie.Need-same-length-2
 same-length-2 c = search needs
 
 returns-2 : tie.Need-returns-2
-returns-2 c = search needs
+returns-2 c =
+    let filled = rw (c .before .count .given .1) at (c .before .before .before .before .before .hex-from .ensures) in
+    filled .room
 
 pub load-book-spec : {M : Type 1} → statement M
 load-book-spec =
@@ -36,7 +36,7 @@ load-book-spec =
     hex-from-requires
     enum-known-count
     enum-told
-    show-error-requires
+    say-error-requires
     same-length
     returns
     same-length-2

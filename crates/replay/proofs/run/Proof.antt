@@ -1,31 +1,40 @@
 -- A line that is held, from turn to turn, and a book within its buffer.
-use Prim.Native.Nat.{_≤_}
+use Prim.Native.Nat.{_-_, _^_, _≤_}
 use mathlib.Core.Path.{_≡_, refl}
-use denote.Ref.{now}
 use lib.ListN.{length}
-use Rattle.text.specs.Text.{LineHeld}
+use Rattle.input.specs.Lines.{LineHeld}
+use Rattle.input.proofs.LinesFound.{nothing-is-held}
 use borrow.Author.Needs.{needs}
 use Rattle.replay.proofs.run.Statement.{statement}
 use Rattle.replay.proofs.run.Tie as tie
 
 abbrev Inv-loop : tie.InvT-loop
-Inv-loop held₀ buffer₀ out₀ line₀ len₀ left₀ held buffer out line len left =
+Inv-loop held₀ buffer₀ out₀ line₀ len₀ turn₀ held buffer out line len turn =
     (LineHeld held line × (length held ≡ length held₀)) × ((len ≤ length buffer) × ((length buffer ≡ length buffer₀) × (length out ≡ length out₀)))
 
 abbrev μ-loop : tie.MeasureT-loop
-μ-loop held₀ buffer₀ out₀ line₀ len₀ left₀ held buffer out line len left = left
+μ-loop held₀ buffer₀ out₀ line₀ len₀ turn₀ held buffer out line len turn = 2 ^ 64 - turn
 
 start-requires : tie.Need-start-requires Inv-loop μ-loop
 start-requires c κs = search needs
 
 loop-holds : tie.Need-loop-holds Inv-loop μ-loop
-loop-holds c = ((c .start .ensures (now (c .before .before .before .before .args .held)), refl), (search needs, (refl, refl)))
+loop-holds c = ((rw (c .start .ensures) (nothing-is-held _ _), refl), (search needs, (refl, refl)))
 
 next-line-requires : tie.Need-next-line-requires Inv-loop μ-loop
 next-line-requires c κs = search needs
 
-end-input-requires : tie.Need-end-input-requires Inv-loop μ-loop
-end-input-requires c κs = search needs
+sub-answer-found : tie.Need-sub-answer-found Inv-loop μ-loop
+sub-answer-found c = search needs
+
+part-answer-found-start : tie.Need-part-answer-found-start Inv-loop μ-loop
+part-answer-found-start c = search needs
+
+part-answer-found-end : tie.Need-part-answer-found-end Inv-loop μ-loop
+part-answer-found-end c = search needs
+
+answer-found-requires : tie.Need-answer-found-requires Inv-loop μ-loop
+answer-found-requires c κs = search needs
 
 same-length : tie.Need-same-length Inv-loop μ-loop
 same-length c = search needs
@@ -39,29 +48,16 @@ same-length-3 c = search needs
 returns : tie.Need-returns Inv-loop μ-loop
 returns c = search needs
 
-sub-answer-piece : tie.Need-sub-answer-piece Inv-loop μ-loop
-sub-answer-piece c = search needs
-
-part-answer-piece-start : tie.Need-part-answer-piece-start Inv-loop μ-loop
-part-answer-piece-start c = search needs
-
-part-answer-piece-end : tie.Need-part-answer-piece-end Inv-loop μ-loop
-part-answer-piece-end c = search needs
-
-answer-piece-requires : tie.Need-answer-piece-requires Inv-loop μ-loop
-answer-piece-requires c κs = search needs
-
-sub-left : tie.Need-sub-left Inv-loop μ-loop
-sub-left c = search needs
+add-turn : tie.Need-add-turn Inv-loop μ-loop
+add-turn c = search needs
 
 loop-less : tie.Need-loop-less Inv-loop μ-loop
 loop-less c = search needs
 
 loop-again : tie.Need-loop-again Inv-loop μ-loop
 loop-again c =
-    let asked = c .before .before .before .before .before .before .before .before .before in
-    let read = asked .before .before .before .next-line in
-    ((read .ensures .next .line, search needs), (search needs, (search needs, search needs)))
+    let read = c .before .before .before .before .before .before .before .before .before .before .before .before .before .next-line in
+    ((read .ensures .held, search needs), (c .before .before .before .before .before .before .answer-found .ensures .within, (search needs, search needs)))
 
 same-length-4 : tie.Need-same-length-4 Inv-loop μ-loop
 same-length-4 c = search needs
@@ -84,16 +80,15 @@ run-spec =
     start-requires
     loop-holds
     next-line-requires
-    end-input-requires
+    sub-answer-found
+    part-answer-found-start
+    part-answer-found-end
+    answer-found-requires
     same-length
     same-length-2
     same-length-3
     returns
-    sub-answer-piece
-    part-answer-piece-start
-    part-answer-piece-end
-    answer-piece-requires
-    sub-left
+    add-turn
     loop-less
     loop-again
     same-length-4

@@ -1,37 +1,19 @@
--- By the length, then as passed or as judged.
+-- By the length, the head, then as passed or as judged.
 use Prim.Native.Nat.{ℕ}
-use mathlib.Core.Path.{_≡_, sym, subst, _∙_}
+use mathlib.Core.Path.{_≡_, sym, ap, _∙_}
 use mathlib.Core.Bool.{Bool, true, false, not}
 use mathlib.Core.List.{List}
 use borrow.Author.Tests.{not-true, not-false}
 use denote.Ref.{now}
-use Rattle.units.specs.declared.RecordIndex.{RecordIndex}
-use Rattle.units.specs.Units.{recordIndex}
-use Rattle.book.specs.Book.{lengthFits}
-use Rattle.book.specs.Find.{findUser}
-use Rattle.pass.specs.declared.Passed.{Passed}
-use Rattle.pass.specs.declared.Passed.the-variants as passes
-use Rattle.pass.specs.Steps.{PassedOver}
-use Rattle.soundness.specs.declared.Verdict.{Verdict}
-use Rattle.soundness.specs.declared.Verdict.the-variants.{Sound, Faulty}
-use Rattle.soundness.specs.Verdicts.{Judged, Accepted, Objected}
+use Rattle.book.specs.Book.{lengthFits, usedFits, goodHead}
+use Rattle.book.proofs.Faults.{faulty-unfit, faulty-head}
 use borrow.Author.Needs.{needs}
 use Rattle.soundness.proofs.find.Statement.{statement}
 use Rattle.soundness.proofs.find.Tie as tie
 
--- the length, tested
-fits : (b : List ℕ) {t : Bool} → t ≡ lengthFits b → not t ≡ false → lengthFits b ≡ true
-fits b {t} e h = sym e ∙ not-false t h
-
-passed : (b : List ℕ) (n : ℕ) → lengthFits b ≡ true → (p : Passed) (i : RecordIndex) → PassedOver b n p → p ≡ passes.Sound i
-    → Accepted b × (i ≡ recordIndex (findUser b n))
-passed b n f p i said e = let is = subst (PassedOver b n) e said in (record { fits = f; isSound = is .0 }, is .1)
-
-accepted : (b : List ℕ) → lengthFits b ≡ true → (v : Verdict) → Judged b v → v ≡ Sound → Accepted b
-accepted b f v j e = record { fits = f; isSound = subst (Judged b) e j }
-
-objected : (b : List ℕ) → lengthFits b ≡ true → (v : Verdict) (i : RecordIndex) → Judged b v → v ≡ Faulty i → Objected b (i .0)
-objected b f v i j e = record { fits = f; isFaulty = subst (Judged b) e j }
+-- a test that is passed
+holds : {t u : Bool} → t ≡ u → not t ≡ false → u ≡ true
+holds {t} e h = sym e ∙ not-false t h
 
 length-fits-requires : tie.Need-length-fits-requires
 length-fits-requires c κs = search needs
@@ -39,44 +21,58 @@ length-fits-requires c κs = search needs
 returns : tie.Need-returns
 returns c = sym (c .before .length-fits .ensures) ∙ not-true _ (c .if1 .taken)
 
-find-requires : tie.Need-find-requires
-find-requires c κs = fits (now (c .before .before .before .args .book)) (c .before .length-fits .ensures) (c .if1 .left)
-
-enum-known-user : tie.Need-enum-known-user
-enum-known-user c = search needs
-
-enum-told : tie.Need-enum-told
-enum-told c = search needs
-
-judge-requires : tie.Need-judge-requires
-judge-requires c κs = fits (now (c .before .before .before .before .before .before .args .book)) (c .before .before .before .before .length-fits .ensures) (c .before .before .before .if1 .left)
-
-enum-told-2 : tie.Need-enum-told-2
-enum-told-2 c = search needs
-
-find-user-requires : tie.Need-find-user-requires
-find-user-requires c κs = search needs
-
-enum-known-index : tie.Need-enum-known-index
-enum-known-index c = search needs
+used-fits-requires : tie.Need-used-fits-requires
+used-fits-requires c κs = search needs
 
 returns-2 : tie.Need-returns-2
 returns-2 c =
-    let a = c .before .before .before .before .before .before .before .args in
-    let b = now (a .book) in
-    let i = c .before .user .given in
-    passed b (a .number .0) (fits b (c .before .before .before .before .before .length-fits .ensures) (c .before .before .before .before .if1 .left)) (c .before .before .before .find .result) (i .0 .0) (c .before .before .before .find .ensures) (i .1)
+    let s = c .before .before .before in
+    let b = now (s .before .before .args .book) in
+    record { fits = holds (s .length-fits .ensures) (c .before .before .if1 .left); isFaulty = faulty-unfit b 0 (sym (c .before .used-fits .ensures) ∙ not-true _ (c .if2 .taken)) }
+
+good-head-requires : tie.Need-good-head-requires
+good-head-requires c κs = search needs
 
 returns-3 : tie.Need-returns-3
 returns-3 c =
-    let b = now (c .before .before .before .before .before .before .before .before .before .before .args .book) in
-    (accepted b (fits b (c .before .before .before .before .before .before .before .before .length-fits .ensures) (c .before .before .before .before .before .before .before .if1 .left)) (c .before .before .before .judge .result) (c .before .before .before .judge .ensures) (c .before .enum-told2 .given .1), c .find-user .ensures)
+    let u = c .before .before .before in
+    let s = u .before .before in
+    let b = now (s .before .before .args .book) in
+    record {
+      fits = holds (s .length-fits .ensures) (u .before .if1 .left);
+      isFaulty = faulty-head b (holds (u .used-fits .ensures) (c .before .before .if2 .left)) ∙ sym (ap not (c .before .good-head .ensures)) ∙ c .if3 .taken;
+    }
+
+-- what is known of a book that is passed over
+known : (c : tie.Else3)
+    → let b = now (c .before .before .before .before .before .before .before .args .book) in (lengthFits b ≡ true) × ((usedFits b ≡ true) × (goodHead b ≡ true))
+known c =
+    let h = c .before in
+    let u = h .before .before in
+    (holds (u .before .before .length-fits .ensures) (u .before .if1 .left), (holds (u .used-fits .ensures) (h .before .if2 .left), holds (h .good-head .ensures) (c .if3 .left)))
+
+find-requires : tie.Need-find-requires
+find-requires c κs = known c
 
 returns-4 : tie.Need-returns-4
 returns-4 c =
-    let b = now (c .before .before .before .before .before .before .before .before .before .before .args .book) in
-    let i = c .before .index .given in
-    objected b (fits b (c .before .before .before .before .before .before .before .before .length-fits .ensures) (c .before .before .before .before .before .before .before .if1 .left)) (c .before .before .before .judge .result) (i .0 .0) (c .before .before .before .judge .ensures) (i .1)
+    let f = c .before .before in
+    let said = f .find .ensures .whole (c .before .if4 .taken) in
+    (record { fits = known (f .before) .0; isSound = said .0 }, said .1)
+
+returns-5 : tie.Need-returns-5
+returns-5 c =
+    let f = c .before .before .before .before in
+    record { fits = known (f .before) .0; isFaulty = f .find .ensures .named (c .if5 .taken) }
+
+judge-requires : tie.Need-judge-requires
+judge-requires c κs =
+    let f = c .before .before .before .before in
+    let k = known (f .before) in
+    (k .0, (k .1 .0, (k .1 .1, f .find .ensures .own (c .if5 .left))))
+
+returns-6 : tie.Need-returns-6
+returns-6 c = c .judge .ensures
 
 pub find-spec : {M : Type 1} → statement M
 find-spec =
@@ -84,13 +80,12 @@ find-spec =
     (tie.spec
     length-fits-requires
     returns
-    find-requires
-    enum-known-user
-    enum-told
-    judge-requires
-    enum-told-2
-    find-user-requires
-    enum-known-index
+    used-fits-requires
     returns-2
+    good-head-requires
     returns-3
-    returns-4)
+    find-requires
+    returns-4
+    returns-5
+    judge-requires
+    returns-6)

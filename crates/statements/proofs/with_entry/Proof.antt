@@ -6,6 +6,7 @@ use Rattle.layout.proofs.Places.{length-record}
 use Rattle.records.specs.Records.{advanceIn, closingIn}
 use Rattle.statements.specs.Walk.{closingAdded, advanceAdded, ClosingRoom, AdvanceRoom}
 use Rattle.statements.proofs.Steps.{closing-shown, advance-shown, closing-entry-added, advance-entry-added}
+use Rattle.records.specs.declared.ClosingRecord.{ClosingRecord}
 use borrow.Author.Needs.{needs}
 use Rattle.statements.proofs.with_entry.Statement.{statement}
 use Rattle.statements.proofs.with_entry.Tie as tie
@@ -26,7 +27,7 @@ with-closing-requires c κs =
     let s = c .before .before .before .before .before in
     let a = s .args in
     let read = c .read-closing .ensures ∙ ap closingIn (c .before .before .whole-record .ensures) in
-    subst (λ x. ClosingRoom x (a .sums)) (sym read)
+    subst (λ (x : ClosingRecord). ClosingRoom (x .sums) (a .sums)) (sym read)
     (s .pre .1 .1 .0 .closing (closing-shown (now (a .book)) (a .at .0) (a .kind) (s .pre .0) (s .pre .1 .0) (c .before .if1 .taken)))
 
 read-advance-requires : tie.Need-read-advance-requires
@@ -47,7 +48,7 @@ returns c =
     let s = c .before .before .before .before .before .before in
     let a = s .args in
     let read = c .before .read-closing .ensures ∙ ap closingIn (c .before .before .before .whole-record .ensures) in
-    c .with-closing .ensures ∙ ap (λ x. closingAdded x (a .sums)) read
+    c .with-closing .ensures ∙ ap (λ (x : ClosingRecord). closingAdded (x .sums) (a .sums)) read
     ∙ sym (closing-entry-added (now (a .book)) (a .at .0) (a .sums) (closing-shown (now (a .book)) (a .at .0) (a .kind) (s .pre .0) (s .pre .1 .0) (c .before .before .if1 .taken)))
 
 returns-2 : tie.Need-returns-2

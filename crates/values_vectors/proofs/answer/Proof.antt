@@ -14,8 +14,8 @@ enum-known-details c = search needs
 enum-told : tie.Need-enum-told
 enum-told c = search needs
 
-show-error-requires : tie.Need-show-error-requires
-show-error-requires c κs = search needs
+say-error-requires : tie.Need-say-error-requires
+say-error-requires c κs = search needs
 
 returns : tie.Need-returns
 returns c = search needs
@@ -35,8 +35,8 @@ enum-known-count c = search needs
 enum-told-2 : tie.Need-enum-told-2
 enum-told-2 c = search needs
 
-show-error-requires-2 : tie.Need-show-error-requires-2
-show-error-requires-2 c κs = search needs
+say-error-requires-2 : tie.Need-say-error-requires-2
+say-error-requires-2 c κs = search needs
 
 returns-2 : tie.Need-returns-2
 returns-2 c = search needs
@@ -64,14 +64,14 @@ answer-spec =
     request-of-requires
     enum-known-details
     enum-told
-    show-error-requires
+    say-error-requires
     returns
     buffer-requires
     slice-aggregate-hex-from
     hex-from-requires
     enum-known-count
     enum-told-2
-    show-error-requires-2
+    say-error-requires-2
     returns-2
     array-share-prefix-bytes
     slice-aggregate-answer-sheet

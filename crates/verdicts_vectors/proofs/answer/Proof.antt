@@ -20,8 +20,8 @@ enum-known-count c = search needs
 enum-told : tie.Need-enum-told
 enum-told c = search needs
 
-show-error-requires : tie.Need-show-error-requires
-show-error-requires c κs = search needs
+say-error-requires : tie.Need-say-error-requires
+say-error-requires c κs = search needs
 
 returns : tie.Need-returns
 returns c = search needs
@@ -52,7 +52,7 @@ answer-spec =
     hex-from-requires
     enum-known-count
     enum-told
-    show-error-requires
+    say-error-requires
     returns
     array-share-prefix-bytes
     slice-aggregate-answer-book

@@ -13,7 +13,20 @@ pub enum Numbers {
     Scattered,
     Ascending,
     Descending,
+    /// The library's table of numbers tries places in runs. These numbers share the start of the first run.
     Colliding,
+    /// And these share the starts of the first two.
+    CollidingTwice,
+}
+
+/// How the library's table mixes a number before each run: the upper bits are the start. 800 records have 2,048 places.
+fn mixed(number: u32) -> u32 {
+    number.wrapping_mul(2_654_435_769).wrapping_add(1)
+}
+
+/// The number that is mixed so.
+fn unmixed(mixed: u32) -> u32 {
+    mixed.wrapping_sub(1).wrapping_mul(0x144c_bc89)
 }
 
 impl Numbers {
@@ -23,22 +36,29 @@ impl Numbers {
             Numbers::Ascending => "ascending",
             Numbers::Descending => "descending",
             Numbers::Colliding => "colliding",
+            Numbers::CollidingTwice => "colliding twice",
         }
     }
 
-    fn number(self, at: u32) -> u32 {
-        match self {
+    /// The first numbers, none of them 0 and no two alike.
+    fn first(self, count: usize) -> Vec<u32> {
+        let all: Box<dyn Iterator<Item = u32>> = match self {
             // each step can be undone, so that different places have different numbers
-            Numbers::Scattered => {
+            Numbers::Scattered => Box::new((1..).map(|at: u32| {
                 let mixed = (at ^ at >> 16).wrapping_mul(0x7feb_352d);
                 (mixed ^ mixed >> 15).wrapping_mul(0x846c_a68b)
+            })),
+            Numbers::Ascending => Box::new(1..),
+            Numbers::Descending => Box::new((0..u32::MAX).rev()),
+            Numbers::Colliding => Box::new((2..).map(unmixed)),
+            Numbers::CollidingTwice => {
+                let same_starts = (2..1 << 21).filter(|&first| mixed(first) < 1 << 21);
+                Box::new(same_starts.map(unmixed))
             }
-            Numbers::Ascending => at,
-            Numbers::Descending => u32::MAX - at,
-            // The library's table of numbers multiplies by 2,654,435,769 modulo 2^32 and takes the upper bits. This is the
-            // factor that undoes it: all products are small, and all numbers have the same slot.
-            Numbers::Colliding => at.wrapping_mul(0x144c_bc89),
-        }
+        };
+        let numbers: Vec<u32> = all.take(count).collect();
+        assert_eq!(numbers.len(), count, "enough numbers {}", self.name());
+        numbers
     }
 }
 
@@ -46,8 +66,8 @@ impl Numbers {
 pub fn book_of_users(records: usize, numbers: Numbers) -> Vec<u8> {
     let mut bytes = vec![0; Book::RECORD * records];
     let mut book = Book::fresh(&mut bytes).expect("a length that fits");
-    for at in 1..records as u32 - 1 {
-        book.enrol(household(numbers.number(at))).expect("a free record");
+    for number in numbers.first(records - 2) {
+        book.enrol(household(number)).expect("a free record");
     }
     bytes
 }

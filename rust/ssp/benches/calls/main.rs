@@ -147,6 +147,7 @@ fn main() {
             Numbers::Ascending,
             Numbers::Descending,
             Numbers::Colliding,
+            Numbers::CollidingTwice,
         ] {
             let name = format!("{records} records, {}", order.name());
             statement_of(&name, &book_of_users(records, order));

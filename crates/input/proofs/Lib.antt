@@ -1,0 +1,4 @@
+pub mod Answers
+pub mod Full
+pub mod LinesFound
+pub mod Repeated

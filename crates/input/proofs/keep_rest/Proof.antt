@@ -1,0 +1,76 @@
+-- The bytes passed stand at the front, and those to come stand where they stood.
+use Prim.Native.Nat.{ℕ, _+_, _-_, _≤_}
+use mathlib.Core.Path.{_≡_, refl, _∙_}
+use native.Mathlib.Omega.{arith}
+use borrow.Author.Needs.{needs}
+use denote.Ref.{now}
+use lib.ListN.{length, getD, length-set}
+use lib.Seq.{getD-set-other}
+use Rattle.units.proofs.Filled.{Filled, filled-next}
+use Rattle.input.proofs.keep_rest.Statement.{statement}
+use Rattle.input.proofs.keep_rest.Tie as tie
+
+abbrev Inv-loop : tie.InvT-loop
+Inv-loop held₀ from to count k₀ held k =
+    ((k ≤ count) × (length held ≡ length held₀))
+    × (Filled 0 (λ i. getD held₀ (from + i) 0) k held × ((i : ℕ) → k ≤ i → getD held i 0 ≡ getD held₀ i 0))
+
+abbrev μ-loop : tie.MeasureT-loop
+μ-loop held₀ from to count k₀ held k = count - k
+
+sub-count : tie.Need-sub-count Inv-loop μ-loop
+sub-count c = search needs
+
+loop-holds : tie.Need-loop-holds Inv-loop μ-loop
+loop-holds c = ((search needs, refl), (λ i l. omega arith, λ i l. refl))
+
+add-held : tie.Need-add-held Inv-loop μ-loop
+add-held c = search needs
+
+slice-read-held : tie.Need-slice-read-held Inv-loop μ-loop
+slice-read-held c = search needs
+
+slice-write-held : tie.Need-slice-write-held Inv-loop μ-loop
+slice-write-held c = search needs
+
+add-k : tie.Need-add-k Inv-loop μ-loop
+add-k c = search needs
+
+loop-less : tie.Need-loop-less Inv-loop μ-loop
+loop-less c = search needs
+
+loop-again : tie.Need-loop-again Inv-loop μ-loop
+loop-again c =
+    let l = c .before .before .loop in
+    let a = c .before .before .before .args in
+    let v = getD (l .held) (a .from + l .k) 0 in
+    let from : ℕ → ℕ = λ i. getD (now (a .held)) (a .from + i) 0 in
+    let read = l .inv .1 .1 (a .from + l .k) (omega arith) in
+    let front = filled-next 0 from (l .k) (l .held) v (search needs) read (l .inv .1 .0) in
+    ((search needs, simp length-set (l .inv .0 .1)), (front, λ i m. getD-set-other (l .held) (l .k) i v 0 (λ e. omega arith) ∙ l .inv .1 .1 i (omega arith)))
+
+same-length : tie.Need-same-length Inv-loop μ-loop
+same-length c = search needs
+
+returns : tie.Need-returns Inv-loop μ-loop
+returns c =
+    let l = c .before .loop in
+    let a = c .before .before .args in
+    (refl, record { same = l .inv .0 .1; front = λ i m. l .inv .1 .0 i (omega arith) })
+
+pub keep-rest-spec : {M : Type 1} → statement M
+keep-rest-spec =
+    tie.close
+    (tie.spec
+    Inv-loop
+    μ-loop
+    sub-count
+    loop-holds
+    add-held
+    slice-read-held
+    slice-write-held
+    add-k
+    loop-less
+    loop-again
+    same-length
+    returns)

@@ -1,0 +1,67 @@
+-- No line feed stands from the place to where the search is.
+use Prim.Native.Nat.{ℕ, _-_, _≤_, _<_}
+use mathlib.Core.Path.{_≡_}
+use native.Mathlib.Omega.{arith}
+use borrow.Author.Count.{below-more}
+use borrow.Author.Needs.{needs}
+use lib.ListN.{length, getD}
+use Rattle.input.proofs.line_end.Statement.{statement}
+use Rattle.input.proofs.line_end.Tie as tie
+
+abbrev Inv-loop : tie.InvT-loop
+Inv-loop s from at₀ at =
+    ((from ≤ at) × (from ≤ length s → at ≤ length s)) × ((k : ℕ) → k < at → from ≤ k → getD s k 0 ≡ 10 → ⊥)
+
+abbrev μ-loop : tie.MeasureT-loop
+μ-loop s from at₀ at = length s - at
+
+loop-holds : tie.Need-loop-holds Inv-loop μ-loop
+loop-holds c = ((search needs, λ h. h), λ k l m e. omega arith)
+
+shared-slice-read-if1 : tie.Need-shared-slice-read-if1 Inv-loop μ-loop
+shared-slice-read-if1 c = search needs
+
+returns : tie.Need-returns Inv-loop μ-loop
+returns c =
+    let l = c .before .before .before .loop in
+    record {
+      within = search needs;
+      after = λ h. l .inv .0 .0;
+      before = λ k low high e. l .inv .1 k high low e;
+      found = λ h. c .if1 .taken;
+    }
+
+add-at : tie.Need-add-at Inv-loop μ-loop
+add-at c = search needs
+
+loop-less : tie.Need-loop-less Inv-loop μ-loop
+loop-less c = search needs
+
+loop-again : tie.Need-loop-again Inv-loop μ-loop
+loop-again c =
+    let l = c .before .before .before .loop in
+    ((search needs, λ h. search needs), below-more _ _ (l .inv .1) (λ low e. c .if1 .left e))
+
+returns-2 : tie.Need-returns-2 Inv-loop μ-loop
+returns-2 c =
+    let l = c .before .loop in
+    record {
+      within = search needs;
+      after = λ h. h;
+      before = λ k low high e. l .inv .1 k (omega arith) low e;
+      found = λ h. omega arith;
+    }
+
+pub line-end-spec : {M : Type 1} → statement M
+line-end-spec =
+    tie.close
+    (tie.spec
+    Inv-loop
+    μ-loop
+    loop-holds
+    shared-slice-read-if1
+    returns
+    add-at
+    loop-less
+    loop-again
+    returns-2)

@@ -1,0 +1,109 @@
+-- An interrupted read leaves what is held.
+use Prim.Native.Nat.{_-_, _^_}
+use mathlib.Core.Path.{refl}
+use native.Mathlib.Omega.{arith}
+use Rattle.input.proofs.Repeated.{Kept, read-ends, read-goes-on}
+use borrow.Author.Needs.{needs}
+use Rattle.input.proofs.read_on.Statement.{statement}
+use Rattle.input.proofs.read_on.Tie as tie
+
+abbrev Inv-loop : tie.InvT-loop
+Inv-loop held₀ filled turn₀ held turn = Kept held₀ filled held
+
+abbrev μ-loop : tie.MeasureT-loop
+μ-loop held₀ filled turn₀ held turn = 2 ^ 64 - turn
+
+loop-holds : tie.Need-loop-holds Inv-loop μ-loop
+loop-holds c = (refl, refl)
+
+read-once-requires : tie.Need-read-once-requires Inv-loop μ-loop
+read-once-requires c κs = search needs
+
+enum-known-count : tie.Need-enum-known-count Inv-loop μ-loop
+enum-known-count c = search needs
+
+add-t9 : tie.Need-add-t9 Inv-loop μ-loop
+add-t9 c =
+    let r = c .before .before .before .before .before .read-once in
+    let within = rw (c .before .count .given .1) at (r .ensures .within) in
+    record { fits = omega (arith, within) }
+
+same-length : tie.Need-same-length Inv-loop μ-loop
+same-length c = search needs
+
+returns : tie.Need-returns Inv-loop μ-loop
+returns c =
+    let l = c .before .before .before .before .before .before .before .before .loop in
+    let r = c .before .before .before .before .before .read-once in
+    let within = rw (c .before .count .given .1) at (r .ensures .within) in
+    read-ends _ _ _ _ _ _ (l .inv) (r .ensures) (omega (arith, within), within .1)
+
+enum-told : tie.Need-enum-told Inv-loop μ-loop
+enum-told c = search needs
+
+same-length-2 : tie.Need-same-length-2 Inv-loop μ-loop
+same-length-2 c = search needs
+
+returns-2 : tie.Need-returns-2 Inv-loop μ-loop
+returns-2 c =
+    let l = c .before .before .before .before .before .before .before .loop in
+    let r = c .before .before .before .before .read-once in
+    read-ends _ _ _ _ _ _ (l .inv) (r .ensures) tt
+
+enum-told-2 : tie.Need-enum-told-2 Inv-loop μ-loop
+enum-told-2 c = search needs
+
+same-length-3 : tie.Need-same-length-3 Inv-loop μ-loop
+same-length-3 c = search needs
+
+returns-3 : tie.Need-returns-3 Inv-loop μ-loop
+returns-3 c =
+    let l = c .before .before .before .before .before .before .before .loop in
+    let r = c .before .before .before .before .read-once in
+    read-ends _ _ _ _ _ _ (l .inv) (r .ensures) tt
+
+enum-told-3 : tie.Need-enum-told-3 Inv-loop μ-loop
+enum-told-3 c = search needs
+
+add-turn : tie.Need-add-turn Inv-loop μ-loop
+add-turn c = search needs
+
+loop-less : tie.Need-loop-less Inv-loop μ-loop
+loop-less c = search needs
+
+loop-again : tie.Need-loop-again Inv-loop μ-loop
+loop-again c =
+    let l = c .before .before .before .before .before .before .before .loop in
+    let r = c .before .before .before .before .read-once in
+    read-goes-on _ _ _ _ _ (l .inv) (r .ensures)
+
+same-length-4 : tie.Need-same-length-4 Inv-loop μ-loop
+same-length-4 c = search needs
+
+returns-4 : tie.Need-returns-4 Inv-loop μ-loop
+returns-4 c = search needs
+
+pub read-on-spec : {M : Type 1} → statement M
+read-on-spec =
+    tie.close
+    (tie.spec
+    Inv-loop
+    μ-loop
+    loop-holds
+    read-once-requires
+    enum-known-count
+    add-t9
+    same-length
+    returns
+    enum-told
+    same-length-2
+    returns-2
+    enum-told-2
+    same-length-3
+    returns-3
+    enum-told-3
+    add-turn
+    loop-less
+    loop-again
+    same-length-4
+    returns-4)

@@ -1,0 +1,29 @@
+-- A byte fits, or the row is full.
+use mathlib.Core.Path.{_≡_}
+use lib.ListN.{length}
+use borrow.Author.Needs.{needs}
+use Rattle.output.specs.Rows.{rowRoom}
+use Rattle.output.proofs.Joins.{full, added}
+use Rattle.output.proofs.put.Statement.{statement}
+use Rattle.output.proofs.put.Tie as tie
+
+returns : tie.Need-returns
+returns c =
+    let a = c .before .args in
+    let size : length (a .row .bytes) ≡ rowRoom = search needs in
+    full (a .row .bytes) (a .row .count) (a .b) size (c .if1 .taken)
+
+array-write-bytes : tie.Need-array-write-bytes
+array-write-bytes c = search needs
+
+add-t9 : tie.Need-add-t9
+add-t9 c = search needs
+
+returns-2 : tie.Need-returns-2
+returns-2 c =
+    let a = c .before .before .args in
+    let size : length (a .row .bytes) ≡ rowRoom = search needs in
+    added (a .row .bytes) (a .row .count) (a .b) size (c .before .if1 .left)
+
+pub put-spec : {M : Type 1} → statement M
+put-spec = tie.close (tie.spec returns array-write-bytes add-t9 returns-2)
