@@ -22,7 +22,8 @@ use Rattle.prices.proofs.SheetRows.{band-price-fits, single-price-fits}
 use Rattle.values.specs.declared.Details.{Details}
 use Rattle.values.specs.YearsValues.{monthExchanged, monthRate, annualRate, monthFlatRate, annualFlatRate, flatRateOver, withdrawnOver, exchangedOver, someMonthAbove, halfOf, yearValues, onIsland, isPhotovoltaic, ValuesFit}
 use Rattle.values.proofs.SheetRates.{month-rate-capped, annual-rate-capped}
-use Rattle.values.proofs.SheetEnergies.{withdrawn-capped, exchanged-within, exchanged-capped}
+use Rattle.values.proofs.Bounds.{sheets-bounded}
+use Rattle.values.proofs.SheetEnergies.{exchanged-within, exchanged-capped}
 
 -- O and C: at most three bands a month, each at most the greatest energy at the greatest price
 abbrev maxBandTicks : ℕ
@@ -88,18 +89,13 @@ exchanged-year-within : (s : List ℕ) → exchangedOver s 0 12 ≤ withdrawnOve
 unfolding exchangedOver
 exchanged-year-within s = omega arith
 
-withdrawn-year-capped : (s : List ℕ) → Passed s → withdrawnOver s 0 12 ≤ maxYearKwh
-unfolding withdrawnOver
-withdrawn-year-capped s h =
-    sum-capped 12 (3 * maxKwh) (λ i. monthWithdrawn s (0 + i)) (λ i l. withdrawn-capped s h (0 + i) (omega arith))
-
 annual-flat-capped : (s : List ℕ) → Passed s → (class plant power : ℕ) → annualFlatRate s 0 12 class plant power ≤ maxFlatRate
 unfolding annualFlatRate annualRate
 annual-flat-capped s h class plant power =
     let parts = annualTiers class (withdrawnOver s 0 12) (exchangedOver s 0 12) in
     let sum = annual-sum class (withdrawnOver s 0 12) (exchangedOver s 0 12) (exchanged-year-within s) in
     let rates = tiers-capped parts (annualRate s plant power 0 12) (λ t l. annual-rate-capped s h plant power 0 12 t (lit< tt) (lit≤ tt) l) in
-    omega (arith, sum, rates, exchanged-year-within s, withdrawn-year-capped s h)
+    omega (arith, sum, rates, exchanged-year-within s, sheets-bounded s (h .past13) .year-withdrawn)
 
 month-flat-capped : (s : List ℕ) → Passed s → (plant power m : ℕ) → m < 12 → monthFlatRate s plant power m ≤ maxTierRate * (3 * maxKwh)
 unfolding monthFlatRate monthRate

@@ -114,15 +114,18 @@ pub fn advance_objection(
     refuse(run_open(a, year, run), 9, order)
 }
 
-// 12 13 14 3, of a sheet whose header is right
+// 12 13 14 3, of a sheet whose header is right. What 14 adds up is known to have passed 13.
 pub fn close_objection(s: &[u8], a: Account, room: bool) -> u32
     ensures { λ r. ⌜ ((user : ℕ) → (user ≡ 0 → ⊥) → r ≡ refusedBy (sheetRules (lookOf user a room) (now (s .entry)))) ⌝ }
 {
-    let excess = refuse(
-        !sheet::domestic_excess(a.details.class, s),
-        14,
-        refuse(room, 3, 0),
-    );
-    let numbers = refuse(!sheet::number_wrong(s), 13, excess);
-    refuse(year_open(a, sheet::year(s)), 12, numbers)
+    if !year_open(a, sheet::year(s)) {
+        return 12;
+    }
+    if sheet::number_wrong(s) {
+        return 13;
+    }
+    if sheet::domestic_excess(a.details.class, s) {
+        return 14;
+    }
+    refuse(room, 3, 0)
 }

@@ -1,17 +1,17 @@
 -- What a sheet that has passed 11 and 13 has: its length, and every number within its limit.
-use Prim.Native.Nat.{ℕ, _≤_, _<_}
+use Prim.Native.Nat.{ℕ, _*_, _≤_, _<_}
 use mathlib.Core.Path.{_≡_, refl, sym, ap, _∙_}
 use mathlib.Core.Bool.{Bool, true, false, not, _&&_}
 use mathlib.Core.List.{List}
 use native.Mathlib.Omega.{arith}
 use borrow.Author.Tests.{eqb-true, ltb-false, lt-ltb, le-ltb, not-false}
-use lib.Dec.{eqb, ltb}
+use lib.Dec.{lit<, eqb, ltb}
 use lib.ListN.{length}
 use Rattle.units.specs.Limits.{maxKwh, maxPrice}
 use Rattle.units.specs.Folds.{anyBelow}
 use Rattle.units.proofs.Bools.{and-left, or-left}
 use Rattle.units.proofs.Folds.{none-at}
-use Rattle.sheet.specs.YearSheet.{sheetLength, word, limitAt, aboveLimit, strayBand, atFault, headerFits, lastWordsFit, refused11, refused13, Passed}
+use Rattle.sheet.specs.YearSheet.{sheetLength, word, limitAt, aboveLimit, strayBand, atFault, headerFits, lastWordsFit, refused11, refused13, monthWithdrawn}
 
 pub passed-length : (s : List ℕ) → refused11 s ≡ false → length s ≡ sheetLength
 unfolding refused11
@@ -34,3 +34,8 @@ passed-energy s h m place hm hp = rw (lt-ltb place 6 hp) at (passed-limit s h m 
 pub passed-price : (s : List ℕ) → refused13 s ≡ false → (m place : ℕ) → m < 12 → 6 ≤ place → place < 23 → word s m place ≤ maxPrice
 unfolding limitAt
 passed-price s h m place hm lo hp = rw (le-ltb place 6 lo) at (passed-limit s h m place hm hp)
+
+-- three numbers of a month: 32 bits hold their sum
+pub month-withdrawn-capped : (s : List ℕ) → refused13 s ≡ false → (m : ℕ) → m < 12 → monthWithdrawn s m ≤ 3 * maxKwh
+unfolding monthWithdrawn
+month-withdrawn-capped s h m l = omega (arith, passed-energy s h m 0 l (lit< tt), passed-energy s h m 1 l (lit< tt), passed-energy s h m 2 l (lit< tt))

@@ -1,16 +1,17 @@
 // The year sheet of document 01, "Year sheet": its fields, and what refusals 11, 13 and 14 look at. Every string of bytes
 // is an ordinary input.
 ghost use mathlib.Core.Path.{_≡_};
+ghost use mathlib.Core.Bool.{false};
 ghost use Prim.Native.Nat.{_<_};
 ghost use lib.ListN.{length};
-ghost use Rattle.units.specs.Units.{userNumber, wideKwh};
+ghost use Rattle.units.specs.Units.{userNumber, kwh};
 ghost use Rattle.units.specs.Folds.{anyBelow};
 ghost use Rattle.sheet.specs.YearSheet.{sheetLength, sheetUser, sheetYear, withdrawnReading, injectedReading, word, limitAt, unusedBand, atFault, headerFits, lastWordsFit, refused11, refused13, refused14, monthWithdrawn, FirstFault};
 use tariff::MONTHLY_THRESHOLD;
+use units::Kwh;
 use units::MAX_KWH;
 use units::MAX_PRICE;
 use units::UserNumber;
-use units::WideKwh;
 
 const LENGTH: usize = 1184;
 
@@ -168,17 +169,19 @@ pub fn number_wrong(s: &[u8]) -> bool
     }
 }
 
-// Energy withdrawn in a month of any sheet, also one that has not passed 13.
-fn month_withdrawn(s: &[u8], month: usize) -> WideKwh
+// Energy withdrawn in a month. No number of a sheet past 13 is above 20,000,000, so that 32 bits hold three of them.
+fn month_withdrawn(s: &[u8], month: usize) -> Kwh
+    requires { ⌜ refused13 (now s) ≡ false ⌝ }
     requires { ⌜ month < 12 ⌝ }
-    ensures { λ r. ⌜ r ≡ wideKwh (monthWithdrawn (now (s .entry)) month) ⌝ }
+    ensures { λ r. ⌜ r ≡ kwh (monthWithdrawn (now (s .entry)) month) ⌝ }
 {
-    let bands12 = (word_at(s, month, 0) as u64) + (word_at(s, month, 1) as u64);
-    WideKwh(bands12 + (word_at(s, month, 2) as u64))
+    let bands = word_at(s, month, 0) + word_at(s, month, 1) + word_at(s, month, 2);
+    Kwh(bands)
 }
 
 // 14: a domestic user with a month above the threshold of the monthly method.
 pub fn domestic_excess(class: u8, s: &[u8]) -> bool
+    requires { ⌜ refused13 (now s) ≡ false ⌝ }
     ensures { λ r. ⌜ r ≡ refused14 class (now (s .entry)) ⌝ }
 {
     let mut above = false;

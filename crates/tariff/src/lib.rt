@@ -25,7 +25,7 @@ pub fn is_domestic(class: u8) -> bool
 }
 
 // The month's withdrawal, in kWh, above which the monthly method applies.
-pub const MONTHLY_THRESHOLD: u64 = 4_000_000;
+pub const MONTHLY_THRESHOLD: u32 = 4_000_000;
 
 // "Monthly method: classes 9–11, or classes 3–8 if some month's withdrawal is above 4,000,000."
 pub fn monthly_method(class: u8, month_above: bool) -> bool

@@ -1,2 +1,3 @@
 pub mod SheetRates
 pub mod SheetEnergies
+pub mod Bounds

@@ -4,7 +4,7 @@ use mathlib.Core.Path.{_≡_, ap, ap₂, sym, subst, _∙_}
 use mathlib.Core.Bool.{Bool, true, false}
 use mathlib.Core.List.{List}
 use native.Mathlib.Omega.{arith}
-use lib.Dec.{lit<, ltb}
+use lib.Dec.{ltb}
 use lib.ListN.{getD}
 use Rattle.units.specs.declared.Kwh.{Kwh}
 use Rattle.units.specs.Units.{kwh}
@@ -13,20 +13,10 @@ use Rattle.units.specs.Folds.{sumBelow, anyBelow}
 use Rattle.units.proofs.Folds.{sum-cong, any-cong}
 use Rattle.tariff.specs.Tariff.{monthlyThreshold, monthlyMethod, monthlyTiers, annualTiers, flatRateOf}
 use Rattle.sheet.specs.YearSheet.{Passed, monthWithdrawn}
-use Rattle.sheet.proofs.Limits.{passed-energy}
 use Rattle.prices.specs.Arrays.{energyAt}
 use Rattle.values.specs.Arrays.{Months}
+use Rattle.values.proofs.Bounds.{sheets-bounded}
 use Rattle.values.specs.YearsValues.{monthInjected, monthExchanged, monthRate, annualRate, monthFlatRate, annualFlatRate, flatRateOver, withdrawnOver, injectedOver, exchangedOver, someMonthAbove, halfOf}
-
-pub withdrawn-capped : (s : List ℕ) → Passed s → (m : ℕ) → m < 12 → monthWithdrawn s m ≤ 3 * maxKwh
-unfolding monthWithdrawn
-withdrawn-capped s h m l =
-    omega (arith, passed-energy s (h .past13) m 0 l (lit< tt), passed-energy s (h .past13) m 1 l (lit< tt), passed-energy s (h .past13) m 2 l (lit< tt))
-
-pub injected-capped : (s : List ℕ) → Passed s → (m : ℕ) → m < 12 → monthInjected s m ≤ 3 * maxKwh
-unfolding monthInjected
-injected-capped s h m l =
-    omega (arith, passed-energy s (h .past13) m 3 l (lit< tt), passed-energy s (h .past13) m 4 l (lit< tt), passed-energy s (h .past13) m 5 l (lit< tt))
 
 pub exchanged-within : (s : List ℕ) (m : ℕ) → monthExchanged s m ≤ monthWithdrawn s m
 unfolding monthExchanged
@@ -84,7 +74,7 @@ flat-annual s w i from n class plant power x total injected shared l hw hi t et 
 
 -- the exchanged energy of a half year
 pub exchanged-capped : (s : List ℕ) → Passed s → (m : ℕ) → m < 12 → monthExchanged s m ≤ 3 * maxKwh
-exchanged-capped s h m l = omega (arith, exchanged-within s m, withdrawn-capped s h m l)
+exchanged-capped s h m l = omega (arith, exchanged-within s m, sheets-bounded s (h .past13) .month-withdrawn m l)
 
 pub half-is : (s : List ℕ) (e : List Kwh) (half : ℕ) (x : Kwh) → half < 2 → Months (monthExchanged s) e
     → x ≡ kwh (sumBelow 6 (λ i. energyAt (6 * half + i) e)) → x ≡ kwh (halfOf s half)

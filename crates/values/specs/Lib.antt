@@ -1,2 +1,3 @@
 pub mod YearsValues
 pub mod Arrays
+pub mod Bounds

@@ -104,7 +104,7 @@ fn some_month_above(months: [Kwh; 12], from: usize, count: usize) -> bool
     let mut above = false;
     for i in 0..count {
         let month = months[from + i];
-        above = above | (MONTHLY_THRESHOLD < month.0 as u64);
+        above = above | (MONTHLY_THRESHOLD < month.0);
     }
     above
 }

@@ -3,7 +3,7 @@ use Prim.Native.Nat.{ℕ, _+_, _-_, _≤_, _<_}
 use mathlib.Core.Path.{_≡_, ap, sym, _∙_}
 use native.Mathlib.Omega.{arith}
 use denote.Ref.{now}
-use Rattle.units.specs.declared.WideKwh.{WideKwh}
+use Rattle.units.specs.declared.Kwh.{Kwh}
 use lib.Dec.{ltb}
 use Rattle.units.proofs.Folds.{any-zero, any-next}
 use Rattle.units.specs.Folds.{anyBelow}
@@ -23,7 +23,7 @@ loop-holds : tie.Need-loop-holds Inv-loop μ-loop
 loop-holds c = (search needs, sym (any-zero (λ m. ltb monthlyThreshold (monthWithdrawn (now (c .before .args .s)) m))))
 
 month-withdrawn-requires : tie.Need-month-withdrawn-requires Inv-loop μ-loop
-month-withdrawn-requires c κs = search needs
+month-withdrawn-requires c κs = (c .before .before .before .pre, search needs)
 
 add-month : tie.Need-add-month Inv-loop μ-loop
 add-month c = search needs
@@ -35,7 +35,7 @@ loop-again : tie.Need-loop-again Inv-loop μ-loop
 loop-again c =
     let l = c .before .before .before .loop in
     let s = now (c .before .before .before .before .before .args .s) in
-    (search needs, any-next (l .month) (λ m. ltb monthlyThreshold (monthWithdrawn s m)) (l .inv .1) (ap (λ (e : WideKwh). ltb monthlyThreshold (e .0)) (c .before .month-withdrawn .ensures)))
+    (search needs, any-next (l .month) (λ m. ltb monthlyThreshold (monthWithdrawn s m)) (l .inv .1) (ap (λ (e : Kwh). ltb monthlyThreshold (e .0)) (c .before .month-withdrawn .ensures)))
 
 is-domestic-requires : tie.Need-is-domestic-requires Inv-loop μ-loop
 is-domestic-requires c κs = search needs

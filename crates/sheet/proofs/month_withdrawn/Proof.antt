@@ -1,6 +1,11 @@
--- The three bands.
+-- The three bands: their sum is that of the month, which 32 bits hold.
+use Prim.Native.Nat.{_+_}
+use mathlib.Core.Path.{_≡_, ap, sym}
 use native.Mathlib.Omega.{arith}
+use denote.Ref.{now}
+use Rattle.units.specs.Units.{kwh}
 use Rattle.sheet.specs.YearSheet.{monthWithdrawn}
+use Rattle.sheet.proofs.Limits.{month-withdrawn-capped}
 use borrow.Author.Needs.{needs}
 use Rattle.sheet.proofs.month_withdrawn.Statement.{statement}
 use Rattle.sheet.proofs.month_withdrawn.Tie as tie
@@ -8,26 +13,23 @@ use Rattle.sheet.proofs.month_withdrawn.Tie as tie
 word-at-requires : tie.Need-word-at-requires
 word-at-requires c κs = search needs
 
-cast-bands12 : tie.Need-cast-bands12
-cast-bands12 c = search needs
-
 word-at-requires-2 : tie.Need-word-at-requires-2
 word-at-requires-2 c κs = search needs
 
-cast-bands12-2 : tie.Need-cast-bands12-2
-cast-bands12-2 c = search needs
-
-add-bands12 : tie.Need-add-bands12
-add-bands12 c = search needs
+add-bands : tie.Need-add-bands
+unfolding monthWithdrawn
+add-bands c =
+    let s = c .before .before .before in
+    omega (arith, c .before .word-at .ensures, c .word-at2 .ensures, month-withdrawn-capped (now (s .args .s)) (s .pre .0) (s .args .month) (s .pre .1))
 
 word-at-requires-3 : tie.Need-word-at-requires-3
 word-at-requires-3 c κs = search needs
 
-cast-t7 : tie.Need-cast-t7
-cast-t7 c = search needs
-
-add-t5 : tie.Need-add-t5
-add-t5 c = search needs
+add-bands-2 : tie.Need-add-bands-2
+unfolding monthWithdrawn
+add-bands-2 c =
+    let s = c .before .before .before .before in
+    omega (arith, c .before .before .word-at .ensures, c .before .word-at2 .ensures, c .word-at3 .ensures, month-withdrawn-capped (now (s .args .s)) (s .pre .0) (s .args .month) (s .pre .1))
 
 returns : tie.Need-returns
 unfolding monthWithdrawn
@@ -36,13 +38,4 @@ returns c = cc
 pub month-withdrawn-spec : {M : Type 1} → statement M
 month-withdrawn-spec =
     tie.close
-    (tie.spec
-    word-at-requires
-    cast-bands12
-    word-at-requires-2
-    cast-bands12-2
-    add-bands12
-    word-at-requires-3
-    cast-t7
-    add-t5
-    returns)
+    (tie.spec word-at-requires word-at-requires-2 add-bands word-at-requires-3 add-bands-2 returns)

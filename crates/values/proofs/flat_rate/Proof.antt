@@ -9,7 +9,8 @@ use Rattle.units.specs.Limits.{maxKwh}
 use Rattle.tariff.specs.Tariff.{monthlyMethod}
 use Rattle.sheet.specs.YearSheet.{monthWithdrawn}
 use Rattle.values.specs.YearsValues.{monthInjected}
-use Rattle.values.proofs.SheetEnergies.{withdrawn-capped, injected-capped, months-capped, exchanged-months, above-over, flat-monthly, flat-annual}
+use Rattle.values.proofs.Bounds.{sheets-bounded}
+use Rattle.values.proofs.SheetEnergies.{months-capped, exchanged-months, above-over, flat-monthly, flat-annual}
 use borrow.Author.Needs.{needs}
 use Rattle.values.proofs.flat_rate.Statement.{statement}
 use Rattle.values.proofs.flat_rate.Tie as tie
@@ -33,13 +34,13 @@ energy-over-requires : tie.Need-energy-over-requires
 energy-over-requires c κs =
     let start = c .before .before .before .before in
     let s = now (start .args .s) in
-    (search needs, months-capped (monthWithdrawn s) (start .args .withdrawn) (3 * maxKwh) (start .pre .1 .1 .0) (withdrawn-capped s (start .pre .0)))
+    (search needs, months-capped (monthWithdrawn s) (start .args .withdrawn) (3 * maxKwh) (start .pre .1 .1 .0) (sheets-bounded s (start .pre .0 .past13) .month-withdrawn))
 
 energy-over-requires-2 : tie.Need-energy-over-requires-2
 energy-over-requires-2 c κs =
     let start = c .before .before .before .before .before in
     let s = now (start .args .s) in
-    (search needs, months-capped (monthInjected s) (start .args .injected) (3 * maxKwh) (start .pre .1 .1 .1) (injected-capped s (start .pre .0)))
+    (search needs, months-capped (monthInjected s) (start .args .injected) (3 * maxKwh) (start .pre .1 .1 .1) (sheets-bounded s (start .pre .0 .past13) .month-injected))
 
 smaller-requires : tie.Need-smaller-requires
 smaller-requires c κs = search needs

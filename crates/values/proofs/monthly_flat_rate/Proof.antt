@@ -9,7 +9,8 @@ use Rattle.units.specs.Folds.{sumBelow}
 use Rattle.units.proofs.Folds.{sum-zero, sum-next}
 use Rattle.sheet.specs.YearSheet.{monthWithdrawn}
 use Rattle.values.specs.YearsValues.{monthExchanged, monthFlatRate}
-use Rattle.values.proofs.SheetEnergies.{withdrawn-capped, exchanged-within, months-capped, month-flat}
+use Rattle.values.proofs.Bounds.{sheets-bounded}
+use Rattle.values.proofs.SheetEnergies.{exchanged-within, months-capped, month-flat}
 use borrow.Author.Needs.{needs}
 use Rattle.values.proofs.monthly_flat_rate.Statement.{statement}
 use Rattle.values.proofs.monthly_flat_rate.Tie as tie
@@ -47,7 +48,7 @@ month-flat-rate-requires c κs =
     let inside : m < 12 = omega arith in
     let s = now (a .s) in
     let months = start .pre .1 .1 in
-    (start .pre .0, (inside, (rw (months .0 m inside, months .1 m inside) (exchanged-within s m), months-capped (monthWithdrawn s) (a .t4) (3 * maxKwh) (months .0) (withdrawn-capped s (start .pre .0)) m inside)))
+    (start .pre .0, (inside, (rw (months .0 m inside, months .1 m inside) (exchanged-within s m), months-capped (monthWithdrawn s) (a .t4) (3 * maxKwh) (months .0) (sheets-bounded s (start .pre .0 .past13) .month-withdrawn) m inside)))
 
 -- a month's part is at most the limit of a rate for each kWh of a month
 within : (c : tie.After-struct-known Inv-loop μ-loop) → c .before .month-flat-rate .result .0 ≤ maxTierRate * (3 * maxKwh)
@@ -58,7 +59,7 @@ within c =
     let inside : m < 12 = omega arith in
     let s = now (a .s) in
     let months = start .pre .1 .1 in
-    let w = withdrawn-capped s (start .pre .0) m inside in
+    let w = sheets-bounded s (start .pre .0 .past13) .month-withdrawn m inside in
     let e = exchanged-within s m in
     let held = ap (λ (k : Kwh). k .0) (months .1 m inside) in
     omega (arith, c .before .month-flat-rate .ensures .1)

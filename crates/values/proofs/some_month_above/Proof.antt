@@ -31,9 +31,6 @@ mul-month c = search needs
 array-copy-out-month : tie.Need-array-copy-out-month Inv-loop μ-loop
 array-copy-out-month c = search needs
 
-cast-above : tie.Need-cast-above Inv-loop μ-loop
-cast-above c = search needs
-
 add-i : tie.Need-add-i Inv-loop μ-loop
 add-i c = search needs
 
@@ -63,7 +60,6 @@ some-month-above-spec =
     add-month
     mul-month
     array-copy-out-month
-    cast-above
     add-i
     loop-less
     loop-again

@@ -23,7 +23,7 @@ returns-2 : tie.Need-returns-2
 returns-2 c = search needs
 
 domestic-excess-requires : tie.Need-domestic-excess-requires
-domestic-excess-requires c κs = search needs
+domestic-excess-requires c κs = sym (c .before .number-wrong .ensures) ∙ c .if2 .left
 
 say-refused-requires-3 : tie.Need-say-refused-requires-3
 say-refused-requires-3 c κs = search needs
