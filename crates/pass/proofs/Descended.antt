@@ -1,24 +1,22 @@
 -- What is known between two records of the pass, and that a record that fits keeps it.
-use Prim.Native.Nat.{ℕ, zero, suc, _+_, _-_, _*_, _%_, _≤_, _<_}
+use Prim.Native.Nat.{ℕ, suc, _+_, _-_, _≤_, _<_}
 use mathlib.Core.Path.{_≡_, refl, sym, ap, _∙_, subst}
 use mathlib.Core.Logic.{_⊎_, inl, inr}
-use mathlib.Core.Bool.{Bool, true, false, cond, not, _&&_}
+use mathlib.Core.Bool.{Bool, true, false, cond, _&&_}
 use mathlib.Core.List.{List}
 use native.Mathlib.Decide.{ℕ-discrete}
 use native.Mathlib.Numerals.{add-one}
 use native.Mathlib.Omega.{arith}
-use borrow.Author.Tests.{ne-eqb, eqb-true, eqb-false, leb-true, not-true}
-use lib.Dec.{eqb, leb}
+use borrow.Author.Tests.{ne-eqb, eqb-true}
+use lib.Dec.{eqb}
 use lib.ListN.{length, getD, set}
 use lib.Seq.{getD-set-same, getD-set-other}
 use Rattle.units.specs.Limits.{mostRecords}
 use Rattle.units.proofs.Bools.{and-left, and-right}
 use Rattle.units.proofs.Folds.{below-suc}
-use Rattle.layout.specs.Fields.{recordLength, get, allZero, unnamedOfHead, unnamedOfUser, recordAt, kindField, numberField, nextField, ownerField, userKind}
-use Rattle.records.specs.Records.{accountIn}
-use Rattle.book.specs.Book.{used, usedFits, firstUser, kindAt, isUser, isEntry, accountAt, ownerOf, nextOf, firstEntryOf, openYearOf, activationOf, numberOf, levelIn, levelOf, yearsEnded, accountFits, entryRanges, rangesFit, zeroBytesFit, ownRulesFit, lengthFits, sound}
-use Rattle.book.proofs.Faults.{used-within, used-counted}
-use Rattle.book.proofs.RecordKinds.{has-kind, entry-of-kind, entry-no-user, not-both}
+use Rattle.layout.specs.Fields.{get, allZero, unnamedOfHead, recordAt, kindField, numberField, nextField, ownerField, userKind}
+use Rattle.book.specs.Book.{used, usedFits, firstUser, kindAt, isUser, isEntry, accountAt, ownerOf, nextOf, firstEntryOf, openYearOf, activationOf, numberOf, levelIn, levelOf, yearsEnded, entryRanges, rangesFit, zeroBytesFit, ownRulesFit, sound}
+use Rattle.book.proofs.RecordKinds.{has-kind, entry-of-kind, not-both}
 use Rattle.book.proofs.Faultless.{ranges-entry}
 use Rattle.descent.specs.Descent.{met, dueUser, dueEntry, dueYear, MetUser, MetEntry}
 use Rattle.descent.proofs.Steps.{met-at, user-moves, user-keeps-entry, user-keeps-year, entry-keeps-user, entry-moves, entry-moves-year, entry-keeps-other, entry-keeps-year}
@@ -265,14 +263,6 @@ module _ (b : List ℕ) {wanted left expected found : ℕ} {states seen : List �
               (λ u. absurd (not-both b (met b (s .gone)) u (met-entry .entry)));
           sought = sought-past b wanted (s .sought) index l most no-user;
         }
-
--- the book has room for each record that it uses, and the states have a place for it
-pub record Roomy (b : List ℕ) (left : ℕ) : Type 0 where
-  pub whole : recordLength * left ≤ length b
-  pub counted : left ≤ mostRecords
-
-pub roomy : (b : List ℕ) → lengthFits b ≡ true → usedFits b ≡ true → Roomy b (used b)
-roomy b fits u = let most = used-within b u .1 in record { whole = omega arith; counted = used-counted b u fits }
 
 -- all records but the head are met
 module _ (b : List ℕ) {wanted left expected found : ℕ} {states seen : List ℕ} (s : Descended b wanted left expected found states seen) (l : left ≤ 1) where

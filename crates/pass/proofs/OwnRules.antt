@@ -11,7 +11,7 @@ use lib.Dec.{eqb, leb, ltb}
 use Rattle.units.proofs.Bools.{and-left, or-cases}
 use Rattle.layout.specs.Fields.{get, allZero, unnamedOfUser, recordAt, kindField, numberField, ownerField, userKind}
 use Rattle.records.specs.Records.{accountIn}
-use Rattle.book.specs.Book.{used, usedFits, kindAt, hasKind, isUser, ownerOf, ownerFits, accountFits, entryRanges, rangesFit, unnamedOf, zeroBytesFit, ownRulesFit, linksFit, pointedOnce, goodRecord, faulty, detailsFit, openYearFits, runsFit, advancesFit, creditFits, halvesFit}
+use Rattle.book.specs.Book.{used, usedFits, kindAt, hasKind, isUser, ownerOf, ownerFits, accountFits, entryRanges, rangesFit, unnamedOf, zeroBytesFit, ownRulesFit, faulty, detailsFit, openYearFits, runsFit, advancesFit, creditFits, halvesFit}
 use Rattle.book.proofs.Faults.{faulty-record, own-bad, ownerless-bad}
 
 -- a user that keeps its rules has a number

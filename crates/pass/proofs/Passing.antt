@@ -11,12 +11,10 @@ use lib.Dec.{eqb}
 use lib.ListN.{length, getD, set, length-set}
 use Rattle.units.specs.Limits.{mostRecords}
 use Rattle.units.specs.Units.{recordIndex}
-use Rattle.units.specs.declared.RecordIndex.{RecordIndex}
 use Rattle.units.proofs.Bools.{and-left, and-right}
 use Rattle.layout.specs.Fields.{recordLength, get, allZero, unnamedOfHead, recordAt, kindField, numberField, nextField, ownerField, userKind}
 use Rattle.layout.proofs.Places.{length-record}
-use Rattle.book.specs.Book.{lengthFits, used, usedFits, firstUser, isUser, ownRulesFit, goodHead, faulty, sound}
-use Rattle.book.specs.Find.{findUser}
+use Rattle.book.specs.Book.{lengthFits, used, usedFits, firstUser, isUser, ownRulesFit, goodHead, faulty}
 use Rattle.book.proofs.Faults.{used-within, used-counted, used-whole}
 use Rattle.numbers.specs.Held.{Inserted}
 use Rattle.pass.specs.declared.Passed.{Passed}

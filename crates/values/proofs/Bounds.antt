@@ -6,14 +6,13 @@ use mathlib.Core.List.{List}
 use native.Mathlib.Omega.{arith}
 use borrow.Author.Tests.{eqb-true}
 use lib.Dec.{lit<, eqb}
-use lib.ListN.{replicate}
 use Rattle.units.specs.Folds.{sumBelow, allBelow, anyBelow}
 use Rattle.units.proofs.Folds.{sum-capped, all-at}
 use Rattle.codec.specs.Bytes.{littleEndian, bytesOf, part, number}
 use Rattle.sheet.specs.YearSheet.{withdrawnReading, injectedReading, word, headerFits, lastWordsFit, refused11, limitAt, aboveLimit, unusedBand, strayBand, atFault, refused13, monthWithdrawn}
 use Rattle.sheet.proofs.Limits.{passed-energy, month-withdrawn-capped}
 use Rattle.values.specs.YearsValues.{monthInjected, withdrawnOver, injectedOver}
-use Rattle.values.specs.Bounds.{monthBound, yearBound, Bounded, SheetsBounded, numbers, months, fullSheet, Reached, BoundsReached}
+use Rattle.values.specs.Bounds.{monthBound, yearBound, SheetsBounded, numbers, months, fullSheet, BoundsReached}
 
 module _ (s : List ℕ) (h : refused13 s ≡ false) where
   injected-month : (m : ℕ) → m < 12 → monthInjected s m ≤ monthBound

@@ -1,6 +1,5 @@
 -- The tier rates of a sheet that has passed 13 are within their limit, and arrays that hold them make its flat-rate part.
-use Prim.Native.Nat.{ℕ, _+_, _*_, _≤_, _<_}
-use mathlib.Core.Path.{_≡_, ap, sym, _∙_, subst}
+use Prim.Native.Nat.{ℕ, _+_, _≤_, _<_}
 use mathlib.Core.List.{List}
 use native.Mathlib.Omega.{arith}
 use lib.ListN.{getD}

@@ -1,7 +1,5 @@
 -- By whether a state is known.
-use mathlib.Core.Path.{ap}
 use borrow.Author.Tests.{eq-eqb, ne-eqb}
-use Rattle.units.specs.declared.RecordIndex.{RecordIndex}
 use Rattle.pass.specs.Steps.{entryDue}
 use borrow.Author.Needs.{needs}
 use Rattle.pass.proofs.entry_due.Statement.{statement}

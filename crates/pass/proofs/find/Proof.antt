@@ -1,5 +1,4 @@
 -- By the size of the book.
-use mathlib.Core.Path.{_≡_}
 use native.Mathlib.Omega.{arith}
 use denote.Ref.{now}
 use Rattle.units.specs.Limits.{mostRecords}

@@ -1,6 +1,5 @@
 -- By the test.
 use Rattle.pass.specs.Steps.{firstMet}
-use borrow.Author.Needs.{needs}
 use Rattle.pass.proofs.first_met.Statement.{statement}
 use Rattle.pass.proofs.first_met.Tie as tie
 

@@ -1,6 +1,6 @@
 -- From the last record down.
 use Prim.Native.Nat.{ℕ, _+_, _-_, _≤_, _<_}
-use mathlib.Core.Path.{_≡_, refl, sym, ap, _∙_}
+use mathlib.Core.Path.{_≡_, sym, ap, _∙_}
 use mathlib.Core.Bool.{false, _||_}
 use native.Mathlib.Omega.{arith}
 use borrow.Author.Tests.{eqb-false, leb-false, not-false}

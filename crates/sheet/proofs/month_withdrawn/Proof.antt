@@ -1,9 +1,6 @@
 -- The three bands: their sum is that of the month, which 32 bits hold.
-use Prim.Native.Nat.{_+_}
-use mathlib.Core.Path.{_≡_, ap, sym}
 use native.Mathlib.Omega.{arith}
 use denote.Ref.{now}
-use Rattle.units.specs.Units.{kwh}
 use Rattle.sheet.specs.YearSheet.{monthWithdrawn}
 use Rattle.sheet.proofs.Limits.{month-withdrawn-capped}
 use borrow.Author.Needs.{needs}

@@ -1,7 +1,6 @@
 -- The method decides: the months one by one, or the whole stretch.
-use Prim.Native.Nat.{ℕ, _+_, _*_, _≤_}
-use mathlib.Core.Path.{_≡_, ap, sym, _∙_}
-use mathlib.Core.Bool.{Bool}
+use Prim.Native.Nat.{_*_}
+use mathlib.Core.Path.{ap, sym, _∙_}
 use native.Mathlib.Omega.{arith}
 use denote.Ref.{now}
 use Rattle.units.specs.Units.{kwh, ticks}

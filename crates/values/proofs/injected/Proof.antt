@@ -1,13 +1,11 @@
 -- The rows of the sheet, month by month.
-use mathlib.Core.Path.{_∙_, ap}
+use mathlib.Core.Path.{_∙_}
 use denote.Ref.{now}
 use lib.Dec.{lit≤}
-use Rattle.units.specs.Units.{kwh}
 use Rattle.values.specs.YearsValues.{monthInjected}
 use Rattle.sheet.proofs.Limits.{passed-length}
 use Rattle.prices.specs.Arrays.{rowTotal}
 use Rattle.prices.proofs.SheetRows.{energies-fit}
-use borrow.Author.Needs.{needs}
 use Rattle.values.proofs.injected.Statement.{statement}
 use Rattle.values.proofs.injected.Tie as tie
 

@@ -1,5 +1,4 @@
 -- The mean of a sum within its limit.
-use Prim.Native.Nat.{ℕ, _≤_}
 use mathlib.Core.Path.{ap, _∙_}
 use Rattle.units.specs.declared.Rate.{Rate}
 use Rattle.units.specs.Units.{rate}

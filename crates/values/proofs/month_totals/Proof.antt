@@ -1,11 +1,11 @@
 -- The totals are filled month by month.
-use Prim.Native.Nat.{ℕ, _+_, _-_, _*_, _≤_, _<_, min}
-use mathlib.Core.Path.{_≡_, refl, ap, sym, _∙_}
+use Prim.Native.Nat.{_-_, _≤_}
+use mathlib.Core.Path.{_≡_, refl}
 use mathlib.Core.List.{[]}
 use native.Mathlib.Nat.{not-suc-le-zero}
 use native.Mathlib.Omega.{arith}
 use lib.ListN.{length, length-set, getD}
-use Rattle.units.specs.Units.{kwh, ticks}
+use Rattle.units.specs.Units.{kwh}
 use Rattle.units.proofs.Filled.{Filled, filled-next}
 use Rattle.prices.specs.Arrays.{rowTotal}
 use borrow.Author.Needs.{needs}

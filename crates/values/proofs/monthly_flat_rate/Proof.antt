@@ -1,6 +1,6 @@
 -- A running sum of the months.
 use Prim.Native.Nat.{ℕ, _+_, _-_, _*_, _≤_, _<_}
-use mathlib.Core.Path.{_≡_, refl, ap, sym, _∙_}
+use mathlib.Core.Path.{_≡_, ap, sym, _∙_}
 use native.Mathlib.Omega.{arith}
 use denote.Ref.{now}
 use Rattle.units.specs.declared.Kwh.{Kwh}
@@ -8,7 +8,7 @@ use Rattle.units.specs.Limits.{maxKwh, maxTierRate}
 use Rattle.units.specs.Folds.{sumBelow}
 use Rattle.units.proofs.Folds.{sum-zero, sum-next}
 use Rattle.sheet.specs.YearSheet.{monthWithdrawn}
-use Rattle.values.specs.YearsValues.{monthExchanged, monthFlatRate}
+use Rattle.values.specs.YearsValues.{monthFlatRate}
 use Rattle.values.proofs.Bounds.{sheets-bounded}
 use Rattle.values.proofs.SheetEnergies.{exchanged-within, months-capped, month-flat}
 use borrow.Author.Needs.{needs}

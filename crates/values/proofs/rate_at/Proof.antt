@@ -1,9 +1,7 @@
 -- The number read, within its limit.
-use Prim.Native.Nat.{ℕ, _≤_}
 use mathlib.Core.Path.{ap}
 use native.Mathlib.Omega.{arith}
 use denote.Ref.{now}
-use Rattle.units.specs.Limits.{maxPrice}
 use Rattle.sheet.proofs.Limits.{passed-length, passed-price}
 use Rattle.units.specs.Units.{rate}
 use borrow.Author.Needs.{needs}

@@ -1,6 +1,5 @@
 -- Each value as its definition has it.
 use Prim.Native.Nat.{_*_}
-use mathlib.Core.Path.{_≡_}
 use native.Mathlib.Omega.{arith}
 use denote.Ref.{now}
 use lib.Dec.{lit<}
