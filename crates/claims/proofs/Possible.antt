@@ -8,8 +8,11 @@ use denote.Ref.{RefT}
 use Rattle.units.specs.Units.{userNumber, ticks}
 use Rattle.units.specs.declared.Rate.{Rate}
 use Rattle.units.specs.declared.WideKwh.{WideKwh}
+use Rattle.sheet.specs.YearSheet.{tells, Past13}
+use Rattle.sheet.proofs.Faults.{telling}
 use Rattle.book.specs.Book.{used}
-use Rattle.calls.specs.Calls.{Call, enrol, elect, advance, close, statement, refusalOf, changeOf, booked, bookAfter}
+use Rattle.calls.specs.Calls.{Call, enrol, elect, advance, close, statement, rulesOf, refusalOf, changeOf, booked, bookAfter}
+use Rattle.calls.specs.Rules.{refusedBy}
 use Rattle.calls.specs.Changes.{applied}
 use Rattle.answers.specs.declared.Reply.{Reply}
 use Rattle.answers.specs.Answers.{Answered}
@@ -38,6 +41,15 @@ module _ (b : List ℕ) where
       by-value true = refl
       by-value false = refl
 
+  -- a sheet past 13 is refused with neither 13 nor 19
+  others : (s : List ℕ) → Past13 s → tells (refusalOf b (close s)) ≡ false
+  unfolding refusalOf refusedBy rulesOf
+  others s past = rw (past .0, past .1) (or-else _ (or-else _ (or-else _ (or-else _ (or-else _ (or-else _ (or-else _ refl refl) refl) refl) refl) refl) refl) refl)
+    where
+      or-else : (t : Bool) {x y : ℕ} → tells x ≡ false → tells y ≡ false → tells (cond t x y) ≡ false
+      or-else true h k = h
+      or-else false h k = k
+
   -- the reply of a call that names no record
   abbrev unnamed : Call → Reply
   unnamed c = replyOf (refusalOf b c) (cond (eqb (refusalOf b c) 0) 0 0)
@@ -61,9 +73,10 @@ module _ (b : List ℕ) where
       (lent (bookAfter b c), (userNumber n, (y, (r, (price, (estimate1, (estimate2, tt))))))) (right c 0 other, refl)
   performed (close s) other =
       let c = close s in
+      let at = telling s (refusalOf b c) (others s) in
       closes ([], ([], tt)) (lent b, (lent s, tt))
-      (record { reply = unnamed c; sums = sumsAnswered b s (refusalOf b c) })
-      (lent (bookAfter b c), (lent s, tt)) (right c 0 other, refl)
+      (record { reply = unnamed c; position = at .position; sums = sumsAnswered b s (refusalOf b c) })
+      (lent (bookAfter b c), (lent s, tt)) (right c 0 other, (at .told, refl))
   performed (statement n) other =
       let c = statement n in
       let same = stated-left n in

@@ -1,6 +1,6 @@
 -- No month before this one has a fault, and this month none before this place.
 use Prim.Native.Nat.{ℕ, _+_, _-_, _≤_, _<_}
-use mathlib.Core.Path.{_≡_, ap, sym, _∙_}
+use mathlib.Core.Path.{_≡_, refl, ap, ap₂, sym, _∙_}
 use native.Mathlib.Omega.{arith}
 use denote.Ref.{now}
 use mathlib.Core.Bool.{true, false}
@@ -9,28 +9,12 @@ use mathlib.Core.List.{List}
 use native.Mathlib.Nat.{not-suc-le-zero}
 use borrow.Author.Count.{below-more}
 use Rattle.units.proofs.Folds.{none-at}
-use Rattle.sheet.specs.YearSheet.{atFault, FaultAt}
+use Rattle.sheet.specs.YearSheet.{atFault}
+use Rattle.sheet.specs.Objections.{numberOfFault}
+use Rattle.sheet.proofs.Faults.{Found, told, told-none, no-fault, some-fault}
 use borrow.Author.Needs.{needs}
 use Rattle.sheet.proofs.first_fault.Statement.{statement}
 use Rattle.sheet.proofs.first_fault.Tie as tie
-
--- the place where the search stops, counted from 1
-found : (s : List ℕ) (m p : ℕ) → m < 12 → p < 23 → atFault s m p ≡ true
-    → ((q : ℕ) → q < p → atFault s m q ≡ false)
-    → ((n : ℕ) → n < m → (q : ℕ) → q < 23 → atFault s n q ≡ false)
-    → FaultAt s (m + 1) (p + 1)
-found s m p hm hp here row months =
-    let month : m + 1 - 1 ≡ m = omega arith in
-    let place : p + 1 - 1 ≡ p = omega arith in
-    record {
-      monthFrom1 = omega arith;
-      monthTo12 = omega arith;
-      placeFrom1 = omega arith;
-      placeTo23 = omega arith;
-      here = rw (month, place) here;
-      notBefore = rw (month, place) row;
-      noMonthBefore = rw month months;
-    }
 
 -- the search of a month that goes to its end finds none
 searched : (s : List ℕ) (m place : ℕ) → ((p : ℕ) → p < place → atFault s m p ≡ false) → 23 ≤ place → (p : ℕ) → p < 23 → atFault s m p ≡ false
@@ -57,21 +41,43 @@ month-wrong-requires c κs = search needs
 loop2-holds : tie.Need-loop2-holds Inv-loop2 μ-loop2 Inv-loop μ-loop
 loop2-holds c = (search needs, λ p l. absurd (not-suc-le-zero l))
 
-at-fault-requires : tie.Need-at-fault-requires Inv-loop2 μ-loop2 Inv-loop μ-loop
-at-fault-requires c κs = search needs
+above-limit-requires : tie.Need-above-limit-requires Inv-loop2 μ-loop2 Inv-loop μ-loop
+above-limit-requires c κs = search needs
 
-add-t8 : tie.Need-add-t8 Inv-loop2 μ-loop2 Inv-loop μ-loop
-add-t8 c = search needs
+stray-band-requires : tie.Need-stray-band-requires Inv-loop2 μ-loop2 Inv-loop μ-loop
+stray-band-requires c κs = search needs
 
-add-t9 : tie.Need-add-t9 Inv-loop2 μ-loop2 Inv-loop μ-loop
-add-t9 c = search needs
+fault-number-requires : tie.Need-fault-number-requires Inv-loop2 μ-loop2 Inv-loop μ-loop
+fault-number-requires c κs = search needs
+
+cast-t11 : tie.Need-cast-t11 Inv-loop2 μ-loop2 Inv-loop μ-loop
+cast-t11 c = search needs
+
+add-t12 : tie.Need-add-t12 Inv-loop2 μ-loop2 Inv-loop μ-loop
+add-t12 c = search needs
+
+cast-t13 : tie.Need-cast-t13 Inv-loop2 μ-loop2 Inv-loop μ-loop
+cast-t13 c = search needs
+
+add-t14 : tie.Need-add-t14 Inv-loop2 μ-loop2 Inv-loop μ-loop
+add-t14 c = search needs
 
 returns : tie.Need-returns Inv-loop2 μ-loop2 Inv-loop μ-loop
 returns c =
-    let month = c .before .before .before .before .before .before .before .loop in
-    let place = c .before .before .before .loop2 in
-    let s = now (c .before .before .before .before .before .before .before .before .before .args .s) in
-    found s (month .month) (place .place) (search needs) (search needs) (sym (c .before .at-fault .ensures) ∙ c .if2 .taken) (place .inv .1) (month .inv .1)
+    let number = c .before in
+    let place = number .before .before .before .before .loop2 in
+    let month = number .before .before .before .before .before .before .before .before .loop in
+    let s = now (number .before .before .before .before .before .before .before .before .before .before .args .s) in
+    let is = number .fault-number .ensures ∙ ap₂ numberOfFault (number .before .before .above-limit .ensures) (number .before .stray-band .ensures) in
+    let found : Found s =
+    record {
+      m = month .month;
+      place = place .place;
+      month-to = search needs;
+      place-to = search needs;
+      here = record { at-fault = some-fault s (month .month) (place .place) is (c .if2 .taken); row = place .inv .1; months = month .inv .1 };
+    } in
+    told s found _ is refl refl
 
 add-place : tie.Need-add-place Inv-loop2 μ-loop2 Inv-loop μ-loop
 add-place c = search needs
@@ -81,7 +87,12 @@ loop2-less c = search needs
 
 loop2-again : tie.Need-loop2-again Inv-loop2 μ-loop2 Inv-loop μ-loop
 loop2-again c =
-    (search needs, below-more _ _ (c .before .before .before .loop2 .inv .1) (sym (c .before .at-fault .ensures) ∙ c .if2 .left))
+    let number = c .before in
+    let place = number .before .before .before .before .loop2 in
+    let month = number .before .before .before .before .before .before .before .before .loop in
+    let s = now (number .before .before .before .before .before .before .before .before .before .before .args .s) in
+    let is = number .fault-number .ensures ∙ ap₂ numberOfFault (number .before .before .above-limit .ensures) (number .before .stray-band .ensures) in
+    (search needs, below-more _ _ (place .inv .1) (no-fault s (month .month) (place .place) is (c .if2 .left)))
 
 add-month : tie.Need-add-month Inv-loop2 μ-loop2 Inv-loop μ-loop
 add-month c = search needs
@@ -98,11 +109,14 @@ loop-again c =
     (λ w. none-at 23 (atFault s (month .month)) (sym (c .before .month-wrong .ensures) ∙ w .left)) (c .if1 .came) in
     (search needs, below-more (λ m. (p : ℕ) → p < 23 → atFault s m p ≡ false) _ (month .inv .1) none)
 
+unplaced-requires : tie.Need-unplaced-requires Inv-loop2 μ-loop2 Inv-loop μ-loop
+unplaced-requires c κs = search needs
+
 returns-2 : tie.Need-returns-2 Inv-loop2 μ-loop2 Inv-loop μ-loop
-returns-2 c m l p b =
-    let month = c .before .loop in
+returns-2 c =
+    let month = c .before .before .loop in
     let end : month .month ≡ 12 = omega arith in
-    month .inv .1 m (rw end l) p b
+    told-none (now (c .before .before .before .before .args .s)) (λ m l. month .inv .1 m (rw end l)) _ (c .unplaced .ensures)
 
 pub first-fault-spec : {M : Type 1} → statement M
 first-fault-spec =
@@ -115,9 +129,13 @@ first-fault-spec =
     loop-holds
     month-wrong-requires
     loop2-holds
-    at-fault-requires
-    add-t8
-    add-t9
+    above-limit-requires
+    stray-band-requires
+    fault-number-requires
+    cast-t11
+    add-t12
+    cast-t13
+    add-t14
     returns
     add-place
     loop2-less
@@ -125,4 +143,5 @@ first-fault-spec =
     add-month
     loop-less
     loop-again
+    unplaced-requires
     returns-2)
