@@ -7,13 +7,13 @@ use mathlib.Core.List.{List}
 use native.Mathlib.Decide.{decLt}
 use native.Mathlib.Omega.{arith}
 use borrow.Author.Tests.{ne-eqb, not-true}
-use lib.Dec.{eqb}
+use lib.Dec.{eqb, ltb}
 use Rattle.units.specs.Folds.{allBelow, anyBelow}
 use Rattle.units.proofs.Bools.{and-left, and-right, and-both, or-neither}
 use Rattle.units.proofs.Folds.{all-at, all-of, none-at, none-of, any-of, First, first-below}
 use Rattle.sheet.specs.declared.Position.{Position}
 use Rattle.sheet.specs.declared.Objection.{Objection}
-use Rattle.sheet.specs.YearSheet.{aboveLimit, strayBand, atFault, earliest, refused13, refused19, EarliestAt, OneEarliest, tells, nowhere, Tells, Past13}
+use Rattle.sheet.specs.YearSheet.{word, limitAt, aboveLimit, unusedBand, strayBand, atFault, earliest, refused13, refused19, EarliestAt, OneEarliest, tells, nowhere, Tells, Past13}
 use Rattle.sheet.specs.Objections.{objectionOf, numberOfFault, FaultTold}
 
 -- every other answer tells zeros
@@ -181,7 +181,12 @@ module _ (s : List ℕ) where
       refuted f true e = true≢false (sym (decides f true e .0) ∙ past .0)
       refuted f false e = true≢false (sym (decides f false e .1) ∙ past .1)
 
--- what one number brings
+-- what one number brings, as tested
+pub as-tested : (s : List ℕ) (m p : ℕ) {number refusal : ℕ} {above stray : Bool} → number ≡ word s m p → above ≡ ltb (limitAt p) number → stray ≡ (unusedBand s p && not (eqb number 0))
+    → refusal ≡ numberOfFault above stray → refusal ≡ numberOfFault (aboveLimit s m p) (strayBand s m p)
+unfolding aboveLimit strayBand
+as-tested s m p n a b r = r ∙ rw (a, b, n) refl
+
 pub no-fault : (s : List ℕ) (m p : ℕ) {n : ℕ} → n ≡ numberOfFault (aboveLimit s m p) (strayBand s m p) → n ≡ 0 → atFault s m p ≡ false
 unfolding atFault
 no-fault s m p e none = let by = neither (aboveLimit s m p) (strayBand s m p) (sym e ∙ none) in or-neither (by .0) (by .1)

@@ -1,12 +1,14 @@
 // The year sheet of document 01, "Year sheet": its fields, and what refusals 11, 13, 14 and 19 look at. Every string of
 // bytes is an ordinary input.
 ghost use mathlib.Core.Path.{_≡_};
+ghost use mathlib.Core.Bool.{not, _&&_};
 ghost use Prim.Native.Nat.{_<_};
+ghost use lib.Dec.{eqb, ltb};
 ghost use lib.ListN.{length};
 ghost use Rattle.units.specs.Units.{userNumber, kwh};
 ghost use Rattle.units.specs.Folds.{anyBelow};
 ghost use Rattle.sheet.specs.Objections.{objectionOf, numberOfFault, FaultTold};
-ghost use Rattle.sheet.specs.YearSheet.{sheetLength, sheetUser, sheetYear, withdrawnReading, injectedReading, word, limitAt, aboveLimit, unusedBand, strayBand, atFault, headerFits, lastWordsFit, refused11, refused14, monthWithdrawn, Past13};
+ghost use Rattle.sheet.specs.YearSheet.{sheetLength, sheetUser, sheetYear, withdrawnReading, injectedReading, word, limitAt, unusedBand, atFault, headerFits, lastWordsFit, refused11, refused14, monthWithdrawn, Past13};
 use tariff::MONTHLY_THRESHOLD;
 use units::Kwh;
 use units::MAX_KWH;
@@ -130,25 +132,25 @@ fn unused_band(s: &[u8], place: usize) -> bool
         | (!(injected_reading(s) == 1) & ((place == 4) | (place == 5)))
 }
 
-fn above_limit(s: &[u8], month: usize, place: usize) -> bool
-    requires { ⌜ (month < 12) × (place < 24) ⌝ }
-    ensures { λ r. ⌜ r ≡ aboveLimit (now (s .entry)) month place ⌝ }
+// The tests of a number at its place in a month.
+fn above_limit(number: u32, place: usize) -> bool
+    ensures { λ r. ⌜ r ≡ ltb (limitAt place) number ⌝ }
 {
-    limit_at(place) < word_at(s, month, place) as u64
+    limit_at(place) < number as u64
 }
 
-fn stray_band(s: &[u8], month: usize, place: usize) -> bool
-    requires { ⌜ (month < 12) × (place < 24) ⌝ }
-    ensures { λ r. ⌜ r ≡ strayBand (now (s .entry)) month place ⌝ }
+fn stray_band(s: &[u8], number: u32, place: usize) -> bool
+    ensures { λ r. ⌜ r ≡ (unusedBand (now (s .entry)) place && not (eqb number 0)) ⌝ }
 {
-    unused_band(s, place) & !(word_at(s, month, place) == 0)
+    unused_band(s, place) & !(number == 0)
 }
 
 fn at_fault(s: &[u8], month: usize, place: usize) -> bool
     requires { ⌜ (month < 12) × (place < 24) ⌝ }
     ensures { λ r. ⌜ r ≡ atFault (now (s .entry)) month place ⌝ }
 {
-    above_limit(s, month, place) | stray_band(s, month, place)
+    let number = word_at(s, month, place);
+    above_limit(number, place) | stray_band(s, number, place)
 }
 
 // Some number of the month is at fault. All are looked at, without a branch.
@@ -191,8 +193,9 @@ pub fn first_fault(s: &[u8]) -> Objection
     for month in 0..MONTHS {
         if month_wrong(s, month) {
             for place in 0..NUMBERS {
-                let above = above_limit(s, month, place);
-                let stray = stray_band(s, month, place);
+                let number = word_at(s, month, place);
+                let above = above_limit(number, place);
+                let stray = stray_band(s, number, place);
                 let refusal = fault_number(above, stray);
                 if refusal != 0 {
                     let position = Position {

@@ -1,6 +1,6 @@
 -- No month before this one has a fault, and this month none before this place.
 use Prim.Native.Nat.{ℕ, _+_, _-_, _≤_, _<_}
-use mathlib.Core.Path.{_≡_, refl, ap, ap₂, sym, _∙_}
+use mathlib.Core.Path.{_≡_, refl, sym, _∙_}
 use native.Mathlib.Omega.{arith}
 use denote.Ref.{now}
 use mathlib.Core.Bool.{true, false}
@@ -10,8 +10,7 @@ use native.Mathlib.Nat.{not-suc-le-zero}
 use borrow.Author.Count.{below-more}
 use Rattle.units.proofs.Folds.{none-at}
 use Rattle.sheet.specs.YearSheet.{atFault}
-use Rattle.sheet.specs.Objections.{numberOfFault}
-use Rattle.sheet.proofs.Faults.{Found, told, told-none, no-fault, some-fault}
+use Rattle.sheet.proofs.Faults.{Found, told, told-none, as-tested, no-fault, some-fault}
 use borrow.Author.Needs.{needs}
 use Rattle.sheet.proofs.first_fault.Statement.{statement}
 use Rattle.sheet.proofs.first_fault.Tie as tie
@@ -41,6 +40,9 @@ month-wrong-requires c κs = search needs
 loop2-holds : tie.Need-loop2-holds Inv-loop2 μ-loop2 Inv-loop μ-loop
 loop2-holds c = (search needs, λ p l. absurd (not-suc-le-zero l))
 
+word-at-requires : tie.Need-word-at-requires Inv-loop2 μ-loop2 Inv-loop μ-loop
+word-at-requires c κs = search needs
+
 above-limit-requires : tie.Need-above-limit-requires Inv-loop2 μ-loop2 Inv-loop μ-loop
 above-limit-requires c κs = search needs
 
@@ -50,25 +52,26 @@ stray-band-requires c κs = search needs
 fault-number-requires : tie.Need-fault-number-requires Inv-loop2 μ-loop2 Inv-loop μ-loop
 fault-number-requires c κs = search needs
 
-cast-t11 : tie.Need-cast-t11 Inv-loop2 μ-loop2 Inv-loop μ-loop
-cast-t11 c = search needs
+cast-t12 : tie.Need-cast-t12 Inv-loop2 μ-loop2 Inv-loop μ-loop
+cast-t12 c = search needs
 
-add-t12 : tie.Need-add-t12 Inv-loop2 μ-loop2 Inv-loop μ-loop
-add-t12 c = search needs
+add-t13 : tie.Need-add-t13 Inv-loop2 μ-loop2 Inv-loop μ-loop
+add-t13 c = search needs
 
-cast-t13 : tie.Need-cast-t13 Inv-loop2 μ-loop2 Inv-loop μ-loop
-cast-t13 c = search needs
+cast-t14 : tie.Need-cast-t14 Inv-loop2 μ-loop2 Inv-loop μ-loop
+cast-t14 c = search needs
 
-add-t14 : tie.Need-add-t14 Inv-loop2 μ-loop2 Inv-loop μ-loop
-add-t14 c = search needs
+add-t15 : tie.Need-add-t15 Inv-loop2 μ-loop2 Inv-loop μ-loop
+add-t15 c = search needs
 
 returns : tie.Need-returns Inv-loop2 μ-loop2 Inv-loop μ-loop
 returns c =
     let number = c .before in
-    let place = number .before .before .before .before .loop2 in
-    let month = number .before .before .before .before .before .before .before .before .loop in
-    let s = now (number .before .before .before .before .before .before .before .before .before .before .args .s) in
-    let is = number .fault-number .ensures ∙ ap₂ numberOfFault (number .before .before .above-limit .ensures) (number .before .stray-band .ensures) in
+    let read = number .before .before .before in
+    let place = read .before .before .loop2 in
+    let month = read .before .before .before .before .before .before .loop in
+    let s = now (read .before .before .before .before .before .before .before .before .args .s) in
+    let is = as-tested s (month .month) (place .place) (read .word-at .ensures) (number .before .before .above-limit .ensures) (number .before .stray-band .ensures) (number .fault-number .ensures) in
     let found : Found s =
     record {
       m = month .month;
@@ -88,10 +91,11 @@ loop2-less c = search needs
 loop2-again : tie.Need-loop2-again Inv-loop2 μ-loop2 Inv-loop μ-loop
 loop2-again c =
     let number = c .before in
-    let place = number .before .before .before .before .loop2 in
-    let month = number .before .before .before .before .before .before .before .before .loop in
-    let s = now (number .before .before .before .before .before .before .before .before .before .before .args .s) in
-    let is = number .fault-number .ensures ∙ ap₂ numberOfFault (number .before .before .above-limit .ensures) (number .before .stray-band .ensures) in
+    let read = number .before .before .before in
+    let place = read .before .before .loop2 in
+    let month = read .before .before .before .before .before .before .loop in
+    let s = now (read .before .before .before .before .before .before .before .before .args .s) in
+    let is = as-tested s (month .month) (place .place) (read .word-at .ensures) (number .before .before .above-limit .ensures) (number .before .stray-band .ensures) (number .fault-number .ensures) in
     (search needs, below-more _ _ (place .inv .1) (no-fault s (month .month) (place .place) is (c .if2 .left)))
 
 add-month : tie.Need-add-month Inv-loop2 μ-loop2 Inv-loop μ-loop
@@ -129,13 +133,14 @@ first-fault-spec =
     loop-holds
     month-wrong-requires
     loop2-holds
+    word-at-requires
     above-limit-requires
     stray-band-requires
     fault-number-requires
-    cast-t11
-    add-t12
-    cast-t13
-    add-t14
+    cast-t12
+    add-t13
+    cast-t14
+    add-t15
     returns
     add-place
     loop2-less
