@@ -7,7 +7,7 @@ ghost use lib.Dec.{eqb, ltb};
 ghost use lib.ListN.{length};
 ghost use Rattle.units.specs.Units.{userNumber, kwh};
 ghost use Rattle.units.specs.Folds.{anyBelow};
-ghost use Rattle.sheet.specs.Objections.{objectionOf, numberOfFault, FaultTold};
+ghost use Rattle.sheet.specs.Objections.{objectionOf, numberOfFault, FirstMonth, FaultTold};
 ghost use Rattle.sheet.specs.YearSheet.{sheetLength, sheetUser, sheetYear, withdrawnReading, injectedReading, word, limitAt, unusedBand, atFault, headerFits, lastWordsFit, refused11, refused14, monthWithdrawn, Past13};
 use tariff::MONTHLY_THRESHOLD;
 use units::Kwh;
@@ -186,25 +186,37 @@ fn fault_number(above: bool, stray: bool) -> u32
     }
 }
 
-// 13 or 19 by the earliest number at fault.
-pub fn first_fault(s: &[u8]) -> Objection
-    ensures { λ r. ⌜ FaultTold (now (s .entry)) r ⌝ }
+// The first month with a number at fault, 12 for none.
+fn wrong_month(s: &[u8]) -> usize
+    ensures { λ r. ⌜ FirstMonth (now (s .entry)) r ⌝ }
 {
     for month in 0..MONTHS {
         if month_wrong(s, month) {
-            for place in 0..NUMBERS {
-                let number = word_at(s, month, place);
-                let above = above_limit(number, place);
-                let stray = stray_band(s, number, place);
-                let refusal = fault_number(above, stray);
-                if refusal != 0 {
-                    let position = Position {
-                        month: month as u32 + 1,
-                        place: place as u32 + 1,
-                    };
-                    return Objection { refusal, position };
-                }
-            }
+            return month;
+        }
+    }
+    MONTHS
+}
+
+// 13 or 19 by the earliest number at fault. Only a month at fault is searched.
+pub fn first_fault(s: &[u8]) -> Objection
+    ensures { λ r. ⌜ FaultTold (now (s .entry)) r ⌝ }
+{
+    let month = wrong_month(s);
+    if month == MONTHS {
+        return unplaced(0);
+    }
+    for place in 0..NUMBERS {
+        let number = word_at(s, month, place);
+        let above = above_limit(number, place);
+        let stray = stray_band(s, number, place);
+        let refusal = fault_number(above, stray);
+        if refusal != 0 {
+            let position = Position {
+                month: month as u32 + 1,
+                place: place as u32 + 1,
+            };
+            return Objection { refusal, position };
         }
     }
     unplaced(0)
