@@ -6,7 +6,9 @@ use native.Mathlib.Nat.{not-suc-le-zero}
 use native.Mathlib.Omega.{arith}
 use denote.Ref.{now}
 use borrow.Author.Count.{below-more}
-use Rattle.units.proofs.Folds.{none-of}
+use borrow.Author.Tests.{not-true}
+use Rattle.units.specs.Folds.{anyBelow}
+use Rattle.units.proofs.Folds.{none-at, none-of}
 use Rattle.sheet.specs.YearSheet.{atFault}
 use Rattle.sheet.proofs.Faults.{Found, told, told-none, as-tested, no-fault, some-fault}
 use borrow.Author.Needs.{needs}
@@ -19,20 +21,32 @@ Inv-loop s month place₀ place = (place ≤ 23) × ((p : ℕ) → p < place →
 abbrev μ-loop : tie.MeasureT-loop
 μ-loop s month place₀ place = 23 - place
 
-wrong-month-requires : tie.Need-wrong-month-requires Inv-loop μ-loop
-wrong-month-requires c κs = search needs
+some-wrong-requires : tie.Need-some-wrong-requires Inv-loop μ-loop
+some-wrong-requires c κs = search needs
 
 unplaced-requires : tie.Need-unplaced-requires Inv-loop μ-loop
 unplaced-requires c κs = search needs
 
 returns : tie.Need-returns Inv-loop μ-loop
 returns c =
+    let s = now (c .before .before .before .before .args .s) in
+    let none = sym (c .before .before .some-wrong .ensures) ∙ not-true _ (c .before .if1 .taken) in
+    told-none s (λ m l. none-at 23 (atFault s m) (none-at 12 (λ n. anyBelow 23 (λ p. atFault s n p)) none m l)) _ (c .unplaced .ensures)
+
+wrong-month-requires : tie.Need-wrong-month-requires Inv-loop μ-loop
+wrong-month-requires c κs = search needs
+
+unplaced-requires-2 : tie.Need-unplaced-requires-2 Inv-loop μ-loop
+unplaced-requires-2 c κs = search needs
+
+returns-2 : tie.Need-returns-2 Inv-loop μ-loop
+returns-2 c =
     let month = c .before .before .wrong-month in
-    told-none (now (c .before .before .before .before .args .s)) (λ m l. month .ensures .none-before m (omega (arith, c .before .if1 .taken))) _ (c .unplaced .ensures)
+    told-none (now (c .before .before .before .before .before .before .args .s)) (λ m l. month .ensures .none-before m (omega (arith, c .before .if2 .taken))) _ (c .unplaced2 .ensures)
 
 -- the month that is searched
-month-to : (c : tie.Else1 Inv-loop μ-loop) → c .before .wrong-month .result < 12
-month-to c = omega (arith, c .if1 .left, c .before .wrong-month .ensures .to12)
+month-to : (c : tie.Else2 Inv-loop μ-loop) → c .before .wrong-month .result < 12
+month-to c = omega (arith, c .if2 .left, c .before .wrong-month .ensures .to12)
 
 loop-holds : tie.Need-loop-holds Inv-loop μ-loop
 loop-holds c = (search needs, λ p l. absurd (not-suc-le-zero l))
@@ -49,25 +63,25 @@ stray-band-requires c κs = search needs
 fault-number-requires : tie.Need-fault-number-requires Inv-loop μ-loop
 fault-number-requires c κs = search needs
 
-cast-t11 : tie.Need-cast-t11 Inv-loop μ-loop
-cast-t11 c = let m = month-to (c .before .before .before .before .before .before .before) in omega arith
+cast-t12 : tie.Need-cast-t12 Inv-loop μ-loop
+cast-t12 c = let m = month-to (c .before .before .before .before .before .before .before) in omega arith
 
-add-t12 : tie.Need-add-t12 Inv-loop μ-loop
-add-t12 c = let m = month-to (c .before .before .before .before .before .before .before) in omega arith
+add-t13 : tie.Need-add-t13 Inv-loop μ-loop
+add-t13 c = let m = month-to (c .before .before .before .before .before .before .before) in omega arith
 
-cast-t13 : tie.Need-cast-t13 Inv-loop μ-loop
-cast-t13 c = search needs
+cast-t14 : tie.Need-cast-t14 Inv-loop μ-loop
+cast-t14 c = search needs
 
-add-t14 : tie.Need-add-t14 Inv-loop μ-loop
-add-t14 c = search needs
+add-t15 : tie.Need-add-t15 Inv-loop μ-loop
+add-t15 c = search needs
 
-returns-2 : tie.Need-returns-2 Inv-loop μ-loop
-returns-2 c =
+returns-3 : tie.Need-returns-3 Inv-loop μ-loop
+returns-3 c =
     let number = c .before in
     let read = number .before .before .before in
     let place = read .before .before .loop in
     let month = read .before .before .before .before .wrong-month in
-    let s = now (read .before .before .before .before .before .before .args .s) in
+    let s = now (read .before .before .before .before .before .before .before .before .args .s) in
     let is = as-tested s (month .result) (place .place) (read .word-at .ensures) (number .before .before .above-limit .ensures) (number .before .stray-band .ensures) (number .fault-number .ensures) in
     let found : Found s =
     record {
@@ -75,7 +89,7 @@ returns-2 c =
       place = place .place;
       month-to = month-to (c .before .before .before .before .before .before .before);
       place-to = search needs;
-      here = record { at-fault = some-fault s (month .result) (place .place) is (c .if2 .taken); row = place .inv .1; months = month .ensures .none-before };
+      here = record { at-fault = some-fault s (month .result) (place .place) is (c .if3 .taken); row = place .inv .1; months = month .ensures .none-before };
     } in
     told s found _ is refl refl
 
@@ -91,19 +105,19 @@ loop-again c =
     let read = number .before .before .before in
     let place = read .before .before .loop in
     let month = read .before .before .before .before .wrong-month in
-    let s = now (read .before .before .before .before .before .before .args .s) in
+    let s = now (read .before .before .before .before .before .before .before .before .args .s) in
     let is = as-tested s (month .result) (place .place) (read .word-at .ensures) (number .before .before .above-limit .ensures) (number .before .stray-band .ensures) (number .fault-number .ensures) in
-    (search needs, below-more _ _ (place .inv .1) (no-fault s (month .result) (place .place) is (c .if2 .left)))
+    (search needs, below-more _ _ (place .inv .1) (no-fault s (month .result) (place .place) is (c .if3 .left)))
 
-unplaced-requires-2 : tie.Need-unplaced-requires-2 Inv-loop μ-loop
-unplaced-requires-2 c κs = search needs
+unplaced-requires-3 : tie.Need-unplaced-requires-3 Inv-loop μ-loop
+unplaced-requires-3 c κs = search needs
 
 -- a month at fault is not searched to its end
-returns-3 : tie.Need-returns-3 Inv-loop μ-loop
-returns-3 c =
+returns-4 : tie.Need-returns-4 Inv-loop μ-loop
+returns-4 c =
     let place = c .before .before .loop in
     let month = c .before .before .before .before .wrong-month in
-    let s = now (c .before .before .before .before .before .before .args .s) in
+    let s = now (c .before .before .before .before .before .before .before .before .args .s) in
     let end : place .place ≡ 23 = omega arith in
     let none = none-of 23 (atFault s (month .result)) (λ p l. place .inv .1 p (rw end l)) in
     absurd (true≢false (sym (month .ensures .some (month-to (c .before .before .before))) ∙ none))
@@ -114,21 +128,24 @@ first-fault-spec =
     (tie.spec
     Inv-loop
     μ-loop
-    wrong-month-requires
+    some-wrong-requires
     unplaced-requires
     returns
+    wrong-month-requires
+    unplaced-requires-2
+    returns-2
     loop-holds
     word-at-requires
     above-limit-requires
     stray-band-requires
     fault-number-requires
-    cast-t11
-    add-t12
-    cast-t13
-    add-t14
-    returns-2
+    cast-t12
+    add-t13
+    cast-t14
+    add-t15
+    returns-3
     add-place
     loop-less
     loop-again
-    unplaced-requires-2
-    returns-3)
+    unplaced-requires-3
+    returns-4)
