@@ -95,11 +95,11 @@ static void advance(const char *call, uint32_t number, uint32_t year, uint8_t ru
     amount("ticks", advanced.ticks);
 }
 
-static void close_year(const char *call, uint32_t year)
+static void close_with_sheet(const char *call)
 {
-    write_sheet(year);
     struct ssp_closed closed = ssp_close(book, sizeof book, sheet, sizeof sheet);
     answer(call, closed.refusal, closed.record);
+    printf("  %-16s %" PRIu32 ", %" PRIu32 "\n", "month, place", closed.month, closed.place);
     amount("value", closed.value);
     amount("cost", closed.cost);
     amount("flat_rate", closed.flat_rate);
@@ -107,6 +107,12 @@ static void close_year(const char *call, uint32_t year)
     amount("liquidation", closed.liquidation);
     amount("lapsed", closed.lapsed);
     balance("balance", closed.balance < 0, (uint64_t)closed.balance);
+}
+
+static void close_year(const char *call, uint32_t year)
+{
+    write_sheet(year);
+    close_with_sheet(call);
 }
 
 static void statement(const char *call, uint32_t number)
@@ -128,6 +134,7 @@ static void statement(const char *call, uint32_t number)
 
 int main(void)
 {
+    printf("interface of the header: %s that of the library\n", ssp_interface() == SSP_INTERFACE ? "equal to" : "NOT");
     printf("fresh of 81 bytes: refusal %" PRIu32 "\n", ssp_fresh(book, 81));
     printf("fresh: refusal %" PRIu32 "\n", ssp_fresh(book, sizeof book));
 
@@ -152,6 +159,11 @@ int main(void)
     advance("advance in January", HOUSEHOLD, 2013, SSP_JANUARY, 9000, 5000, 4300);
 
     /* A year on credit, too much of it advanced; a year of liquidation, in which that credit lapses; a year on credit. */
+    write_sheet(2013);
+    put(sheet + HEADER + 4 * (NUMBERS_A_MONTH * 10 + SSP_SYSTEM_TIER_2 - 1), 500001, 4);
+    close_with_sheet("close 2013 with a rate above its limit");
+    sheet[7] = 0;
+    close_with_sheet("close 2013 with a single reading and bands");
     close_year("close 2013", 2013);
     elect("elect liquidation", SSP_LIQUIDATION, 2014, 12, 31);
     advance("advance in June", HYDRO, 2014, SSP_JUNE, 24007, 1, 2);

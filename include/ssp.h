@@ -21,9 +21,12 @@
  * ANSWERS
  *
  *   `refusal` is 0 for an accepted call, or the number of the first objection that holds, in the order that each function
- *   names. A refused call leaves every byte of the book as it was, and every value in its answer is 0.
+ *   names. A refused call leaves every byte of the book as it was, and every value in its answer is 0, but for `record`, `month`
+ *   and `place`.
  *   `record` is, after refusal 2, the index of a faulty record (which one of several is not laid down); after an accepted
  *   ssp_enrol, the index of the new record; else 0.
+ *   `month`, 1 to 12, and `place`, 1 to 24, name after refusal 13 or 19 the earliest number of the sheet that is at fault; else
+ *   both are 0.
  *
  *    1  The book's length is not a multiple of 80 from 160 to 64,000.
  *    2  The book is damaged: the record named is faulty.
@@ -38,8 +41,10 @@
  *   10  The rate is above 500,000, or an estimate is above 360,000,000 kWh.
  *   11  The sheet's length, its header or one of its zero words is wrong.
  *   12  The sheet's year is not the user's open year, or is above 2099.
- *   13  A number of the sheet is above its limit, or a single reading has kWh in F2 or F3.
+ *   13  A number of the sheet is above its limit: the one at `month` and `place`.
  *   14  A domestic user (class 1 or 2) withdrew more than 4,000,000 kWh in a month.
+ *   19  A single reading has kWh in F2 or F3: at `month` and `place`. The earliest number at fault decides between 13 and 19,
+ *       and where it has both faults, 13 is answered.
  *
  * MEMORY
  *
@@ -59,6 +64,9 @@
 #include <stddef.h>
 #include <stdint.h>
 
+/* Header and library belong together, since answers grow: this is to be the number that ssp_interface() answers. */
+#define SSP_INTERFACE 2
+
 #ifdef __cplusplus
 extern "C" {
 #endif
@@ -75,6 +83,34 @@ extern "C" {
 /* The length of a year sheet. docs/FORMAT.md has it byte by byte. */
 #define SSP_SHEET_LENGTH 1184
 
+/* The places of a month in a year sheet, counted from 1. */
+enum ssp_place {
+    SSP_WITHDRAWN_F1 = 1, /* kWh withdrawn; all of them for a single reading */
+    SSP_WITHDRAWN_F2 = 2,
+    SSP_WITHDRAWN_F3 = 3,
+    SSP_INJECTED_F1 = 4, /* kWh injected; all of them for a single reading */
+    SSP_INJECTED_F2 = 5,
+    SSP_INJECTED_F3 = 6,
+    SSP_PUN_F1 = 7, /* the national price */
+    SSP_PUN_F2 = 8,
+    SSP_PUN_F3 = 9,
+    SSP_PUN_MEAN = 10,
+    SSP_ZONE_F1 = 11, /* the price of the zone */
+    SSP_ZONE_F2 = 12,
+    SSP_ZONE_F3 = 13,
+    SSP_ZONE_MEAN = 14,
+    SSP_ZONE_DAY_MEAN = 15, /* of the hours 8-20 */
+    SSP_NET_TIER_1 = 16,    /* the net rate of a tier */
+    SSP_NET_TIER_2 = 17,
+    SSP_NET_TIER_3 = 18,
+    SSP_NET_TIER_4 = 19,
+    SSP_SYSTEM_TIER_1 = 20, /* the system rate of a tier */
+    SSP_SYSTEM_TIER_2 = 21,
+    SSP_SYSTEM_TIER_3 = 22,
+    SSP_SYSTEM_TIER_4 = 23,
+    SSP_ZERO_WORD = 24 /* refusal 11 looks at it */
+};
+
 struct ssp_booked {
     uint32_t refusal;
     uint32_t record;
@@ -90,6 +126,8 @@ struct ssp_advanced {
 struct ssp_closed {
     uint32_t refusal;
     uint32_t record;
+    uint32_t month;        /* after 13 or 19, 1 to 12; else 0 */
+    uint32_t place;        /* after 13 or 19, one of enum ssp_place; else 0 */
     uint64_t value;        /* C, of the energy injected */
     uint64_t cost;         /* O, of the energy withdrawn */
     uint64_t flat_rate;    /* F, the flat-rate part for the energy exchanged */
@@ -115,6 +153,9 @@ struct ssp_sums {
     uint64_t advances;        /* of all years, the open one included */
     uint64_t closed_advances; /* of the closed years */
 };
+
+/* The number of the interface that the library was built for: SSP_INTERFACE of its own header. */
+uint32_t ssp_interface(void);
 
 /*
  * Makes a fresh book of the buffer, whatever it held: one head, no user. Returns 0, or 1 for a length that does not fit, and
@@ -166,7 +207,7 @@ struct ssp_advanced ssp_advance(uint8_t *book, size_t len, uint32_t number, uint
 
 /*
  * Closes the open year of the user that the sheet names, from the sheet's readings and prices, and opens the next one. Refusals
- * in the order 1 2 11 6 12 13 14 3.
+ * in the order 1 2 11 6 12 13 14 3, with 19 at the place of 13.
  *
  *   sheet  the grid operator's year sheet of SSP_SHEET_LENGTH bytes, little-endian. Header: 0-3 user number, 4-5 year, 6
  *          withdrawn reading and 7 injected reading (0 single, 1 by bands), 8-31 zero. Then twelve months of 24 numbers of 32

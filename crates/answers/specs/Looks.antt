@@ -1,6 +1,6 @@
 -- What every call knows once it has looked at the book: refusal 1 or 2 is its answer, or the book is sound and the user with the
 -- number, 0 for none, is found.
-use Prim.Native.Nat.{ℕ}
+use Prim.Native.Nat.{ℕ, _≤_}
 use mathlib.Core.Path.{_≡_}
 use mathlib.Core.List.{List}
 use Rattle.units.specs.declared.RecordIndex.{RecordIndex}
@@ -12,5 +12,6 @@ use Rattle.answers.specs.Answers.{Answered}
 
 pub record LookedAt (b : List ℕ) (n refusal named : ℕ) (user : RecordIndex) : Type 0 where
   pub damaged : (refusal ≡ 0 → ⊥) → (c : Call) (answered : ℕ) → Answered b c answered refusal named b
+  pub to-2 : refusal ≤ 2
   pub is-sound : refusal ≡ 0 → Accepted b
   pub found : refusal ≡ 0 → user ≡ recordIndex (findUser b n)

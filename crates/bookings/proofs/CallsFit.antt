@@ -9,7 +9,7 @@ use lib.Dec.{eqb, leb}
 use Rattle.units.specs.Limits.{lastActivation}
 use Rattle.units.proofs.Bools.{and-left, and-right}
 use Rattle.calendar.specs.ElectionAndAdvances.{isDay}
-use Rattle.sheet.specs.YearSheet.{sheetUser, sheetYear, refused11, refused13, Passed}
+use Rattle.sheet.specs.YearSheet.{sheetUser, sheetYear, refused11, refused13, refused19, Passed}
 use Rattle.values.specs.declared.Details.{Details}
 use Rattle.values.specs.YearsValues.{yearValues}
 use Rattle.accounts.specs.declared.Account.{Account}
@@ -61,7 +61,7 @@ year-is-open a year h =
 
 pub sheet-passed : (b s : List ℕ) → refusalOf b (close s) ≡ 0 → Passed s
 unfolding testOf rulesOf lookAt namedBy
-sheet-passed b s h = let accepted = fact b (close s) h in record { past11 = not-true (refused11 s) (accepted 11); past13 = not-true (refused13 s) (accepted 13) }
+sheet-passed b s h = let accepted = fact b (close s) h in record { past11 = not-true (refused11 s) (accepted 11); past13 = (not-true (refused13 s) (accepted 13), not-true (refused19 s) (accepted 19)) }
 
 module _ (b : List ℕ) (g : Good b) where
   fits-at : (i : ℕ) → isUser b i ≡ true → accountFits (accountAt b i) ≡ true

@@ -1,5 +1,6 @@
--- The numbers of each call's own rules, by computation: with 1 and 2 in front they are document 01's line "Order". No call has a
--- rule of its own with 0, 1 or 2. A call that is not refused passes every test of its order, and each is found by its number.
+-- The numbers of each call's own rules, by computation: with 1 and 2 in front they are document 01's line "Order", with 19 at
+-- 13's place (ticket 7). No call has a rule of its own with 0, 1 or 2. A call that is not refused passes every test of its order,
+-- and each is found by its number.
 use Prim.Native.Nat.{ℕ}
 use mathlib.Core.Path.{_≡_, refl}
 use mathlib.Core.Bool.{true}
@@ -24,7 +25,7 @@ module _ (v : Look) where
   unfolding numbersOf rulesOf
   advance-order n y r p e₁ e₂ = refl
 
-  pub close-order : (s : List ℕ) → numbersOf (rulesOf v (close s)) ≡ 11 ∷ 6 ∷ 12 ∷ 13 ∷ 14 ∷ 3 ∷ []
+  pub close-order : (s : List ℕ) → numbersOf (rulesOf v (close s)) ≡ 11 ∷ 6 ∷ 12 ∷ 13 ∷ 19 ∷ 14 ∷ 3 ∷ []
   unfolding numbersOf rulesOf
   close-order s = refl
 

@@ -5,7 +5,7 @@ use mathlib.Core.Path.{_≡_}
 use mathlib.Core.Bool.{true, cond, not}
 use mathlib.Core.List.{List, [], _∷_}
 use lib.Dec.{eqb}
-use Rattle.sheet.specs.YearSheet.{sheetUser, sheetYear, refused11, refused13, refused14}
+use Rattle.sheet.specs.YearSheet.{sheetUser, sheetYear, refused11, refused13, refused14, refused19}
 use Rattle.values.specs.declared.Details.{Details}
 use Rattle.book.specs.Book.{lengthFits, sound, faulty, detailsFit}
 use Rattle.units.specs.Units.{ticks}
@@ -35,11 +35,12 @@ namedBy (close s) = sheetUser s
 namedBy (statement n) = n
 
 -- "Order: fresh 1; enrol 1 2 4 5 3; elect 1 2 6 7 8; advance 1 2 6 9 10 3; close 1 2 11 6 12 13 14 3; statement 1 2 6." Each
--- call looks at the length and the soundness of the book first, then by its own rules at the user that it names.
+-- call looks at the length and the soundness of the book first, then by its own rules at the user that it names. "It refuses
+-- with 19 in the new case, at 13's place." (ticket 7)
 abbrev pub sheetRules : Look → List ℕ → List Rule
 sheetRules v s =
     (6 unless present v) ∷ (12 unless yearOpen (v .account) (sheetYear s)) ∷ (13 unless not (refused13 s))
-    ∷ (14 unless not (refused14 (v .account .details .class) s)) ∷ (3 unless v .room) ∷ []
+    ∷ (19 unless not (refused19 s)) ∷ (14 unless not (refused14 (v .account .details .class) s)) ∷ (3 unless v .room) ∷ []
 
 unfoldable pub rulesOf : Look → Call → List Rule
 rulesOf v (enrol n d o) = (4 unless numberFree v n) ∷ (5 unless detailsFit d o) ∷ (3 unless v .room) ∷ []

@@ -1,15 +1,19 @@
 -- Each call can be made on any book but a damaged one, answered as its contract says; and so, one after the other, can a list.
 use Prim.Native.Nat.{ℕ}
 use mathlib.Core.Path.{_≡_, refl, ap, subst}
-use mathlib.Core.Bool.{Bool, true, false, cond}
+use mathlib.Core.Bool.{Bool, true, false, cond, not}
 use mathlib.Core.List.{List, [], _∷_}
 use lib.Dec.{eqb}
 use denote.Ref.{RefT}
 use Rattle.units.specs.Units.{userNumber, ticks}
 use Rattle.units.specs.declared.Rate.{Rate}
 use Rattle.units.specs.declared.WideKwh.{WideKwh}
-use Rattle.book.specs.Book.{used}
-use Rattle.calls.specs.Calls.{Call, enrol, elect, advance, close, statement, refusalOf, changeOf, booked, bookAfter}
+use Rattle.sheet.specs.YearSheet.{sheetUser, sheetYear, refused11, refused14, tells, Past13}
+use Rattle.sheet.proofs.Faults.{telling}
+use Rattle.book.specs.Book.{lengthFits, used, sound}
+use Rattle.calls.specs.Refusals.{lookAt, present, yearOpen}
+use Rattle.calls.specs.Calls.{Call, enrol, elect, advance, close, statement, namedBy, rulesOf, refusalOf, changeOf, booked, bookAfter}
+use Rattle.calls.specs.Rules.{refusedBy}
 use Rattle.calls.specs.Changes.{applied}
 use Rattle.answers.specs.declared.Reply.{Reply}
 use Rattle.answers.specs.Answers.{Answered}
@@ -26,6 +30,17 @@ use Rattle.claims.specs.Runs.{Calls, enrols, elects, advances, closes, s
 abbrev pub lent : List ℕ → RefT (List ℕ)
 lent b = record { ptr = (0, 0); name = 0; now = b }
 
+-- an answer that tells no position
+record Other (n : ℕ) : Type 0 where
+  told-not : tells n ≡ false
+
+other : (n : ℕ) → tells n ≡ false → Other n
+other n e = record { told-not = e }
+
+or-else : (t : Bool) {x y : ℕ} → Other x → Other y → Other (cond t x y)
+or-else true h k = h
+or-else false h k = k
+
 module _ (b : List ℕ) where
   right : (c : Call) (answered : ℕ) → (refusalOf b c ≡ 2 → ⊥) → Answered b c answered (refusalOf b c) (cond (eqb (refusalOf b c) 0) answered 0) (bookAfter b c)
   right c answered other = record { refusal-is = refl; names = record { damaged = λ two. absurd (other two); else = λ p. refl }; book-is = refl }
@@ -37,6 +52,20 @@ module _ (b : List ℕ) where
       by-value : (t : Bool) → cond t b b ≡ b
       by-value true = refl
       by-value false = refl
+
+  -- a sheet past 13 is refused with neither 13 nor 19
+  others : (s : List ℕ) → Past13 s → tells (refusalOf b (close s)) ≡ false
+  unfolding refusalOf refusedBy rulesOf namedBy
+  others s past =
+      let v = lookAt b (sheetUser s) in
+      let by-room = or-else (v .room) (other 0 refl) (other 3 refl) in
+      let by-14 = or-else (not (refused14 (v .account .details .class) s)) by-room (other 14 refl) in
+      let by-year = or-else (yearOpen (v .account) (sheetYear s)) by-14 (other 12 refl) in
+      let by-user = or-else (present v) by-year (other 6 refl) in
+      let by-header = or-else (not (refused11 s)) by-user (other 11 refl) in
+      let by-book = or-else (lengthFits b) (or-else (sound b) by-header (other 2 refl)) (other 1 refl) in
+      let answer : Other (refusalOf b (close s)) = rw (past .0, past .1) by-book in
+      answer .told-not
 
   -- the reply of a call that names no record
   abbrev unnamed : Call → Reply
@@ -61,9 +90,10 @@ module _ (b : List ℕ) where
       (lent (bookAfter b c), (userNumber n, (y, (r, (price, (estimate1, (estimate2, tt))))))) (right c 0 other, refl)
   performed (close s) other =
       let c = close s in
+      let at = telling s (refusalOf b c) (others s) in
       closes ([], ([], tt)) (lent b, (lent s, tt))
-      (record { reply = unnamed c; sums = sumsAnswered b s (refusalOf b c) })
-      (lent (bookAfter b c), (lent s, tt)) (right c 0 other, refl)
+      (record { reply = unnamed c; position = at .position; sums = sumsAnswered b s (refusalOf b c) })
+      (lent (bookAfter b c), (lent s, tt)) (right c 0 other, (at .told, refl))
   performed (statement n) other =
       let c = statement n in
       let same = stated-left n in

@@ -1,6 +1,6 @@
 -- A closing on a sound book: refused for its header, or because no user has the number, or by its objection, or booked as the
 -- definition has it.
-use Prim.Native.Nat.{ℕ}
+use Prim.Native.Nat.{ℕ, _≤_}
 use mathlib.Core.Path.{_≡_, ap, ap₂, sym, _∙_}
 use mathlib.Core.Bool.{Bool, true, false}
 use mathlib.Core.List.{List}
@@ -11,7 +11,9 @@ use Rattle.units.proofs.Bools.{and-left, and-right}
 use Rattle.units.specs.declared.RecordIndex.{RecordIndex}
 use Rattle.units.specs.Units.{recordIndex}
 use Rattle.units.specs.Limits.{lastActivation}
-use Rattle.sheet.specs.YearSheet.{sheetUser, sheetYear, refused11, refused13, Passed}
+use Rattle.sheet.specs.YearSheet.{sheetUser, sheetYear, refused11, nowhere, Tells, Passed}
+use Rattle.sheet.specs.declared.Position.{Position}
+use Rattle.sheet.proofs.Faults.{untold-before}
 use Rattle.values.specs.declared.YearValues.{YearValues}
 use Rattle.values.specs.YearsValues.{yearValues, ValuesFit}
 use Rattle.accounts.specs.declared.Account.{Account}
@@ -26,16 +28,17 @@ use Rattle.calls.specs.Refusals.{Look, lookOf, lookAt, hasRoom, yearOpen}
 use Rattle.calls.specs.Calls.{close, namedBy, sheetRules, rulesOf, refusalOf, changeOf, booked}
 use Rattle.bookings.proofs.Widths.{account-within}
 use Rattle.calls.proofs.Orders.{fact}
-use Rattle.bookings.proofs.CallsFit.{named-user}
+use Rattle.bookings.proofs.CallsFit.{named-user, sheet-passed}
 use Rattle.answers.specs.declared.Reply.{Reply}
 use Rattle.answers.specs.Answers.{Answered}
 use Rattle.answers.specs.Replies.{refusedWith}
-use Rattle.answers.proofs.Answers.{sound-refusal, refused-by-rule, refused-absent, accepted}
+use Rattle.answers.proofs.Answers.{sound-refusal, refused-by-rule, refused-absent, refuses, accepted}
 use Rattle.answers.proofs.Rooms.{entry-fits}
 use Rattle.accounts.specs.declared.ClosingSums.{ClosingSums}
 use Rattle.accounts.specs.Account.{accountClosed, settled}
 use Rattle.records.specs.Entries.{closingEntry}
-use Rattle.close.specs.Closings.{YearFits, noSums, sumsAnswered}
+use Rattle.close.specs.Closings.{YearFits, refusedClosing, sumsAnswered}
+use Rattle.close.specs.declared.Closed.{Closed}
 
 -- an open year of an account that fits can be closed
 in-range : (a : Account) (v : YearValues) (year : ℕ) → accountFits a ≡ true → ValuesFit v → yearOpen a year ≡ true → InRange v a
@@ -56,11 +59,20 @@ in-range a v year fits values is-open =
     }
 
 module _ (b s : List ℕ) where
+  -- what the contract says
+  abbrev pub Said : Closed → List ℕ → Type 0
+  Said r after =
+      Answered b (close s) 0 (r .reply .refusal) (r .reply .«record» .0) after × (Tells s (r .reply .refusal) (r .position) × (r .sums ≡ sumsAnswered b s (r .reply .refusal)))
+
   -- beside a refusal there are no sums
-  pub leaves : (reply : Reply) → (reply .refusal ≡ 0 → ⊥) → Answered b (close s) 0 (reply .refusal) (reply .«record» .0) b → (sums : ClosingSums) → sums ≡ noSums
-      → Answered b (close s) 0 (reply .refusal) (reply .«record» .0) b × (sums ≡ sumsAnswered b s (reply .refusal))
+  pub leaves : (reply : Reply) (p : Position) → (reply .refusal ≡ 0 → ⊥) → Answered b (close s) 0 (reply .refusal) (reply .«record» .0) b → Tells s (reply .refusal) p
+      → (r : Closed) → r ≡ refusedClosing reply p → Said r b
   unfolding sumsAnswered
-  leaves reply some said sums e = (said, e ∙ rw (ne-eqb (reply .refusal) 0 some))
+  leaves reply p some said told r e = rw e (said, (told, rw (ne-eqb (reply .refusal) 0 some)))
+
+  -- nor, before the sheet's numbers are looked at, a position
+  pub leaves-early : (n : ℕ) → n ≤ 12 → (n ≡ 0 → ⊥) → (reply : Reply) → reply ≡ refusedWith n → Answered b (close s) 0 (reply .refusal) (reply .«record» .0) b → (r : Closed) → r ≡ refusedClosing reply nowhere → Said r b
+  leaves-early n l some reply e said = leaves reply nowhere (refuses n reply e some) said (rw e (untold-before s n l))
 
   abbrev n : ℕ
   n = sheetUser s
@@ -94,8 +106,10 @@ module _ (b s : List ℕ) where
         by-rule =
             objection (user .0) some ∙ ap₂ (λ (v : Look) (x : List ℕ). refusedBy (sheetRules v x)) looked whole ∙ sym (past-11 (lookAt b n))
 
-        pub close-refused : (refusal ≡ 0 → ⊥) → (reply : Reply) → reply ≡ refusedWith refusal → Answered b (close s) 0 (reply .refusal) (reply .«record» .0) b
-        close-refused = refused-by-rule b (close s) 0 a refusal by-rule
+        pub close-refused : (refusal ≡ 0 → ⊥) → (p : Position) → Tells part refusal p → (reply : Reply) → reply ≡ refusedWith refusal → (r : Closed) → r ≡ refusedClosing reply p → Said r b
+        close-refused some p told reply e =
+            let told-of : Tells s refusal p = rw whole at told in
+            leaves reply p (refuses refusal reply e some) (refused-by-rule b (close s) 0 a refusal by-rule some reply e) (rw e told-of)
 
         module _ (none : refusal ≡ 0) where
           none-refused : refusalOf b (close s) ≡ 0
@@ -109,8 +123,7 @@ module _ (b s : List ℕ) where
           account-fits = rw account-is (sound-faultless b (a .fits) (a .isSound) .user (findUser b n) is-user .fits)
 
           pub passed : Passed s
-          unfolding testOf rulesOf lookAt namedBy
-          passed = let met = fact b (close s) none-refused in record { past11 = not-true (refused11 s) (met 11); past13 = not-true (refused13 s) (met 13) }
+          passed = sheet-passed b s none-refused
 
           module _ (v : YearValues) (worked : (v ≡ yearValues s (account .details)) × ValuesFit v) where
             values-are : v ≡ yearValues s (accountAt b (findUser b n) .details)
@@ -125,12 +138,17 @@ module _ (b s : List ℕ) where
                   in-range = in-range account v (sheetYear s) account-fits (worked .1) (rw account-is (met 12));
                 }
 
-            pub close-booked : (after : List ℕ)
+            book-is : (after : List ℕ)
                 → after ≡ applied (user .0) (enters (accountClosed v account) (closingEntry (account .«open_year») (account .option) (settled account v))) b
                 → Answered b (close s) 0 0 0 after
             unfolding booked changeOf namedBy
-            close-booked after e = accepted b (close s) 0 after none-refused (e ∙ rw (values-are, account-is, there))
+            book-is after e = accepted b (close s) 0 after none-refused (e ∙ rw (values-are, account-is, there))
 
-            pub sums-answered : (sums : ClosingSums) → sums ≡ settled account v → sums ≡ sumsAnswered b s 0
+            sums-answered : (sums : ClosingSums) → sums ≡ settled account v → sums ≡ sumsAnswered b s 0
             unfolding sumsAnswered
             sums-answered sums e = e ∙ rw (values-are, account-is)
+
+            pub close-booked : (after : List ℕ)
+                → after ≡ applied (user .0) (enters (accountClosed v account) (closingEntry (account .«open_year») (account .option) (settled account v))) b
+                → (sums : ClosingSums) → sums ≡ settled account v → Said (record { reply = refusedWith 0; position = nowhere; sums = sums }) after
+            close-booked after e sums are = (book-is after e, (untold-before s 0 (omega arith), sums-answered sums are))

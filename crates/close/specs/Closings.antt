@@ -14,6 +14,9 @@ use Rattle.calls.specs.Refusals.{userAt}
 use Rattle.book.specs.Find.{findUser}
 use Rattle.answers.specs.Rooms.{EntryFits}
 use Rattle.accounts.specs.declared.ClosingSums.{ClosingSums}
+use Rattle.answers.specs.declared.Reply.{Reply}
+use Rattle.sheet.specs.declared.Position.{Position}
+use Rattle.close.specs.declared.Closed.{Closed}
 
 unfoldable pub noSums : ClosingSums
 noSums =
@@ -26,6 +29,10 @@ noSums =
       lapsed = ticks 0;
       balance = balanceBits (pos 0);
     }
+
+-- an answer beside a refusal
+abbrev pub refusedClosing : Reply → Position → Closed
+refusedClosing reply position = record { reply = reply; position = position; sums = noSums }
 
 unfoldable pub sumsAnswered : List ℕ → List ℕ → ℕ → ClosingSums
 sumsAnswered b s refusal = cond (eqb refusal 0) (settled (userAt b (sheetUser s)) (yearValues s (userAt b (sheetUser s) .details))) noSums

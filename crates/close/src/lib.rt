@@ -1,24 +1,29 @@
-// Closing a year (document 01, "Closing"): refusals 1 2 11 6 12 13 14 3, then the year's entry in front of the user's chain.
+// Closing a year (document 01, "Closing"): refusals 1 2 11 6 12 13 19 14 3, then the year's entry in front of the user's chain.
 ghost use mathlib.Core.Path.{_≡_};
 ghost use Rattle.accounts.specs.Account.{accountClosed, closedOf, settled};
 ghost use Rattle.accounts.specs.declared.Account.{Account};
 ghost use Rattle.records.specs.Entries.{closingEntry};
+ghost use Rattle.sheet.specs.YearSheet.{Tells};
 ghost use Rattle.calls.specs.Changes.{enters, applied};
 ghost use Rattle.calls.specs.Calls.{close};
 ghost use Rattle.answers.specs.Answers.{Answered};
-ghost use Rattle.close.specs.Closings.{YearFits, noSums, sumsAnswered};
+ghost use Rattle.close.specs.Closings.{YearFits, noSums, refusedClosing, sumsAnswered};
 use accounts::Account;
 use accounts::Balance;
 use accounts::ClosingSums;
 use accounts::Settlement;
 use answers::Reply;
 use records::ClosingRecord;
+use sheet::NOWHERE;
+use sheet::Position;
 use units::RecordIndex;
 use units::Ticks;
 use values::YearValues;
 
+// The reply, after a refusal 13 or 19 where the number at fault stands, and the entry's sums.
 pub struct Closed {
     pub reply: Reply,
+    pub position: Position,
     pub sums: ClosingSums,
 }
 
@@ -85,39 +90,39 @@ fn book_year(
     sums
 }
 
+// An answer beside a refusal: no sums.
+fn without_sums(reply: Reply, position: Position) -> Closed
+    ensures { λ r. ⌜ r ≡ refusedClosing reply position ⌝ }
+{
+    Closed {
+        reply,
+        position,
+        sums: no_sums(),
+    }
+}
+
 pub fn close(book: &mut [u8], s: &[u8]) -> Closed
     ensures { λ r. ⌜ Answered (now (book .entry)) (close (now (s .entry))) 0 (r .reply .refusal) (r .reply .record .0) (now (book .exit)) ⌝ }
+    ensures { λ r. ⌜ Tells (now (s .entry)) (r .reply .refusal) (r .position) ⌝ }
     ensures { λ r. ⌜ r .sums ≡ sumsAnswered (now (book .entry)) (now (s .entry)) (r .reply .refusal) ⌝ }
 {
     let looked = answers::look(book, sheet::user(s));
     let reply = looked.reply;
     if reply.refusal != 0 {
-        return Closed {
-            reply,
-            sums: no_sums(),
-        };
+        return without_sums(reply, NOWHERE);
     }
     if sheet::header_wrong(s) {
-        return Closed {
-            reply: answers::refused(11),
-            sums: no_sums(),
-        };
+        return without_sums(answers::refused(11), NOWHERE);
     }
     let user = looked.user;
     if user.0 == 0 {
-        return Closed {
-            reply: answers::refused(6),
-            sums: no_sums(),
-        };
+        return without_sums(answers::refused(6), NOWHERE);
     }
     let account = view::account_at(book, user);
     let room = refusals::has_room(book);
-    let refusal = refusals::close_objection(sheet::whole(s), account, room);
-    if refusal != 0 {
-        return Closed {
-            reply: answers::refused(refusal),
-            sums: no_sums(),
-        };
+    let objection = refusals::close_objection(sheet::whole(s), account, room);
+    if objection.refusal != 0 {
+        return without_sums(answers::refused(objection.refusal), objection.position);
     }
     let values = values::year_values(s, account.details);
     let sums = book_year(book, user, account, values);
@@ -125,5 +130,9 @@ pub fn close(book: &mut [u8], s: &[u8]) -> Closed
         refusal: 0,
         record: RecordIndex(0),
     };
-    Closed { reply, sums }
+    Closed {
+        reply,
+        position: NOWHERE,
+        sums,
+    }
 }

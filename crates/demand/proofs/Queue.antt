@@ -11,7 +11,7 @@ use native.Mathlib.Omega.{arith}
 use borrow.Author.Tests.{eqb-true, eqb-false, ne-eqb, not-true}
 use lib.Dec.{eqb}
 use lib.ListN.{length}
-use Rattle.sheet.specs.YearSheet.{sheetYear, refused11, refused13, refused14}
+use Rattle.sheet.specs.YearSheet.{sheetYear, refused11, refused13, refused14, refused19}
 use Rattle.accounts.specs.declared.Account.{Account}
 use Rattle.layout.specs.Fields.{capacity}
 use Rattle.book.specs.Book.{lengthFits, freshBook, used, detailsFit, accountAt}
@@ -74,9 +74,9 @@ module _ (v w : Look) (a : Alike v w) where
       (λ acc. through (runOpen acc y r) 9 _ _ (through (orderFits p e₁ e₂) 10 _ _ (last-room (v .room) (w .room) (a .room)))) h
   same-answer (close s) h =
       through (not (refused11 s)) 11 _ _
-      (with-user (λ acc. cond (yearOpen acc (sheetYear s)) (cond (not (refused13 s)) (cond (not (refused14 (acc .details .class) s)) (cond (v .room) 0 3) 14) 13) 12)
-      (λ acc. cond (yearOpen acc (sheetYear s)) (cond (not (refused13 s)) (cond (not (refused14 (acc .details .class) s)) (cond (w .room) 0 3) 14) 13) 12)
-      (λ acc. through (yearOpen acc (sheetYear s)) 12 _ _ (through (not (refused13 s)) 13 _ _ (through (not (refused14 (acc .details .class) s)) 14 _ _ (last-room (v .room) (w .room) (a .room))))))
+      (with-user (λ acc. cond (yearOpen acc (sheetYear s)) (cond (not (refused13 s)) (cond (not (refused19 s)) (cond (not (refused14 (acc .details .class) s)) (cond (v .room) 0 3) 14) 19) 13) 12)
+      (λ acc. cond (yearOpen acc (sheetYear s)) (cond (not (refused13 s)) (cond (not (refused19 s)) (cond (not (refused14 (acc .details .class) s)) (cond (w .room) 0 3) 14) 19) 13) 12)
+      (λ acc. through (yearOpen acc (sheetYear s)) 12 _ _ (through (not (refused13 s)) 13 _ _ (through (not (refused19 s)) 19 _ _ (through (not (refused14 (acc .details .class) s)) 14 _ _ (last-room (v .room) (w .room) (a .room)))))))
       h
   same-answer (statement n) h = with-user (λ acc. 0) (λ acc. 0) (λ acc q. refl) h
 

@@ -3,6 +3,7 @@ ghost use mathlib.Core.Path.{_≡_};
 ghost use Prim.Native.Nat.{ℕ};
 ghost use mathlib.Core.Bool.{Bool, cond, false};
 ghost use Rattle.accounts.specs.declared.Account.{Account as AccountOf};
+ghost use Rattle.sheet.specs.YearSheet.{Tells};
 ghost use Rattle.calls.specs.Rules.{refusedBy};
 ghost use Rattle.calls.specs.Refusals.{lookOf, hasRoom, dayAndOption, electionOpen, runOpen, orderFits, yearOpen};
 ghost use Rattle.calls.specs.Calls.{enrol, elect, advance, sheetRules, rulesOf};
@@ -10,6 +11,7 @@ use accounts::Account;
 use book::LAST_ACTIVATION;
 use book::LAST_OPEN_YEAR;
 use book::MAX_HALF_KWH;
+use sheet::Objection;
 use units::MAX_PRICE;
 use units::Rate;
 use units::RecordIndex;
@@ -114,18 +116,20 @@ pub fn advance_objection(
     refuse(run_open(a, year, run), 9, order)
 }
 
-// 12 13 14 3, of a sheet whose header is right. What 14 adds up is known to have passed 13.
-pub fn close_objection(s: &[u8], a: Account, room: bool) -> u32
-    ensures { λ r. ⌜ ((user : ℕ) → (user ≡ 0 → ⊥) → r ≡ refusedBy (sheetRules (lookOf user a room) (now (s .entry)))) ⌝ }
+// 12 13 19 14 3, of a sheet whose header is right. What 14 adds up is known to have passed 13.
+pub fn close_objection(s: &[u8], a: Account, room: bool) -> Objection
+    ensures { λ r. ⌜ ((user : ℕ) → (user ≡ 0 → ⊥) → r .refusal ≡ refusedBy (sheetRules (lookOf user a room) (now (s .entry)))) ⌝ }
+    ensures { λ r. ⌜ Tells (now (s .entry)) (r .refusal) (r .position) ⌝ }
 {
     if !year_open(a, sheet::year(s)) {
-        return 12;
+        return sheet::unplaced(12);
     }
-    if sheet::number_wrong(s) {
-        return 13;
+    let fault = sheet::first_fault(s);
+    if fault.refusal != 0 {
+        return fault;
     }
     if sheet::domestic_excess(a.details.class, s) {
-        return 14;
+        return sheet::unplaced(14);
     }
-    refuse(room, 3, 0)
+    sheet::unplaced(refuse(room, 3, 0))
 }

@@ -9,6 +9,7 @@ use input::Found;
 use listing_text::Listed;
 use output::Row;
 use script::Order;
+use sheet::Position;
 use statement::Stated;
 use statements::Sums;
 use text::Bytes;
@@ -91,9 +92,18 @@ fn put_closing(row: Row, sums: ClosingSums) -> Row {
     put_balance(longer, sums.balance)
 }
 
+fn put_position(row: Row, position: Position) -> Row {
+    let longer = output::put_field(row, position.month as u64);
+    output::put_field(longer, position.place as u64)
+}
+
+// After a 13 or 19 the month and the place of the number at fault stand in the place of the values.
 fn say_closed(answer: Closed) -> bool {
     if answer.reply.refusal == 2 {
         return say_record(answer.reply);
+    }
+    if answer.position.month != 0 {
+        return say(put_position(refusal_of(answer.reply), answer.position));
     }
     say(put_closing(refusal_of(answer.reply), answer.sums))
 }

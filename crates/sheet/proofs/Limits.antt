@@ -8,10 +8,9 @@ use borrow.Author.Tests.{eqb-true, ltb-false, lt-ltb, le-ltb, not-false}
 use lib.Dec.{lit<, eqb, ltb}
 use lib.ListN.{length}
 use Rattle.units.specs.Limits.{maxKwh, maxPrice}
-use Rattle.units.specs.Folds.{anyBelow}
 use Rattle.units.proofs.Bools.{and-left, or-left}
-use Rattle.units.proofs.Folds.{none-at}
-use Rattle.sheet.specs.YearSheet.{sheetLength, word, limitAt, aboveLimit, strayBand, atFault, headerFits, lastWordsFit, refused11, refused13, monthWithdrawn}
+use Rattle.sheet.specs.YearSheet.{sheetLength, word, limitAt, aboveLimit, strayBand, atFault, headerFits, lastWordsFit, refused11, monthWithdrawn, Past13}
+use Rattle.sheet.proofs.Faults.{past-none}
 
 pub passed-length : (s : List ℕ) → refused11 s ≡ false → length s ≡ sheetLength
 unfolding refused11
@@ -19,23 +18,21 @@ passed-length s h =
     let all : (eqb (length s) sheetLength && (headerFits s && lastWordsFit s)) ≡ true = not-false _ h in
     eqb-true (length s) sheetLength (and-left (eqb (length s) sheetLength) (headerFits s && lastWordsFit s) all)
 
-pub passed-limit : (s : List ℕ) → refused13 s ≡ false → (m place : ℕ) → m < 12 → place < 23 → word s m place ≤ limitAt place
-unfolding refused13 atFault aboveLimit
+pub passed-limit : (s : List ℕ) → Past13 s → (m place : ℕ) → m < 12 → place < 23 → word s m place ≤ limitAt place
+unfolding atFault aboveLimit
 passed-limit s h m place hm hp =
-    let month = none-at 12 (λ n. anyBelow 23 (λ p. atFault s n p)) h m hm in
-    let here = none-at 23 (λ p. atFault s m p) month place hp in
-    ltb-false (limitAt place) (word s m place) (or-left (aboveLimit s m place) (strayBand s m place) here)
+    ltb-false (limitAt place) (word s m place) (or-left (aboveLimit s m place) (strayBand s m place) (past-none s h m hm place hp))
 
 -- places 0–5 are kWh, 6–22 prices and rates
-pub passed-energy : (s : List ℕ) → refused13 s ≡ false → (m place : ℕ) → m < 12 → place < 6 → word s m place ≤ maxKwh
+pub passed-energy : (s : List ℕ) → Past13 s → (m place : ℕ) → m < 12 → place < 6 → word s m place ≤ maxKwh
 unfolding limitAt
 passed-energy s h m place hm hp = rw (lt-ltb place 6 hp) at (passed-limit s h m place hm (omega arith))
 
-pub passed-price : (s : List ℕ) → refused13 s ≡ false → (m place : ℕ) → m < 12 → 6 ≤ place → place < 23 → word s m place ≤ maxPrice
+pub passed-price : (s : List ℕ) → Past13 s → (m place : ℕ) → m < 12 → 6 ≤ place → place < 23 → word s m place ≤ maxPrice
 unfolding limitAt
 passed-price s h m place hm lo hp = rw (le-ltb place 6 lo) at (passed-limit s h m place hm hp)
 
 -- three numbers of a month: 32 bits hold their sum
-pub month-withdrawn-capped : (s : List ℕ) → refused13 s ≡ false → (m : ℕ) → m < 12 → monthWithdrawn s m ≤ 3 * maxKwh
+pub month-withdrawn-capped : (s : List ℕ) → Past13 s → (m : ℕ) → m < 12 → monthWithdrawn s m ≤ 3 * maxKwh
 unfolding monthWithdrawn
 month-withdrawn-capped s h m l = omega (arith, passed-energy s h m 0 l (lit< tt), passed-energy s h m 1 l (lit< tt), passed-energy s h m 2 l (lit< tt))

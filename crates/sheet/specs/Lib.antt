@@ -1,1 +1,2 @@
 pub mod YearSheet
+pub mod Objections

@@ -1,4 +1,4 @@
--- "Year sheet" of document 01: the sheet's fields as numbers of its bytes, and what refusals 11, 13 and 14 look at.
+-- "Year sheet" of document 01: the sheet's fields as numbers of its bytes, and what refusals 11, 13, 14 and 19 look at.
 -- Months are counted from 0, bands F1 F2 F3 and tiers 1–4 from 0. A number past the end of the bytes is 0.
 use Prim.Native.Nat.{ℕ, _+_, _-_, _*_, _≤_, _<_}
 use mathlib.Core.Path.{_≡_}
@@ -10,8 +10,7 @@ use Rattle.units.specs.Limits.{maxKwh, maxPrice}
 use Rattle.units.specs.Folds.{allBelow, anyBelow}
 use Rattle.codec.specs.Bytes.{number}
 use Rattle.tariff.specs.Tariff.{domestic, monthlyThreshold}
-use Rattle.sheet.specs.declared.Fault.{Fault}
-use Rattle.sheet.specs.declared.Fault.the-variants.{Nowhere, At}
+use Rattle.sheet.specs.declared.Position.{Position}
 
 -- "1,184 bytes. Header of 32 .. Then twelve months of 24 numbers of 32 bits"
 abbrev pub sheetLength : ℕ
@@ -81,14 +80,15 @@ lastWordsFit s = allBelow 12 (λ m. eqb (lastWord s m) 0)
 unfoldable pub refused11 : List ℕ → Bool
 refused11 s = not (eqb (length s) sheetLength && (headerFits s && lastWordsFit s))
 
--- 13: "number above its limit, or a single reading's kWh F2 or F3 not zero". Places 0–5 of a month are kWh, 6–22 prices
--- and rates.
+-- 13: "number above its limit". Places 0–5 of a month are kWh, 6–22 prices and rates; the last one is the zero word, at which
+-- 11 looks.
 unfoldable pub limitAt : ℕ → ℕ
 limitAt place = cond (ltb place 6) maxKwh maxPrice
 
 unfoldable pub aboveLimit : List ℕ → ℕ → ℕ → Bool
 aboveLimit s m place = ltb (limitAt place) (word s m place)
 
+-- 19: "A single reading's filled F2 or F3 becomes a refusal of its own" (ticket 7), each reading by its own type
 unfoldable pub unusedBand : List ℕ → ℕ → Bool
 unusedBand s place =
     (not (byBands (withdrawnReading s)) && (eqb place 1 || eqb place 2))
@@ -100,8 +100,18 @@ strayBand s m place = unusedBand s place && not (eqb (word s m place) 0)
 unfoldable pub atFault : List ℕ → ℕ → ℕ → Bool
 atFault s m place = aboveLimit s m place || strayBand s m place
 
+-- "The earliest number at fault": it is at fault, and none before it is, in its month or in a month before
+unfoldable pub earliest : List ℕ → ℕ → ℕ → Bool
+earliest s m place =
+    atFault s m place
+    && (allBelow place (λ p. not (atFault s m p)) && allBelow m (λ n. allBelow 23 (λ p. not (atFault s n p))))
+
+-- "The earliest number at fault decides; where one number has both faults, 13 goes first."
 unfoldable pub refused13 : List ℕ → Bool
-refused13 s = anyBelow 12 (λ m. anyBelow 23 (λ place. atFault s m place))
+refused13 s = anyBelow 12 (λ m. anyBelow 23 (λ place. earliest s m place && aboveLimit s m place))
+
+unfoldable pub refused19 : List ℕ → Bool
+refused19 s = anyBelow 12 (λ m. anyBelow 23 (λ place. earliest s m place && not (aboveLimit s m place)))
 
 -- 14: "class 1 or 2 with a month above 4,000,000 withdrawn"
 unfoldable pub monthWithdrawn : List ℕ → ℕ → ℕ
@@ -110,22 +120,34 @@ monthWithdrawn s m = withdrawn s m 0 + withdrawn s m 1 + withdrawn s m 2
 unfoldable pub refused14 : ℕ → List ℕ → Bool
 refused14 class s = domestic class && anyBelow 12 (λ m. ltb monthlyThreshold (monthWithdrawn s m))
 
--- The first number at fault, months and places counted from 1: it is at fault, and none before it is, in its month or in
--- a month before
-pub record FaultAt (s : List ℕ) (month place : ℕ) : Type 0 where
-  pub monthFrom1 : 1 ≤ month
-  pub monthTo12 : month ≤ 12
-  pub placeFrom1 : 1 ≤ place
-  pub placeTo23 : place ≤ 23
-  pub here : atFault s (month - 1) (place - 1) ≡ true
-  pub notBefore : (p : ℕ) → p < place - 1 → atFault s (month - 1) p ≡ false
-  pub noMonthBefore : (m : ℕ) → m < month - 1 → (p : ℕ) → p < 23 → atFault s m p ≡ false
+-- Where the earliest number at fault stands, "month, 1–12, and place in it, 1–24"
+pub record EarliestAt (s : List ℕ) (p : Position) : Type 0 where
+  pub monthFrom1 : 1 ≤ p .month
+  pub monthTo12 : p .month ≤ 12
+  pub placeFrom1 : 1 ≤ p .place
+  pub placeTo23 : p .place ≤ 23
+  pub here : earliest s (p .month - 1) (p .place - 1) ≡ true
 
-abbrev pub FirstFault : List ℕ → Fault → Type 0
-FirstFault s Nowhere = (m : ℕ) → m < 12 → (p : ℕ) → p < 23 → atFault s m p ≡ false
-FirstFault s (At month place) = FaultAt s month place
+-- a sheet has at most one
+abbrev pub OneEarliest : Type 0
+OneEarliest = (s : List ℕ) (p q : Position) → EarliestAt s p → EarliestAt s q → p ≡ q
+
+-- "both, in every call that gives them, tell month .. and place in it .. instead of zeros"; every other answer tells zeros there
+abbrev pub tells : ℕ → Bool
+tells refusal = eqb refusal 13 || eqb refusal 19
+
+abbrev pub nowhere : Position
+nowhere = record { month = 0; place = 0 }
+
+pub record Tells (s : List ℕ) (refusal : ℕ) (p : Position) : Type 0 where
+  pub position : tells refusal ≡ true → EarliestAt s p
+  pub zeros : tells refusal ≡ false → p ≡ nowhere
+
+-- a sheet that has passed 13, and 19 at its place: no number of it is at fault
+abbrev pub Past13 : List ℕ → Type 0
+Past13 s = (refused13 s ≡ false) × (refused19 s ≡ false)
 
 -- a sheet that has passed 11 and 13
 pub record Passed (s : List ℕ) : Type 0 where
   pub past11 : refused11 s ≡ false
-  pub past13 : refused13 s ≡ false
+  pub past13 : Past13 s

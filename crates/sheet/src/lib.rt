@@ -1,12 +1,14 @@
-// The year sheet of document 01, "Year sheet": its fields, and what refusals 11, 13 and 14 look at. Every string of bytes
-// is an ordinary input.
+// The year sheet of document 01, "Year sheet": its fields, and what refusals 11, 13, 14 and 19 look at. Every string of
+// bytes is an ordinary input.
 ghost use mathlib.Core.Path.{_≡_};
-ghost use mathlib.Core.Bool.{false};
+ghost use mathlib.Core.Bool.{not, _&&_};
 ghost use Prim.Native.Nat.{_<_};
+ghost use lib.Dec.{eqb, ltb};
 ghost use lib.ListN.{length};
 ghost use Rattle.units.specs.Units.{userNumber, kwh};
 ghost use Rattle.units.specs.Folds.{anyBelow};
-ghost use Rattle.sheet.specs.YearSheet.{sheetLength, sheetUser, sheetYear, withdrawnReading, injectedReading, word, limitAt, unusedBand, atFault, headerFits, lastWordsFit, refused11, refused13, refused14, monthWithdrawn, FirstFault};
+ghost use Rattle.sheet.specs.Objections.{objectionOf, numberOfFault, FirstMonth, FaultTold};
+ghost use Rattle.sheet.specs.YearSheet.{sheetLength, sheetUser, sheetYear, withdrawnReading, injectedReading, word, limitAt, unusedBand, atFault, headerFits, lastWordsFit, refused11, refused14, monthWithdrawn, Past13};
 use tariff::MONTHLY_THRESHOLD;
 use units::Kwh;
 use units::MAX_KWH;
@@ -21,10 +23,19 @@ const MONTHS: usize = 12;
 // A month's numbers that have a limit; the one after them is zero.
 const NUMBERS: usize = 23;
 
-// Where the first number at fault stands: months and places are counted from 1, as document 01 counts them.
-pub enum Fault {
-    Nowhere,
-    At { month: usize, place: usize },
+// Where a number of a sheet stands: its month, 1–12, and its place in the month, 1–24, as the documents count them; zeros for
+// none.
+pub struct Position {
+    pub month: u32,
+    pub place: u32,
+}
+
+pub const NOWHERE: Position = Position { month: 0, place: 0 };
+
+// A refusal, 0 for none, and after 13 or 19 where the number at fault stands.
+pub struct Objection {
+    pub refusal: u32,
+    pub position: Position,
 }
 
 pub fn user(s: &[u8]) -> UserNumber
@@ -121,12 +132,25 @@ fn unused_band(s: &[u8], place: usize) -> bool
         | (!(injected_reading(s) == 1) & ((place == 4) | (place == 5)))
 }
 
+// The tests of a number at its place in a month.
+fn above_limit(number: u32, place: usize) -> bool
+    ensures { λ r. ⌜ r ≡ ltb (limitAt place) number ⌝ }
+{
+    limit_at(place) < number as u64
+}
+
+fn stray_band(s: &[u8], number: u32, place: usize) -> bool
+    ensures { λ r. ⌜ r ≡ (unusedBand (now (s .entry)) place && not (eqb number 0)) ⌝ }
+{
+    unused_band(s, place) & !(number == 0)
+}
+
 fn at_fault(s: &[u8], month: usize, place: usize) -> bool
     requires { ⌜ (month < 12) × (place < 24) ⌝ }
     ensures { λ r. ⌜ r ≡ atFault (now (s .entry)) month place ⌝ }
 {
-    let n = word_at(s, month, place);
-    (limit_at(place) < n as u64) | (unused_band(s, place) & !(n == 0))
+    let number = word_at(s, month, place);
+    above_limit(number, place) | stray_band(s, number, place)
 }
 
 // Some number of the month is at fault. All are looked at, without a branch.
@@ -141,37 +165,80 @@ fn month_wrong(s: &[u8], month: usize) -> bool
     wrong
 }
 
-// 13: the first number above its limit, or in the unused band of a single reading.
-pub fn first_fault(s: &[u8]) -> Fault
-    ensures { λ r. ⌜ FirstFault (now (s .entry)) r ⌝ }
+// Zeros for the position.
+pub fn unplaced(refusal: u32) -> Objection
+    ensures { λ r. ⌜ r ≡ objectionOf refusal ⌝ }
+{
+    Objection {
+        refusal,
+        position: NOWHERE,
+    }
+}
+
+// "Where one number has both faults, 13 goes first."
+fn fault_number(above: bool, stray: bool) -> u32
+    ensures { λ r. ⌜ r ≡ numberOfFault above stray ⌝ }
+{
+    if above {
+        13
+    } else {
+        if stray { 19 } else { 0 }
+    }
+}
+
+// Some number of the sheet is at fault. Nothing is kept of the numbers, so that the test of a month stays short.
+fn some_wrong(s: &[u8]) -> bool
+    ensures { λ r. ⌜ r ≡ anyBelow 12 (λ m. anyBelow 23 (λ place. atFault (now (s .entry)) m place)) ⌝ }
+{
+    let mut wrong = false;
+    for month in 0..MONTHS {
+        wrong = wrong | month_wrong(s, month);
+    }
+    wrong
+}
+
+// The first month with a number at fault, 12 for none.
+fn wrong_month(s: &[u8]) -> usize
+    ensures { λ r. ⌜ FirstMonth (now (s .entry)) r ⌝ }
 {
     for month in 0..MONTHS {
         if month_wrong(s, month) {
-            for place in 0..NUMBERS {
-                if at_fault(s, month, place) {
-                    return Fault::At {
-                        month: month + 1,
-                        place: place + 1,
-                    };
-                }
-            }
+            return month;
         }
     }
-    Fault::Nowhere
+    MONTHS
 }
 
-pub fn number_wrong(s: &[u8]) -> bool
-    ensures { λ r. ⌜ r ≡ refused13 (now (s .entry)) ⌝ }
+// 13 or 19 by the earliest number at fault. Only a month at fault is searched.
+pub fn first_fault(s: &[u8]) -> Objection
+    ensures { λ r. ⌜ FaultTold (now (s .entry)) r ⌝ }
 {
-    match first_fault(s) {
-        Fault::Nowhere => false,
-        Fault::At { month: _, place: _ } => true,
+    if !some_wrong(s) {
+        return unplaced(0);
     }
+    let month = wrong_month(s);
+    if month == MONTHS {
+        return unplaced(0);
+    }
+    for place in 0..NUMBERS {
+        let number = word_at(s, month, place);
+        let above = above_limit(number, place);
+        let stray = stray_band(s, number, place);
+        let refusal = fault_number(above, stray);
+        if refusal != 0 {
+            let position = Position {
+                month: month as u32 + 1,
+                place: place as u32 + 1,
+            };
+            return Objection { refusal, position };
+        }
+    }
+    unplaced(0)
 }
 
 // Energy withdrawn in a month. No number of a sheet past 13 is above 20,000,000, so that 32 bits hold three of them.
 fn month_withdrawn(s: &[u8], month: usize) -> Kwh
-    requires { ⌜ refused13 (now s) ≡ false ⌝ }
+    requires { ⌜ Past13 (now s) ⌝ }
     requires { ⌜ month < 12 ⌝ }
     ensures { λ r. ⌜ r ≡ kwh (monthWithdrawn (now (s .entry)) month) ⌝ }
 {
@@ -181,7 +248,7 @@ fn month_withdrawn(s: &[u8], month: usize) -> Kwh
 
 // 14: a domestic user with a month above the threshold of the monthly method.
 pub fn domestic_excess(class: u8, s: &[u8]) -> bool
-    requires { ⌜ refused13 (now s) ≡ false ⌝ }
+    requires { ⌜ Past13 (now s) ⌝ }
     ensures { λ r. ⌜ r ≡ refused14 class (now (s .entry)) ⌝ }
 {
     let mut above = false;

@@ -3,18 +3,23 @@ use mathlib.Core.Path.{_≡_}
 use denote.Ref.{now}
 use Rattle.book.specs.Book.{used}
 use Rattle.soundness.specs.Verdicts.{freshAnswer, freshAfter}
+use Rattle.sheet.specs.YearSheet.{Tells}
 use Rattle.calls.specs.Calls.{enrol, elect, advance, close, statement}
 use Rattle.answers.specs.Answers.{Answered}
 use Rattle.advance.specs.Advances.{ticksAnswered}
 use Rattle.close.specs.Closings.{sumsAnswered}
 use Rattle.statement.specs.Stated.{sumsStated}
-use Rattle.ssp.specs.Flat.{detailsOf, flatClosed, flatSums}
+use Rattle.ssp.specs.Flat.{interfaceNumber, detailsOf, positionOf, flatClosed, flatSums}
+use Rattle.ssp.proofs.ssp_interface.Reads as interface-of
 use Rattle.ssp.proofs.ssp_fresh.Reads as fresh-of
 use Rattle.ssp.proofs.ssp_enrol.Reads as enrol-of
 use Rattle.ssp.proofs.ssp_elect.Reads as elect-of
 use Rattle.ssp.proofs.ssp_advance.Reads as advance-of
 use Rattle.ssp.proofs.ssp_close.Reads as close-of
 use Rattle.ssp.proofs.ssp_statement.Reads as statement-of
+
+pub interface-says : (κs : _) (a : _) (r : _) (s : _) → interface-of.Post κs a r s → r ≡ interfaceNumber
+interface-says κs a r s said = said
 
 pub fresh-says : (κs : _) (a : _) (r : _) (s : _) → fresh-of.Post κs a r s → (r ≡ freshAnswer (now (a .0))) × (now (s .0) ≡ freshAfter (now (a .0)))
 fresh-says κs a r s said = said
@@ -34,7 +39,8 @@ advance-says κs a r s said = said
 
 pub close-says : (κs : _) (a : _) (r : _) (s : _) → close-of.Post κs a r s
     → Answered (now (a .0)) (close (now (a .1 .0))) 0 (r .refusal) (r .«record») (now (s .0))
-    × (r ≡ flatClosed (r .refusal) (r .«record») (sumsAnswered (now (a .0)) (now (a .1 .0)) (r .refusal)))
+    × (Tells (now (a .1 .0)) (r .refusal) (positionOf (r .month) (r .place))
+    × (r ≡ flatClosed (r .refusal) (r .«record») (positionOf (r .month) (r .place)) (sumsAnswered (now (a .0)) (now (a .1 .0)) (r .refusal))))
 close-says κs a r s said = said
 
 pub statement-says : (κs : _) (a : _) (r : _) (s : _) → statement-of.Post κs a r s

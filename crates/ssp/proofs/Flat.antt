@@ -6,6 +6,8 @@ use lib.IntN.{ℤ}
 use mir.Syntax.{w64}
 use mir.Val.{Fits, toZ, ofZ}
 use mir.Facts.{ofZ-toZ}
+use Rattle.sheet.specs.declared.Position.{Position}
+use Rattle.sheet.specs.YearSheet.{Tells}
 use Rattle.calls.specs.Calls.{close, statement}
 use Rattle.answers.specs.Answers.{Answered}
 use Rattle.accounts.specs.declared.ClosingSums.{ClosingSums}
@@ -14,22 +16,24 @@ use Rattle.statements.specs.declared.Sums as statements
 use Rattle.statement.specs.Stated.{sumsStated}
 use Rattle.ssp.specs.declared.Closed.{Closed}
 use Rattle.ssp.specs.declared.Sums.{Sums}
-use Rattle.ssp.specs.Flat.{flatClosed, flatSums}
+use Rattle.ssp.specs.Flat.{positionOf, flatClosed, flatSums}
 
 -- a signed number stands in its field as its bits, and is read back from them
 pub read-back : {n : ℕ} {z : ℤ} → Fits w64 n → z ≡ toZ w64 n → toZ w64 (ofZ w64 z) ≡ toZ w64 n
 read-back {n} fits e = ap (λ x. toZ w64 (ofZ w64 x)) e ∙ ap (toZ w64) (ofZ-toZ fits)
 
 module _ (b : List ℕ) (refusal named : ℕ) where
-  pub closed-flat : (sheet after : List ℕ) (s : ClosingSums) (r : Closed) → r ≡ flatClosed refusal named s
-      → Answered b (close sheet) 0 refusal named after × (s ≡ sumsAnswered b sheet refusal)
-      → Answered b (close sheet) 0 (r .refusal) (r .«record») after × (r ≡ flatClosed (r .refusal) (r .«record») (sumsAnswered b sheet (r .refusal)))
+  pub closed-flat : (sheet after : List ℕ) (p : Position) (s : ClosingSums) (r : Closed) → r ≡ flatClosed refusal named p s
+      → Answered b (close sheet) 0 refusal named after × (Tells sheet refusal p × (s ≡ sumsAnswered b sheet refusal))
+      → Answered b (close sheet) 0 (r .refusal) (r .«record») after
+      × (Tells sheet (r .refusal) (positionOf (r .month) (r .place)) × (r ≡ flatClosed (r .refusal) (r .«record») (positionOf (r .month) (r .place)) (sumsAnswered b sheet (r .refusal))))
   unfolding flatClosed
-  closed-flat sheet after s r e said =
+  closed-flat sheet after p s r e said =
       subst
-      (λ x. Answered b (close sheet) 0 (x .refusal) (x .«record») after × (x ≡ flatClosed (x .refusal) (x .«record») (sumsAnswered b sheet (x .refusal))))
+      (λ x. Answered b (close sheet) 0 (x .refusal) (x .«record») after
+      × (Tells sheet (x .refusal) (positionOf (x .month) (x .place)) × (x ≡ flatClosed (x .refusal) (x .«record») (positionOf (x .month) (x .place)) (sumsAnswered b sheet (x .refusal)))))
       (sym e)
-      (said .0, ap (flatClosed refusal named) (said .1))
+      (said .0, (said .1 .0, ap (flatClosed refusal named p) (said .1 .1)))
 
   pub sums-flat : (number : ℕ) (s : statements.Sums) (r : Sums) → r ≡ flatSums refusal named s
       → Answered b (statement number) 0 refusal named b × (s ≡ sumsStated b number refusal)

@@ -3,20 +3,30 @@ use Prim.Native.Nat.{ℕ}
 use mir.Syntax.{w64}
 use mir.Val.{toZ}
 use Rattle.values.specs.declared.Details.{Details}
+use Rattle.sheet.specs.declared.Position.{Position}
 use Rattle.accounts.specs.declared.ClosingSums.{ClosingSums}
 use Rattle.statements.specs.declared.Sums as statements
 use Rattle.ssp.specs.declared.Closed.{Closed}
 use Rattle.ssp.specs.declared.Sums.{Sums}
 
+-- SSP_INTERFACE of include/ssp.h, which rises with each landing that changes a struct or a function
+abbrev pub interfaceNumber : ℕ
+interfaceNumber = 2
+
 abbrev pub detailsOf : ℕ → ℕ → ℕ → ℕ → ℕ → ℕ → Details
 detailsOf class plant power year month island =
     record { class = class; plant = plant; power = power; year = year; month = month; island = island }
 
-unfoldable pub flatClosed : ℕ → ℕ → ClosingSums → Closed
-flatClosed refusal named s =
+abbrev pub positionOf : ℕ → ℕ → Position
+positionOf month place = record { month = month; place = place }
+
+unfoldable pub flatClosed : ℕ → ℕ → Position → ClosingSums → Closed
+flatClosed refusal named position s =
     record {
       refusal = refusal;
       «record» = named;
+      month = position .month;
+      place = position .place;
       value = s .value .0;
       cost = s .cost .0;
       «flat_rate» = s .«flat_rate» .0;

@@ -3,16 +3,20 @@
 ghost use mathlib.Core.Path.{_≡_};
 ghost use Rattle.book.specs.Book.{used};
 ghost use Rattle.soundness.specs.Verdicts.{freshAnswer, freshAfter};
+ghost use Rattle.sheet.specs.YearSheet.{Tells};
 ghost use Rattle.calls.specs.Calls.{enrol, elect, advance, close, statement};
 ghost use Rattle.answers.specs.Answers.{Answered};
 ghost use Rattle.advance.specs.Advances.{ticksAnswered};
 ghost use Rattle.close.specs.Closings.{sumsAnswered};
 ghost use Rattle.statement.specs.Stated.{sumsStated};
-ghost use Rattle.ssp.specs.Flat.{detailsOf, flatClosed, flatSums};
+ghost use Rattle.ssp.specs.Flat.{interfaceNumber, detailsOf, positionOf, flatClosed, flatSums};
 use units::Rate;
 use units::UserNumber;
 use units::WideKwh;
 use values::Details;
+
+// The number of this interface, SSP_INTERFACE of the header: it rises with each landing that changes a struct or a function.
+const INTERFACE: u32 = 2;
 
 #[repr(C)]
 pub struct Booked {
@@ -31,6 +35,8 @@ pub struct Advanced {
 pub struct Closed {
     pub refusal: u32,
     pub record: u32,
+    pub month: u32,
+    pub place: u32,
     pub value: u64,
     pub cost: u64,
     pub flat_rate: u64,
@@ -58,13 +64,15 @@ pub struct Sums {
 }
 
 fn flat_closed(closed: close::Closed) -> Closed
-    ensures { λ r. ⌜ r ≡ flatClosed (closed .reply .refusal) (closed .reply .record .0) (closed .sums) ⌝ }
+    ensures { λ r. ⌜ r ≡ flatClosed (closed .reply .refusal) (closed .reply .record .0) (closed .position) (closed .sums) ⌝ }
 {
     let year = closed.sums;
     let balance = accounts::signed(year.balance);
     Closed {
         refusal: closed.reply.refusal,
         record: closed.reply.record.0,
+        month: closed.position.month,
+        place: closed.position.place,
         value: year.value.0,
         cost: year.cost.0,
         flat_rate: year.flat_rate.0,
@@ -95,6 +103,14 @@ fn flat_sums(stated: statement::Stated) -> Sums
         advances: sums.advances.0,
         closed_advances: sums.closed_advances.0,
     }
+}
+
+// Header and library belong together: a program asks the library for the number that its header has.
+#[no_mangle]
+pub extern "C" fn ssp_interface() -> u32
+    ensures { λ r. ⌜ r ≡ interfaceNumber ⌝ }
+{
+    INTERFACE
 }
 
 #[no_mangle]
@@ -183,7 +199,8 @@ pub extern "C" fn ssp_advance(
 #[no_mangle]
 pub extern "C" fn ssp_close(book: &mut [u8], sheet: &[u8]) -> Closed
     ensures { λ r. ⌜ Answered (now (book .entry)) (close (now (sheet .entry))) 0 (r .refusal) (r .record) (now (book .exit)) ⌝ }
-    ensures { λ r. ⌜ r ≡ flatClosed (r .refusal) (r .record) (sumsAnswered (now (book .entry)) (now (sheet .entry)) (r .refusal)) ⌝ }
+    ensures { λ r. ⌜ Tells (now (sheet .entry)) (r .refusal) (positionOf (r .month) (r .place)) ⌝ }
+    ensures { λ r. ⌜ r ≡ flatClosed (r .refusal) (r .record) (positionOf (r .month) (r .place)) (sumsAnswered (now (book .entry)) (now (sheet .entry)) (r .refusal)) ⌝ }
 {
     flat_closed(close::close(book, sheet))
 }

@@ -15,7 +15,7 @@ use Rattle.close.specs.Closings.{sumsAnswered}
 use Rattle.statement.specs.Stated.{sumsStated}
 use Rattle.claims.specs.Runs as beneath
 use Rattle.demand.specs.Lists.{Made, Runs, done, andThen}
-use Rattle.ssp.specs.Flat.{detailsOf}
+use Rattle.ssp.specs.Flat.{detailsOf, positionOf}
 use Rattle.ssp_claims.specs.Exported.{Calls, enrols, elects, advances, closes, states}
 
 lift-call : (b : List ℕ) (m : Made) (b′ : List ℕ) → Calls b m b′ → beneath.Calls b m b′
@@ -31,7 +31,7 @@ lift-call b m b′ (advances κs a r s p) =
     beneath.advances κs (a .0, brought) answer (s .0, brought) (p .0, ap ticks (p .1))
 lift-call b m b′ (closes κs a r s p) =
     let sums = sumsAnswered (now (a .0)) (now (a .1 .0)) (r .refusal) in
-    beneath.closes κs a (record { reply = replyOf (r .refusal) (r .«record»); sums = sums }) s (p .0, refl)
+    beneath.closes κs a (record { reply = replyOf (r .refusal) (r .«record»); position = positionOf (r .month) (r .place); sums = sums }) s (p .0, (p .1 .0, refl))
 lift-call b m b′ (states κs a r s p) =
     let sums = sumsStated (now (a .0)) (a .1 .0) (r .refusal) in
     let brought : UserNumber × Unit {0} = (userNumber (a .1 .0), tt) in

@@ -2,6 +2,7 @@
 use Prim.Native.Nat.{ℕ, zero, suc, _+_, _*_, _≤_, _<_}
 use mathlib.Core.Path.{_≡_, refl, ap₂, _∙_, sym, subst}
 use mathlib.Core.Bool.{Bool, true, false, _&&_, _||_, true≢false}
+use mathlib.Core.Logic.{_⊎_, inl, inr}
 use native.Mathlib.Nat.{mul-suc}
 use native.Mathlib.Decide.{decLt}
 use native.Mathlib.Numerals.{add-one}
@@ -140,3 +141,19 @@ pub any-cong : (n : ℕ) (p q : ℕ → Bool) → ((i : ℕ) → i < n → p i �
 unfolding anyBelow
 any-cong zero p q h = refl
 any-cong (suc n) p q h = ap₂ _||_ (any-cong n p q (λ i l. h i (omega arith))) (h n (omega arith))
+
+-- the first number below n that passes a test, or none does
+pub record First (n : ℕ) (p : ℕ → Bool) : Type 0 where
+  pub at : ℕ
+  pub below : at < n
+  pub here : p at ≡ true
+  pub before : (i : ℕ) → i < at → p i ≡ false
+
+pub first-below : (n : ℕ) (p : ℕ → Bool) → First n p ⊎ ((i : ℕ) → i < n → p i ≡ false)
+first-below zero p = inr (λ i l. let z : ⊥ = omega arith in absurd z)
+first-below (suc n) p = further (first-below n p) (p n) refl
+  where
+    further : First n p ⊎ ((i : ℕ) → i < n → p i ≡ false) → (t : Bool) → p n ≡ t → First (suc n) p ⊎ ((i : ℕ) → i < suc n → p i ≡ false)
+    further (inl f) t e = inl (record { at = f .at; below = omega (arith, f .below); here = f .here; before = f .before })
+    further (inr none) true e = inl (record { at = n; below = omega arith; here = e; before = none })
+    further (inr none) false e = inr (below-suc (λ k. p k ≡ false) n none e)

@@ -9,12 +9,12 @@ use lib.Dec.{lit<, eqb}
 use Rattle.units.specs.Folds.{sumBelow, allBelow, anyBelow}
 use Rattle.units.proofs.Folds.{sum-capped, all-at}
 use Rattle.codec.specs.Bytes.{littleEndian, bytesOf, part, number}
-use Rattle.sheet.specs.YearSheet.{withdrawnReading, injectedReading, word, headerFits, lastWordsFit, refused11, limitAt, aboveLimit, unusedBand, strayBand, atFault, refused13, monthWithdrawn}
+use Rattle.sheet.specs.YearSheet.{withdrawnReading, injectedReading, word, headerFits, lastWordsFit, refused11, limitAt, aboveLimit, unusedBand, strayBand, atFault, earliest, refused13, refused19, monthWithdrawn, Past13}
 use Rattle.sheet.proofs.Limits.{passed-energy, month-withdrawn-capped}
 use Rattle.values.specs.YearsValues.{monthInjected, withdrawnOver, injectedOver}
 use Rattle.values.specs.Bounds.{monthBound, yearBound, SheetsBounded, numbers, months, fullSheet, BoundsReached}
 
-module _ (s : List ℕ) (h : refused13 s ≡ false) where
+module _ (s : List ℕ) (h : Past13 s) where
   injected-month : (m : ℕ) → m < 12 → monthInjected s m ≤ monthBound
   unfolding monthInjected
   injected-month m l = omega (arith, passed-energy s h m 3 l (lit< tt), passed-energy s h m 4 l (lit< tt), passed-energy s h m 5 l (lit< tt))
@@ -42,9 +42,9 @@ past11 : refused11 fullSheet ≡ false
 unfolding fullSheet months numbers allBelow littleEndian bytesOf part number withdrawnReading injectedReading word headerFits lastWordsFit refused11
 past11 = refl
 
-past13 : refused13 fullSheet ≡ false
-unfolding fullSheet months numbers anyBelow littleEndian bytesOf part number withdrawnReading injectedReading word limitAt aboveLimit unusedBand strayBand atFault refused13
-past13 = refl
+past13 : Past13 fullSheet
+unfolding fullSheet months numbers allBelow anyBelow littleEndian bytesOf part number withdrawnReading injectedReading word limitAt aboveLimit unusedBand strayBand atFault earliest refused13 refused19
+past13 = (refl, refl)
 
 withdrawn-full : allBelow 12 (λ m. eqb (monthWithdrawn fullSheet m) monthBound) ≡ true
 unfolding fullSheet months numbers allBelow littleEndian bytesOf part number word monthWithdrawn

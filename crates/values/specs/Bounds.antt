@@ -2,12 +2,11 @@
 -- each. .. both bounds proved and reached".
 use Prim.Native.Nat.{ℕ, zero, suc, _+_, _*_, _≤_, _<_}
 use mathlib.Core.Path.{_≡_}
-use mathlib.Core.Bool.{false}
 use mathlib.Core.List.{List, [], _∷_, _++_}
 use lib.ListN.{replicate}
 use Rattle.units.specs.Limits.{maxKwh, maxPrice}
 use Rattle.codec.specs.Bytes.{bytesOf}
-use Rattle.sheet.specs.YearSheet.{refused13, monthWithdrawn, Passed}
+use Rattle.sheet.specs.YearSheet.{monthWithdrawn, Past13, Passed}
 use Rattle.values.specs.YearsValues.{monthInjected, withdrawnOver, injectedOver}
 
 abbrev pub monthBound : ℕ
@@ -26,7 +25,7 @@ pub record Bounded (s : List ℕ) : Type 0 where
   pub injected-over : (from n : ℕ) → from + n ≤ 12 → injectedOver s from n ≤ monthBound * n
 
 abbrev pub SheetsBounded : Type 0
-SheetsBounded = (s : List ℕ) → refused13 s ≡ false → Bounded s
+SheetsBounded = (s : List ℕ) → Past13 s → Bounded s
 
 -- The sheet that reaches both: user 1, year 2013, readings by bands, every number at its limit.
 unfoldable pub numbers : ℕ → ℕ → List ℕ

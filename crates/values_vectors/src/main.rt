@@ -68,8 +68,9 @@ fn answer_sheet(details: Details, s: &[u8]) -> bool {
     if sheet::header_wrong(s) {
         return say_refused(11);
     }
-    if sheet::number_wrong(s) {
-        return say_refused(13);
+    let fault = sheet::first_fault(s);
+    if fault.refusal != 0 {
+        return say_refused(fault.refusal as u64);
     }
     if sheet::domestic_excess(details.class, s) {
         return say_refused(14);

@@ -152,6 +152,8 @@ mod tests {
         ffi::Closed {
             refusal: 0,
             record: 0,
+            month: 0,
+            place: 0,
             value: 100_001,
             cost: 200_002,
             flat_rate: 300_003,

@@ -1,5 +1,8 @@
 //! The exported functions of libssp.a, as `include/ssp.h` declares them.
 
+/// `SSP_INTERFACE` of the header that these declarations follow.
+pub const INTERFACE: u32 = 2;
+
 #[repr(C)]
 pub struct Booked {
     pub refusal: u32,
@@ -17,6 +20,8 @@ pub struct Advanced {
 pub struct Closed {
     pub refusal: u32,
     pub record: u32,
+    pub month: u32,
+    pub place: u32,
     pub value: u64,
     pub cost: u64,
     pub flat_rate: u64,
@@ -44,6 +49,7 @@ pub struct Sums {
 }
 
 unsafe extern "C" {
+    pub fn ssp_interface() -> u32;
     pub fn ssp_fresh(book: *mut u8, len: usize) -> u32;
     pub fn ssp_enrol(
         book: *mut u8,

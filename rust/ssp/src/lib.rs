@@ -31,10 +31,12 @@
 mod amount;
 mod answers;
 mod ffi;
+mod place;
 mod refusal;
 
 pub use amount::{Balance, Ticks};
 pub use answers::{Closing, Statement};
+pub use place::Place;
 pub use refusal::Refusal;
 
 /// The options of a year: what becomes of value beyond the purchase cost.
@@ -101,6 +103,13 @@ pub struct Order {
     pub estimates: [u64; 2],
 }
 
+/// A library of another interface lays its answers out otherwise: none of its other functions is called.
+fn check_library() {
+    // SAFETY: it takes nothing and answers a number, in every interface from 2 on.
+    let linked = unsafe { ffi::ssp_interface() };
+    assert_eq!(linked, ffi::INTERFACE, "libssp.a has another interface than this crate");
+}
+
 /// A book over bytes that the caller lends.
 ///
 /// It holds nothing but the bytes: they may be stored and lent again later.
@@ -117,12 +126,22 @@ impl<'a> Book<'a> {
     pub const SHEET: usize = 1184;
 
     /// The book that the bytes hold. Whether they hold one is checked by each call.
+    ///
+    /// # Panics
+    ///
+    /// If the linked library has another interface than this crate was written for.
     pub fn over(bytes: &'a mut [u8]) -> Book<'a> {
+        check_library();
         Book { bytes }
     }
 
     /// Makes a fresh book of the bytes, whatever they held. Refused with [`Refusal::Length`] alone.
+    ///
+    /// # Panics
+    ///
+    /// If the linked library has another interface than this crate was written for.
     pub fn fresh(bytes: &'a mut [u8]) -> Result<Book<'a>, Refusal> {
+        check_library();
         // SAFETY: the pointer and the length are those of a slice that is borrowed mutably for the whole call.
         let refusal = unsafe { ffi::ssp_fresh(bytes.as_mut_ptr(), bytes.len()) };
         Refusal::check(refusal, 0)?;
@@ -192,12 +211,12 @@ impl<'a> Book<'a> {
     }
 
     /// Closes the open year of the user that the year sheet names, and opens the next one. Refusals in the order 1 2 11 6 12
-    /// 13 14 3.
+    /// 13 14 3, with 19 at the place of 13.
     pub fn close(&mut self, sheet: &[u8]) -> Result<Closing, Refusal> {
         // SAFETY: the pointers and the lengths are those of two slices that are borrowed for the whole call, the book's
         // mutably, so that they do not overlap.
         let closed = unsafe { ffi::ssp_close(self.bytes.as_mut_ptr(), self.bytes.len(), sheet.as_ptr(), sheet.len()) };
-        Refusal::check(closed.refusal, closed.record)?;
+        Refusal::check_sheet(closed.refusal, closed.record, closed.month, closed.place)?;
         Ok(closed.into())
     }
 

@@ -3,6 +3,8 @@
 use std::error::Error;
 use std::fmt;
 
+use crate::place::Place;
+
 /// Why a call was refused. A refused call leaves every byte of the book as it was.
 #[derive(Clone, Copy, Debug, PartialEq, Eq, Hash)]
 #[non_exhaustive]
@@ -34,10 +36,22 @@ pub enum Refusal {
     Sheet,
     /// 12: the sheet's year is not open or is above 2099.
     SheetYear,
-    /// 13: a number of the sheet is above its limit, or a single reading has kWh in F2 or F3.
-    SheetNumber,
+    /// 13: a number of the sheet is above its limit; of the numbers at fault it is the earliest.
+    AboveLimit {
+        /// Its month, 1 to 12.
+        month: u32,
+        /// Its place in the month.
+        place: Place,
+    },
     /// 14: a domestic user withdrew more than 4,000,000 kWh in a month.
     DomesticMonth,
+    /// 19: a single reading has kWh in F2 or F3; of the numbers at fault it is the earliest.
+    StrayBand {
+        /// Its month, 1 to 12.
+        month: u32,
+        /// Its place in the month.
+        place: Place,
+    },
     /// A number that this crate has no name for: the library is newer than the crate.
     Other(u32),
 }
@@ -45,6 +59,12 @@ pub enum Refusal {
 impl Refusal {
     /// Nothing for an accepted call, else the refusal with this number.
     pub(crate) fn check(refusal: u32, record: u32) -> Result<(), Refusal> {
+        Refusal::check_sheet(refusal, record, 0, 0)
+    }
+
+    /// The same for a call that takes a year sheet, and tells where the number at fault stands.
+    pub(crate) fn check_sheet(refusal: u32, record: u32, month: u32, place: u32) -> Result<(), Refusal> {
+        let place = Place(place);
         Err(match refusal {
             0 => return Ok(()),
             1 => Refusal::Length,
@@ -59,8 +79,9 @@ impl Refusal {
             10 => Refusal::Order,
             11 => Refusal::Sheet,
             12 => Refusal::SheetYear,
-            13 => Refusal::SheetNumber,
+            13 => Refusal::AboveLimit { month, place },
             14 => Refusal::DomesticMonth,
+            19 => Refusal::StrayBand { month, place },
             other => Refusal::Other(other),
         })
     }
@@ -80,8 +101,9 @@ impl Refusal {
             Refusal::Order => 10,
             Refusal::Sheet => 11,
             Refusal::SheetYear => 12,
-            Refusal::SheetNumber => 13,
+            Refusal::AboveLimit { .. } => 13,
             Refusal::DomesticMonth => 14,
+            Refusal::StrayBand { .. } => 19,
             Refusal::Other(number) => number,
         }
     }
@@ -104,8 +126,14 @@ impl fmt::Display for Refusal {
             Refusal::Order => "the rate is above 500,000 or an estimate above 360,000,000 kWh",
             Refusal::Sheet => "the sheet's length, header or a zero word is wrong",
             Refusal::SheetYear => "the sheet's year is not open or is above 2099",
-            Refusal::SheetNumber => "a number of the sheet is above its limit, or a single reading has kWh in F2 or F3",
+            Refusal::AboveLimit { month, place } => {
+                let limit = if place.is_energy() { "20,000,000 kWh" } else { "500,000" };
+                return write!(f, "month {month}: {place} is above {limit}");
+            }
             Refusal::DomesticMonth => "a domestic user withdrew more than 4,000,000 kWh in a month",
+            Refusal::StrayBand { month, place } => {
+                return write!(f, "month {month}: {place} is filled, but the reading is single");
+            }
             Refusal::Other(number) => return write!(f, "refusal {number}"),
         })
     }
@@ -122,9 +150,20 @@ mod tests {
         for number in 1..=20 {
             let refusal = Refusal::check(number, 5).expect_err("not 0");
             assert_eq!(refusal.number(), number);
-            assert_eq!(refusal == Refusal::Other(number), number > 14, "refusal {number} has a name");
+            let named = number <= 14 || number == 19;
+            assert_eq!(refusal != Refusal::Other(number), named, "refusal {number} has a name");
         }
         assert_eq!(Refusal::check(0, 0), Ok(()));
+    }
+
+    #[test]
+    fn a_sheet_names_its_number() {
+        let words = |number, month, place| {
+            Refusal::check_sheet(number, 0, month, place).expect_err("not 0").to_string()
+        };
+        assert_eq!(words(19, 3, 5), "month 3: injected F2 is filled, but the reading is single");
+        assert_eq!(words(13, 12, 1), "month 12: withdrawn F1 is above 20,000,000 kWh");
+        assert_eq!(words(13, 1, 23), "month 1: system rate of tier 4 is above 500,000");
     }
 
     #[test]

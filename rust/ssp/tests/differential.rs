@@ -4,7 +4,7 @@
 mod common;
 
 use common::{Answer, Call, Clerk, Dice, damage};
-use ssp_book::{Balance, Book, Closing, Refusal, Statement, Ticks};
+use ssp_book::{Balance, Book, Closing, Place, Refusal, Statement, Ticks};
 
 /// The peer's answer: the refusal's number, and the answer of an accepted call.
 fn by_peer(call: &Call, bytes: &mut [u8]) -> (u32, Answer) {
@@ -61,7 +61,37 @@ fn by_peer(call: &Call, bytes: &mut [u8]) -> (u32, Answer) {
 }
 
 /// How often each number was answered.
-type Count = [usize; 15];
+type Count = [usize; 20];
+
+/// Whether a number of a sheet is at fault, and with which refusal: "number above its limit", 13, or "A single reading's filled F2
+/// or F3", 19; "where one number has both faults, 13 goes first".
+fn fault(sheet: &[u8], month: u32, place: u32) -> Option<u32> {
+    let at = 32 + 96 * (month as usize - 1) + 4 * (place as usize - 1);
+    let number = u32::from_le_bytes(sheet[at..at + 4].try_into().expect("four bytes"));
+    let single = match place {
+        2 | 3 => sheet[6] == 0,
+        5 | 6 => sheet[7] == 0,
+        _ => false,
+    };
+    match number {
+        _ if number > if place <= 6 { 20_000_000 } else { 500_000 } => Some(13),
+        1.. if single => Some(19),
+        _ => None,
+    }
+}
+
+/// "The earliest number at fault decides".
+fn earliest_fault(sheet: &[u8]) -> Option<(u32, u32, Place)> {
+    let places = (1..=12).flat_map(|month| (1..=23).map(move |place| (month, place)));
+    places
+        .filter_map(|(month, place)| fault(sheet, month, place).map(|number| (number, month, Place(place))))
+        .next()
+}
+
+/// The peer is one of document 01, where 13 has both meanings of 13 and 19.
+fn in_document_01(number: u32) -> u32 {
+    if number == 19 { 13 } else { number }
+}
 
 /// Makes a call by both on equal books, and leaves the books equal.
 fn both(call: &Call, proved: &mut [u8], other: &mut [u8], count: &mut Count) -> bool {
@@ -69,16 +99,25 @@ fn both(call: &Call, proved: &mut [u8], other: &mut [u8], count: &mut Count) -> 
     let answer = call.make(&mut Book::over(proved));
     let (number, others) = by_peer(call, other);
     match answer {
-        Ok(answer) => assert_eq!((0, answer), (number, others), "{call:?}"),
+        Ok(answer) => {
+            assert_eq!((0, answer), (number, others), "{call:?}");
+            count[0] += 1;
+        }
         Err(refusal) => {
-            assert_eq!(refusal.number(), number, "{call:?}: {refusal}");
-            if let Refusal::Damaged { record } = refusal {
-                assert!(faulty.contains(&record), "{record} is named, {faulty:?} are faulty");
+            assert_eq!(in_document_01(refusal.number()), number, "{call:?}: {refusal}");
+            match (refusal, call) {
+                (Refusal::Damaged { record }, _) => {
+                    assert!(faulty.contains(&record), "{record} is named, {faulty:?} are faulty");
+                }
+                (Refusal::AboveLimit { month, place } | Refusal::StrayBand { month, place }, Call::Close(sheet)) => {
+                    assert_eq!(Some((refusal.number(), month, place)), earliest_fault(sheet), "{call:?}");
+                }
+                _ => {}
             }
+            count[refusal.number() as usize] += 1;
         }
     }
     assert!(proved == other, "the books differ after {call:?}");
-    count[number as usize] += 1;
     number == 0
 }
 
@@ -128,9 +167,8 @@ fn answers_and_books_are_equal() {
     }
     let calls: usize = count.iter().sum();
     assert!(calls >= 100_000, "{calls} calls are too few");
-    assert!(
-        count.iter().skip(2).all(|&answers| answers > 0),
-        "a number is missing: {count:?}"
-    );
-    println!("{calls} calls, answers and books equal; answered 0 to 14: {count:?}");
+    for number in [0].into_iter().chain(2..=14).chain([19]) {
+        assert!(count[number] > 0, "{number} was never answered: {count:?}");
+    }
+    println!("{calls} calls, answers and books equal; answered 0 to 19: {count:?}");
 }

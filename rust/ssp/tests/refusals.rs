@@ -4,7 +4,7 @@
 mod household;
 
 use household::household;
-use ssp_book::{Book, Day, Enrolment, Order, Refusal, option, run};
+use ssp_book::{Book, Day, Enrolment, Order, Place, Refusal, option, run};
 
 const DAY: Day = Day {
     year: 2013,
@@ -200,19 +200,33 @@ fn sheet_year() {
 }
 
 #[test]
-fn sheet_number() {
-    for wrong in [
-        sheet(7, 2013, 0, 20_000_001),
-        sheet(7, 2013, 1, 1),
-        sheet(7, 2013, 6, 500_001),
+fn above_limit() {
+    for (place, number, words) in [
+        (0, 20_000_001, "month 1: withdrawn F1 is above 20,000,000 kWh"),
+        (1, 20_000_001, "month 1: withdrawn F2 is above 20,000,000 kWh"),
+        (6, 500_001, "month 1: PUN F1 is above 500,000"),
     ] {
-        let refusal = refused(|book| book.close(&wrong).err());
-        is(
-            refusal,
-            Refusal::SheetNumber,
-            13,
-            "a number of the sheet is above its limit, or a single reading has kWh in F2 or F3",
-        );
+        let refusal = refused(|book| book.close(&sheet(7, 2013, place, number)).err());
+        let expected = Refusal::AboveLimit {
+            month: 1,
+            place: Place(place as u32 + 1),
+        };
+        is(refusal, expected, 13, words);
+    }
+}
+
+#[test]
+fn stray_band() {
+    for (place, words) in [
+        (1, "month 1: withdrawn F2 is filled, but the reading is single"),
+        (5, "month 1: injected F3 is filled, but the reading is single"),
+    ] {
+        let refusal = refused(|book| book.close(&sheet(7, 2013, place, 1)).err());
+        let expected = Refusal::StrayBand {
+            month: 1,
+            place: Place(place as u32 + 1),
+        };
+        is(refusal, expected, 19, words);
     }
 }
 

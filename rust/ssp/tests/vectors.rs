@@ -29,11 +29,15 @@ impl Words<'_> {
     }
 }
 
-/// The line for an answer: 0 and the values, or the refusal's number and as many zeros; the record alone after a 2.
+/// The line for an answer: 0 and the values, or the refusal's number and as many zeros; the record alone after a 2, month and
+/// place alone after a 13 or 19.
 fn line<T>(answer: Result<T, Refusal>, values: usize, shown: impl Fn(T) -> String) -> String {
     match answer {
         Ok(values) => format!("0{}\n", shown(values)),
         Err(Refusal::Damaged { record }) => format!("2 {record}\n"),
+        Err(refusal @ (Refusal::AboveLimit { month, place } | Refusal::StrayBand { month, place })) => {
+            format!("{} {month} {}\n", refusal.number(), place.0)
+        }
         Err(refusal) => format!("{}{}\n", refusal.number(), " 0".repeat(values)),
     }
 }

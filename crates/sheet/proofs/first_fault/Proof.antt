@@ -1,128 +1,151 @@
--- No month before this one has a fault, and this month none before this place.
-use Prim.Native.Nat.{ℕ, _+_, _-_, _≤_, _<_}
-use mathlib.Core.Path.{_≡_, ap, sym, _∙_}
+-- The month is the first with a fault, and has none before this place.
+use Prim.Native.Nat.{ℕ, _-_, _≤_, _<_}
+use mathlib.Core.Path.{_≡_, refl, sym, _∙_}
+use mathlib.Core.Bool.{false, true≢false}
+use native.Mathlib.Nat.{not-suc-le-zero}
 use native.Mathlib.Omega.{arith}
 use denote.Ref.{now}
-use mathlib.Core.Bool.{true, false}
-use mathlib.Core.Logic.{⊎-elim}
-use mathlib.Core.List.{List}
-use native.Mathlib.Nat.{not-suc-le-zero}
 use borrow.Author.Count.{below-more}
-use Rattle.units.proofs.Folds.{none-at}
-use Rattle.sheet.specs.YearSheet.{atFault, FaultAt}
+use borrow.Author.Tests.{not-true}
+use Rattle.units.specs.Folds.{anyBelow}
+use Rattle.units.proofs.Folds.{none-at, none-of}
+use Rattle.sheet.specs.YearSheet.{atFault}
+use Rattle.sheet.proofs.Faults.{Found, told, told-none, as-tested, no-fault, some-fault}
 use borrow.Author.Needs.{needs}
 use Rattle.sheet.proofs.first_fault.Statement.{statement}
 use Rattle.sheet.proofs.first_fault.Tie as tie
 
--- the place where the search stops, counted from 1
-found : (s : List ℕ) (m p : ℕ) → m < 12 → p < 23 → atFault s m p ≡ true
-    → ((q : ℕ) → q < p → atFault s m q ≡ false)
-    → ((n : ℕ) → n < m → (q : ℕ) → q < 23 → atFault s n q ≡ false)
-    → FaultAt s (m + 1) (p + 1)
-found s m p hm hp here row months =
-    let month : m + 1 - 1 ≡ m = omega arith in
-    let place : p + 1 - 1 ≡ p = omega arith in
-    record {
-      monthFrom1 = omega arith;
-      monthTo12 = omega arith;
-      placeFrom1 = omega arith;
-      placeTo23 = omega arith;
-      here = rw (month, place) here;
-      notBefore = rw (month, place) row;
-      noMonthBefore = rw month months;
-    }
-
--- the search of a month that goes to its end finds none
-searched : (s : List ℕ) (m place : ℕ) → ((p : ℕ) → p < place → atFault s m p ≡ false) → 23 ≤ place → (p : ℕ) → p < 23 → atFault s m p ≡ false
-searched s m place none end p l = none p (omega arith)
-
-abbrev Inv-loop2 : tie.InvT-loop2
-Inv-loop2 s month place₀ place = (place ≤ 23) × ((p : ℕ) → p < place → atFault s month p ≡ false)
-
-abbrev μ-loop2 : tie.MeasureT-loop2
-μ-loop2 s month place₀ place = 23 - place
-
 abbrev Inv-loop : tie.InvT-loop
-Inv-loop s month₀ month = (month ≤ 12) × ((m : ℕ) → m < month → (p : ℕ) → p < 23 → atFault s m p ≡ false)
+Inv-loop s month place₀ place = (place ≤ 23) × ((p : ℕ) → p < place → atFault s month p ≡ false)
 
 abbrev μ-loop : tie.MeasureT-loop
-μ-loop s month₀ month = 12 - month
+μ-loop s month place₀ place = 23 - place
 
-loop-holds : tie.Need-loop-holds Inv-loop2 μ-loop2 Inv-loop μ-loop
-loop-holds c = (search needs, λ m l. absurd (not-suc-le-zero l))
+some-wrong-requires : tie.Need-some-wrong-requires Inv-loop μ-loop
+some-wrong-requires c κs = search needs
 
-month-wrong-requires : tie.Need-month-wrong-requires Inv-loop2 μ-loop2 Inv-loop μ-loop
-month-wrong-requires c κs = search needs
+unplaced-requires : tie.Need-unplaced-requires Inv-loop μ-loop
+unplaced-requires c κs = search needs
 
-loop2-holds : tie.Need-loop2-holds Inv-loop2 μ-loop2 Inv-loop μ-loop
-loop2-holds c = (search needs, λ p l. absurd (not-suc-le-zero l))
-
-at-fault-requires : tie.Need-at-fault-requires Inv-loop2 μ-loop2 Inv-loop μ-loop
-at-fault-requires c κs = search needs
-
-add-t8 : tie.Need-add-t8 Inv-loop2 μ-loop2 Inv-loop μ-loop
-add-t8 c = search needs
-
-add-t9 : tie.Need-add-t9 Inv-loop2 μ-loop2 Inv-loop μ-loop
-add-t9 c = search needs
-
-returns : tie.Need-returns Inv-loop2 μ-loop2 Inv-loop μ-loop
+returns : tie.Need-returns Inv-loop μ-loop
 returns c =
-    let month = c .before .before .before .before .before .before .before .loop in
-    let place = c .before .before .before .loop2 in
-    let s = now (c .before .before .before .before .before .before .before .before .before .args .s) in
-    found s (month .month) (place .place) (search needs) (search needs) (sym (c .before .at-fault .ensures) ∙ c .if2 .taken) (place .inv .1) (month .inv .1)
+    let s = now (c .before .before .before .before .args .s) in
+    let none = sym (c .before .before .some-wrong .ensures) ∙ not-true _ (c .before .if1 .taken) in
+    told-none s (λ m l. none-at 23 (atFault s m) (none-at 12 (λ n. anyBelow 23 (λ p. atFault s n p)) none m l)) _ (c .unplaced .ensures)
 
-add-place : tie.Need-add-place Inv-loop2 μ-loop2 Inv-loop μ-loop
+wrong-month-requires : tie.Need-wrong-month-requires Inv-loop μ-loop
+wrong-month-requires c κs = search needs
+
+unplaced-requires-2 : tie.Need-unplaced-requires-2 Inv-loop μ-loop
+unplaced-requires-2 c κs = search needs
+
+returns-2 : tie.Need-returns-2 Inv-loop μ-loop
+returns-2 c =
+    let month = c .before .before .wrong-month in
+    told-none (now (c .before .before .before .before .before .before .args .s)) (λ m l. month .ensures .none-before m (omega (arith, c .before .if2 .taken))) _ (c .unplaced2 .ensures)
+
+-- the month that is searched
+month-to : (c : tie.Else2 Inv-loop μ-loop) → c .before .wrong-month .result < 12
+month-to c = omega (arith, c .if2 .left, c .before .wrong-month .ensures .to12)
+
+loop-holds : tie.Need-loop-holds Inv-loop μ-loop
+loop-holds c = (search needs, λ p l. absurd (not-suc-le-zero l))
+
+word-at-requires : tie.Need-word-at-requires Inv-loop μ-loop
+word-at-requires c κs = (month-to (c .before .before), search needs)
+
+above-limit-requires : tie.Need-above-limit-requires Inv-loop μ-loop
+above-limit-requires c κs = search needs
+
+stray-band-requires : tie.Need-stray-band-requires Inv-loop μ-loop
+stray-band-requires c κs = search needs
+
+fault-number-requires : tie.Need-fault-number-requires Inv-loop μ-loop
+fault-number-requires c κs = search needs
+
+cast-t12 : tie.Need-cast-t12 Inv-loop μ-loop
+cast-t12 c = let m = month-to (c .before .before .before .before .before .before .before) in omega arith
+
+add-t13 : tie.Need-add-t13 Inv-loop μ-loop
+add-t13 c = let m = month-to (c .before .before .before .before .before .before .before) in omega arith
+
+cast-t14 : tie.Need-cast-t14 Inv-loop μ-loop
+cast-t14 c = search needs
+
+add-t15 : tie.Need-add-t15 Inv-loop μ-loop
+add-t15 c = search needs
+
+returns-3 : tie.Need-returns-3 Inv-loop μ-loop
+returns-3 c =
+    let number = c .before in
+    let read = number .before .before .before in
+    let place = read .before .before .loop in
+    let month = read .before .before .before .before .wrong-month in
+    let s = now (read .before .before .before .before .before .before .before .before .args .s) in
+    let is = as-tested s (month .result) (place .place) (read .word-at .ensures) (number .before .before .above-limit .ensures) (number .before .stray-band .ensures) (number .fault-number .ensures) in
+    let found : Found s =
+    record {
+      m = month .result;
+      place = place .place;
+      month-to = month-to (c .before .before .before .before .before .before .before);
+      place-to = search needs;
+      here = record { at-fault = some-fault s (month .result) (place .place) is (c .if3 .taken); row = place .inv .1; months = month .ensures .none-before };
+    } in
+    told s found _ is refl refl
+
+add-place : tie.Need-add-place Inv-loop μ-loop
 add-place c = search needs
 
-loop2-less : tie.Need-loop2-less Inv-loop2 μ-loop2 Inv-loop μ-loop
-loop2-less c = search needs
-
-loop2-again : tie.Need-loop2-again Inv-loop2 μ-loop2 Inv-loop μ-loop
-loop2-again c =
-    (search needs, below-more _ _ (c .before .before .before .loop2 .inv .1) (sym (c .before .at-fault .ensures) ∙ c .if2 .left))
-
-add-month : tie.Need-add-month Inv-loop2 μ-loop2 Inv-loop μ-loop
-add-month c = search needs
-
-loop-less : tie.Need-loop-less Inv-loop2 μ-loop2 Inv-loop μ-loop
+loop-less : tie.Need-loop-less Inv-loop μ-loop
 loop-less c = search needs
 
-loop-again : tie.Need-loop-again Inv-loop2 μ-loop2 Inv-loop μ-loop
+loop-again : tie.Need-loop-again Inv-loop μ-loop
 loop-again c =
-    let month = c .before .before .before .loop in
-    let s = now (c .before .before .before .before .before .args .s) in
-    let none : (p : ℕ) → p < 23 → atFault s (month .month) p ≡ false =
-    ⊎-elim (λ w. searched s (month .month) (w .1 .place) (w .1 .inv .1) (w .2 .left))
-    (λ w. none-at 23 (atFault s (month .month)) (sym (c .before .month-wrong .ensures) ∙ w .left)) (c .if1 .came) in
-    (search needs, below-more (λ m. (p : ℕ) → p < 23 → atFault s m p ≡ false) _ (month .inv .1) none)
+    let number = c .before in
+    let read = number .before .before .before in
+    let place = read .before .before .loop in
+    let month = read .before .before .before .before .wrong-month in
+    let s = now (read .before .before .before .before .before .before .before .before .args .s) in
+    let is = as-tested s (month .result) (place .place) (read .word-at .ensures) (number .before .before .above-limit .ensures) (number .before .stray-band .ensures) (number .fault-number .ensures) in
+    (search needs, below-more _ _ (place .inv .1) (no-fault s (month .result) (place .place) is (c .if3 .left)))
 
-returns-2 : tie.Need-returns-2 Inv-loop2 μ-loop2 Inv-loop μ-loop
-returns-2 c m l p b =
-    let month = c .before .loop in
-    let end : month .month ≡ 12 = omega arith in
-    month .inv .1 m (rw end l) p b
+unplaced-requires-3 : tie.Need-unplaced-requires-3 Inv-loop μ-loop
+unplaced-requires-3 c κs = search needs
+
+-- a month at fault is not searched to its end
+returns-4 : tie.Need-returns-4 Inv-loop μ-loop
+returns-4 c =
+    let place = c .before .before .loop in
+    let month = c .before .before .before .before .wrong-month in
+    let s = now (c .before .before .before .before .before .before .before .before .args .s) in
+    let end : place .place ≡ 23 = omega arith in
+    let none = none-of 23 (atFault s (month .result)) (λ p l. place .inv .1 p (rw end l)) in
+    absurd (true≢false (sym (month .ensures .some (month-to (c .before .before .before))) ∙ none))
 
 pub first-fault-spec : {M : Type 1} → statement M
 first-fault-spec =
     tie.close
     (tie.spec
-    Inv-loop2
-    μ-loop2
     Inv-loop
     μ-loop
-    loop-holds
-    month-wrong-requires
-    loop2-holds
-    at-fault-requires
-    add-t8
-    add-t9
+    some-wrong-requires
+    unplaced-requires
     returns
+    wrong-month-requires
+    unplaced-requires-2
+    returns-2
+    loop-holds
+    word-at-requires
+    above-limit-requires
+    stray-band-requires
+    fault-number-requires
+    cast-t12
+    add-t13
+    cast-t14
+    add-t15
+    returns-3
     add-place
-    loop2-less
-    loop2-again
-    add-month
     loop-less
     loop-again
-    returns-2)
+    unplaced-requires-3
+    returns-4)

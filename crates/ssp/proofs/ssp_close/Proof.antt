@@ -15,7 +15,7 @@ same-length c = search needs
 
 returns : tie.Need-returns
 returns c = let said = c .before .before .before .close in
-    closed-flat _ (said .result .reply .refusal) (said .result .reply .«record» .0) _ _ (said .result .sums) (c .flat-closed .result) (c .flat-closed .ensures) (said .ensures)
+    closed-flat _ (said .result .reply .refusal) (said .result .reply .«record» .0) _ _ (said .result .position) (said .result .sums) (c .flat-closed .result) (c .flat-closed .ensures) (said .ensures)
 
 pub ssp-close-spec : {M : Type 1} → statement M
 ssp-close-spec = tie.close (tie.spec close-requires flat-closed-requires same-length returns)

@@ -1,5 +1,7 @@
 -- A sheet that is valued has passed 11 and 13.
 use mathlib.Core.Path.{sym, _∙_}
+use denote.Ref.{now}
+use Rattle.sheet.proofs.Faults.{told-past}
 use borrow.Author.Needs.{needs}
 use Rattle.values_vectors.proofs.answer_sheet.Statement.{statement}
 use Rattle.values_vectors.proofs.answer_sheet.Tie as tie
@@ -13,8 +15,11 @@ say-refused-requires c κs = search needs
 returns : tie.Need-returns
 returns c = search needs
 
-number-wrong-requires : tie.Need-number-wrong-requires
-number-wrong-requires c κs = search needs
+first-fault-requires : tie.Need-first-fault-requires
+first-fault-requires c κs = search needs
+
+cast-say-refused : tie.Need-cast-say-refused
+cast-say-refused c = search needs
 
 say-refused-requires-2 : tie.Need-say-refused-requires-2
 say-refused-requires-2 c κs = search needs
@@ -23,7 +28,9 @@ returns-2 : tie.Need-returns-2
 returns-2 c = search needs
 
 domestic-excess-requires : tie.Need-domestic-excess-requires
-domestic-excess-requires c κs = sym (c .before .number-wrong .ensures) ∙ c .if2 .left
+domestic-excess-requires c κs =
+    let fault = c .before .before .first-fault in
+    told-past (now (c .before .before .before .before .before .before .args .s)) (fault .result) (fault .ensures) (c .if2 .left)
 
 say-refused-requires-3 : tie.Need-say-refused-requires-3
 say-refused-requires-3 c κs = search needs
@@ -33,9 +40,12 @@ returns-3 c = search needs
 
 year-values-requires : tie.Need-year-values-requires
 year-values-requires c κs =
+    let none = c .before .before in
+    let fault = none .before .before .first-fault in
+    let header = none .before .before .before in
     record {
-      past11 = sym (c .before .before .before .before .before .header-wrong .ensures) ∙ c .before .before .before .before .if1 .left;
-      past13 = sym (c .before .before .before .number-wrong .ensures) ∙ c .before .before .if2 .left;
+      past11 = sym (header .before .header-wrong .ensures) ∙ header .if1 .left;
+      past13 = told-past (now (header .before .before .before .args .s)) (fault .result) (fault .ensures) (none .if2 .left);
     }
 
 say-values-requires : tie.Need-say-values-requires
@@ -51,7 +61,8 @@ answer-sheet-spec =
     header-wrong-requires
     say-refused-requires
     returns
-    number-wrong-requires
+    first-fault-requires
+    cast-say-refused
     say-refused-requires-2
     returns-2
     domestic-excess-requires
