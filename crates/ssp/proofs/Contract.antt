@@ -8,6 +8,7 @@ use Rattle.answers.specs.Answers.{Answered}
 use Rattle.advance.specs.Advances.{ticksAnswered}
 use Rattle.close.specs.Closings.{sumsAnswered}
 use Rattle.statement.specs.Stated.{sumsStated}
+use Rattle.sheet_archive.specs.Archive.{answer, archiveAfter, sheetAfter}
 use Rattle.ssp.specs.Flat.{detailsOf, flatClosed, flatSums}
 use Rattle.ssp.proofs.ssp_fresh.Reads as fresh-of
 use Rattle.ssp.proofs.ssp_enrol.Reads as enrol-of
@@ -15,6 +16,8 @@ use Rattle.ssp.proofs.ssp_elect.Reads as elect-of
 use Rattle.ssp.proofs.ssp_advance.Reads as advance-of
 use Rattle.ssp.proofs.ssp_close.Reads as close-of
 use Rattle.ssp.proofs.ssp_statement.Reads as statement-of
+use Rattle.ssp.proofs.ssp_archive.Reads as archive-of
+use Rattle.ssp.proofs.ssp_restore.Reads as restore-of
 
 pub fresh-says : (κs : _) (a : _) (r : _) (s : _) → fresh-of.Post κs a r s → (r ≡ freshAnswer (now (a .0))) × (now (s .0) ≡ freshAfter (now (a .0)))
 fresh-says κs a r s said = said
@@ -41,3 +44,11 @@ pub statement-says : (κs : _) (a : _) (r : _) (s : _) → statement-of.Post κs
     → Answered (now (a .0)) (statement (a .1 .0)) 0 (r .refusal) (r .«record») (now (a .0))
     × (r ≡ flatSums (r .refusal) (r .«record») (sumsStated (now (a .0)) (a .1 .0) (r .refusal)))
 statement-says κs a r s said = said
+
+pub archive-says : (κs : _) (a : _) (r : _) (s : _) → archive-of.Post κs a r s
+    → (r ≡ answer (now (a .0)) (now (a .1 .0))) × (now (s .1 .0) ≡ archiveAfter (now (a .0)) (now (a .1 .0)))
+archive-says κs a r s said = said
+
+pub restore-says : (κs : _) (a : _) (r : _) (s : _) → restore-of.Post κs a r s
+    → (r ≡ answer (now (a .0)) (now (a .1 .0))) × (now (s .1 .0) ≡ sheetAfter (now (a .0)) (now (a .1 .0)))
+restore-says κs a r s said = said

@@ -1,4 +1,4 @@
-// The book's calls as other programs link them (include/ssp.h). Each answer is flat, of plain numbers, and is by definition the
+// The calls as other programs link them (include/ssp.h). Each answer is flat, of plain numbers, and is by definition the
 // answer of the call beneath it.
 ghost use mathlib.Core.Path.{_≡_};
 ghost use Rattle.book.specs.Book.{used};
@@ -8,6 +8,7 @@ ghost use Rattle.answers.specs.Answers.{Answered};
 ghost use Rattle.advance.specs.Advances.{ticksAnswered};
 ghost use Rattle.close.specs.Closings.{sumsAnswered};
 ghost use Rattle.statement.specs.Stated.{sumsStated};
+ghost use Rattle.sheet_archive.specs.Archive.{answer, archiveAfter, sheetAfter};
 ghost use Rattle.ssp.specs.Flat.{detailsOf, flatClosed, flatSums};
 use units::Rate;
 use units::UserNumber;
@@ -194,4 +195,20 @@ pub extern "C" fn ssp_statement(book: &[u8], number: u32) -> Sums
     ensures { λ r. ⌜ r ≡ flatSums (r .refusal) (r .record) (sumsStated (now (book .entry)) number (r .refusal)) ⌝ }
 {
     flat_sums(statement::statement(book, UserNumber(number)))
+}
+
+#[no_mangle]
+pub extern "C" fn ssp_archive(sheet: &[u8], archive: &mut [u8]) -> u32
+    ensures { λ r. ⌜ r ≡ answer (now (sheet .entry)) (now (archive .entry)) ⌝ }
+    ensures { λ _. ⌜ now (archive .exit) ≡ archiveAfter (now (sheet .entry)) (now (archive .entry)) ⌝ }
+{
+    sheet_archive::archive(sheet, archive)
+}
+
+#[no_mangle]
+pub extern "C" fn ssp_restore(archive: &[u8], sheet: &mut [u8]) -> u32
+    ensures { λ r. ⌜ r ≡ answer (now (archive .entry)) (now (sheet .entry)) ⌝ }
+    ensures { λ _. ⌜ now (sheet .exit) ≡ sheetAfter (now (archive .entry)) (now (sheet .entry)) ⌝ }
+{
+    sheet_archive::restore(archive, sheet)
 }

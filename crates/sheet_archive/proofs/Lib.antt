@@ -1,0 +1,6 @@
+pub mod Pieces
+pub mod Tables
+pub mod Columns
+pub mod Writing
+pub mod Calls
+pub mod RoundTrips

@@ -1,0 +1,158 @@
+// Sheets for the archive (document 02, ticket 14): "24 columns of twelve, each number after the first of its column replaced
+// by its difference from the one before, modulo 2^32", and the way back. Both work on any bytes.
+ghost use mathlib.Core.Path.{_≡_};
+ghost use Prim.Native.Nat.{_+_, _*_, _<_};
+ghost use lib.ListN.{length};
+ghost use Rattle.codec.specs.Bytes.{stored};
+ghost use Rattle.sheet.specs.YearSheet.{sheetLength};
+ghost use Rattle.sheet_archive.specs.Tables.{headerLength, header};
+ghost use Rattle.sheet_archive.specs.Archive.{minus, plus, inSheet, inArchive, sheetColumns, sheetMonths};
+ghost use Rattle.sheet_archive.specs.Archive.{sizesFit, answer, archiveAfter, sheetAfter};
+ghost use Rattle.sheet_archive.specs.Steps.{columnWritten, before, monthWritten};
+
+const LENGTH: usize = 1184;
+
+const HEADER: usize = 32;
+
+const COLUMNS: usize = 24;
+
+const MONTHS: usize = 12;
+
+// A buffer of another size.
+const WRONG_SIZE: u32 = 27;
+
+fn sizes_fit(source: usize, destination: usize) -> bool
+    ensures { λ r. ⌜ r ≡ sizesFit source destination ⌝ }
+{
+    (source == LENGTH) & (destination == LENGTH)
+}
+
+// Where a number stands, in a sheet and in an archive.
+fn sheet_place(column: usize, month: usize) -> usize
+    requires { ⌜ (column < sheetColumns) × (month < sheetMonths) ⌝ }
+    ensures { λ r. ⌜ r ≡ headerLength + 4 * (sheetColumns * month + column) ⌝ }
+{
+    HEADER + 4 * (COLUMNS * month + column)
+}
+
+fn archive_place(column: usize, month: usize) -> usize
+    requires { ⌜ (column < sheetColumns) × (month < sheetMonths) ⌝ }
+    ensures { λ r. ⌜ r ≡ headerLength + 4 * (sheetMonths * column + month) ⌝ }
+{
+    HEADER + 4 * (MONTHS * column + month)
+}
+
+fn in_sheet(sheet: &[u8], column: usize, month: usize) -> u32
+    requires { ⌜ length (now sheet) ≡ sheetLength ⌝ }
+    requires { ⌜ (column < sheetColumns) × (month < sheetMonths) ⌝ }
+    ensures { λ r. ⌜ r ≡ inSheet sheetColumns (now (sheet .entry)) column month ⌝ }
+{
+    codec::load_u32(sheet, sheet_place(column, month))
+}
+
+fn in_archive(archive: &[u8], column: usize, month: usize) -> u32
+    requires { ⌜ length (now archive) ≡ sheetLength ⌝ }
+    requires { ⌜ (column < sheetColumns) × (month < sheetMonths) ⌝ }
+    ensures { λ r. ⌜ r ≡ inArchive sheetMonths (now (archive .entry)) column month ⌝ }
+{
+    codec::load_u32(archive, archive_place(column, month))
+}
+
+// The number of the month before in a sheet's column, 0 before the first.
+fn before_in_sheet(sheet: &[u8], column: usize, month: usize) -> u32
+    requires { ⌜ length (now sheet) ≡ sheetLength ⌝ }
+    requires { ⌜ (column < sheetColumns) × (month < sheetMonths) ⌝ }
+    ensures { λ r. ⌜ r ≡ before (inSheet sheetColumns (now (sheet .entry)) column) month ⌝ }
+{
+    if month == 0 {
+        0
+    } else {
+        in_sheet(sheet, column, month - 1)
+    }
+}
+
+// Modulo 2^32.
+fn difference(x: u32, y: u32) -> u32
+    ensures { λ r. ⌜ r ≡ minus x y ⌝ }
+{
+    std::num::wrapping_sub_u32(x, y)
+}
+
+fn sum(x: u32, y: u32) -> u32
+    ensures { λ r. ⌜ r ≡ plus x y ⌝ }
+{
+    std::num::wrapping_add_u32(x, y)
+}
+
+// "The header goes first."
+fn copy_header(from: &[u8], to: &mut [u8])
+    requires { ⌜ (length (now from) ≡ sheetLength) × (length (now to) ≡ sheetLength) ⌝ }
+    ensures { λ _. ⌜ now (to .exit) ≡ stored 0 (header (now (from .entry))) (now (to .entry)) ⌝ }
+{
+    for k in 0..HEADER / 4 {
+        codec::store_u32(to, 4 * k, codec::load_u32(from, 4 * k));
+    }
+}
+
+// A column of the sheet goes to its line of the archive: "each number after the first of its column replaced by its
+// difference from the one before".
+fn archive_column(sheet: &[u8], archive: &mut [u8], column: usize)
+    requires { ⌜ (length (now sheet) ≡ sheetLength) × (length (now archive) ≡ sheetLength) ⌝ }
+    requires { ⌜ column < sheetColumns ⌝ }
+    ensures { λ _. ⌜ now (archive .exit) ≡ columnWritten (now (sheet .entry)) column (now (archive .entry)) ⌝ }
+{
+    let mut last = in_sheet(sheet, column, 0);
+    codec::store_u32(archive, archive_place(column, 0), last);
+    for month in 1..MONTHS {
+        let number = in_sheet(sheet, column, month);
+        codec::store_u32(
+            archive,
+            archive_place(column, month),
+            difference(number, last),
+        );
+        last = number;
+    }
+}
+
+// A month of the sheet: each number is the one before it in its column with the archive's difference.
+fn restore_month(archive: &[u8], sheet: &mut [u8], month: usize)
+    requires { ⌜ (length (now archive) ≡ sheetLength) × (length (now sheet) ≡ sheetLength) ⌝ }
+    requires { ⌜ month < sheetMonths ⌝ }
+    ensures { λ _. ⌜ now (sheet .exit) ≡ monthWritten (now (archive .entry)) month (now (sheet .entry)) ⌝ }
+{
+    for column in 0..COLUMNS {
+        let last = before_in_sheet(sheet, column, month);
+        let number = sum(last, in_archive(archive, column, month));
+        codec::store_u32(sheet, sheet_place(column, month), number);
+    }
+}
+
+// Writes the archive of a sheet. The answer is 0, or the number of the refusal, which leaves the archive as it was.
+pub fn archive(sheet: &[u8], archive: &mut [u8]) -> u32
+    ensures { λ r. ⌜ r ≡ answer (now (sheet .entry)) (now (archive .entry)) ⌝ }
+    ensures { λ _. ⌜ now (archive .exit) ≡ archiveAfter (now (sheet .entry)) (now (archive .entry)) ⌝ }
+{
+    if !sizes_fit(sheet.len(), archive.len()) {
+        return WRONG_SIZE;
+    }
+    copy_header(sheet, archive);
+    for column in 0..COLUMNS {
+        archive_column(sheet, archive, column);
+    }
+    0
+}
+
+// Writes the sheet of an archive. The answer is 0, or the number of the refusal, which leaves the sheet as it was.
+pub fn restore(archive: &[u8], sheet: &mut [u8]) -> u32
+    ensures { λ r. ⌜ r ≡ answer (now (archive .entry)) (now (sheet .entry)) ⌝ }
+    ensures { λ _. ⌜ now (sheet .exit) ≡ sheetAfter (now (archive .entry)) (now (sheet .entry)) ⌝ }
+{
+    if !sizes_fit(archive.len(), sheet.len()) {
+        return WRONG_SIZE;
+    }
+    copy_header(archive, sheet);
+    for month in 0..MONTHS {
+        restore_month(archive, sheet, month);
+    }
+    0
+}
