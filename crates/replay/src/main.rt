@@ -8,6 +8,7 @@ use close::Closed;
 use input::Found;
 use listing_text::Listed;
 use output::Row;
+use script::Digits;
 use script::Order;
 use statement::Stated;
 use statements::Sums;
@@ -144,6 +145,46 @@ fn close_year(book: &mut [u8], line: &[u8], at: usize) -> bool {
     say_closed(close::close(book, &sheet[..count]))
 }
 
+// Prints the number of an answer, and of an accepted one the buffer after it, by way of `out`.
+fn say_buffer(refusal: u32, buffer: &[u8], out: &mut [u8]) -> bool
+    requires { ⌜ 2 * length (now buffer) + 1 ≤ length (now out) ⌝ }
+{
+    if refusal != 0 {
+        return say_fresh(refusal);
+    }
+    if !say_text(b"0 ") {
+        return false;
+    }
+    dump(buffer, out)
+}
+
+fn archive_or_restore(back: bool, source: &[u8], buffer: &mut [u8]) -> u32 {
+    if back {
+        sheet_archive::restore(source, buffer)
+    } else {
+        sheet_archive::archive(source, buffer)
+    }
+}
+
+// A sheet to its archive, or back, into a buffer that holds the second word's bytes.
+fn rearrange(line: &[u8], source: Digits, buffer: Digits, back: bool, out: &mut [u8]) -> bool
+    requires { ⌜ 2 * longestBook + 1 ≤ length (now out) ⌝ }
+{
+    let mut from = io::large_buffer();
+    let Bytes::Read(read) = text::hex_from(text::front(line, source.to), source.from, &mut from)
+    else {
+        return say_error();
+    };
+    let mut to = io::large_buffer();
+    let Bytes::Read(room) = text::hex_from(text::front(line, buffer.to), buffer.from, &mut to)
+    else {
+        return say_error();
+    };
+    let lent = &mut to[..room];
+    let refusal = archive_or_restore(back, &from[..read], lent);
+    say_buffer(refusal, lent, out)
+}
+
 fn new_book(buffer: &mut [u8], len: usize) -> usize
     requires { ⌜ len ≤ length (now buffer) ⌝ }
     ensures { λ r. ⌜ r ≤ length (now (buffer .exit)) ⌝ }
@@ -168,9 +209,10 @@ fn load_book(buffer: &mut [u8], len: usize, line: &[u8], at: usize) -> Step
     }
 }
 
-// Makes a call on the book and prints its answer.
+// Makes a call, on the book or on sheets, and prints its answer.
 fn call(order: Order, line: &[u8], book: &mut [u8], out: &mut [u8]) -> bool
     requires { ⌜ 2 * length (now book) + 1 ≤ length (now out) ⌝ }
+    requires { ⌜ 2 * longestBook + 1 ≤ length (now out) ⌝ }
 {
     match order {
         Order::Fresh => say_fresh(soundness::fresh(book)),
@@ -221,6 +263,8 @@ fn call(order: Order, line: &[u8], book: &mut [u8], out: &mut [u8]) -> bool
         }
         Order::Close(at) => close_year(book, line, at),
         Order::Statement(number) => say_stated(statement::statement(book, UserNumber(number))),
+        Order::Archive { sheet, buffer } => rearrange(line, sheet, buffer, false, out),
+        Order::Restore { archive, buffer } => rearrange(line, archive, buffer, true, out),
         Order::Dump => dump(book, out),
         Order::List => list(book, out),
         Order::New(_) => say_error(),
