@@ -15,13 +15,14 @@
  *   user, each advance and each closing one more. docs/FORMAT.md has the book byte by byte. A buffer becomes a book by
  *   ssp_fresh. It may then be stored, copied or moved between calls; the bytes are the whole of it.
  *
- *   Every call but ssp_fresh checks the whole book first, so a book of any bytes is safe to pass: damage is answered with
+ *   Every call on a book but ssp_fresh checks the whole of it first, so any bytes are safe to pass: damage is answered with
  *   refusal 2.
  *
  * ANSWERS
  *
  *   `refusal` is 0 for an accepted call, or the number of the first objection that holds, in the order that each function
- *   names. A refused call leaves every byte of the book as it was, and every value in its answer is 0.
+ *   names. A refused call leaves every byte of the book, or of the buffer that it writes, as it was, and every value in its
+ *   answer is 0.
  *   `record` is, after refusal 2, the index of a faulty record (which one of several is not laid down); after an accepted
  *   ssp_enrol, the index of the new record; else 0.
  *
@@ -40,14 +41,16 @@
  *   12  The sheet's year is not the user's open year, or is above 2099.
  *   13  A number of the sheet is above its limit, or a single reading has kWh in F2 or F3.
  *   14  A domestic user (class 1 or 2) withdrew more than 4,000,000 kWh in a month.
+ *   27  A buffer of ssp_archive or ssp_restore is not of SSP_SHEET_LENGTH bytes.
  *
  * MEMORY
  *
- *   `book` points to `len` bytes, and `sheet` to `sheet_len` bytes, that are valid for the whole call: readable, and for a
- *   `book` that is not const also writable. They need no alignment. Book and sheet must not overlap. During the call nobody
- *   else may write to them, nor read a book that is not const: no other thread, no signal handler, no device. Once a call has
- *   returned, the library holds nothing. No length has a minimum or a maximum that the caller must keep. With length 0 no byte
- *   is read or written and the pointer may be NULL: such a book is refused with 1, such a sheet with 11.
+ *   `book` points to `len` bytes, `sheet` to `sheet_len` and `archive` to `archive_len`, that are valid for the whole call:
+ *   readable, and what is not const also writable. They need no alignment. The buffers of one call must not overlap. During the
+ *   call nobody else may write to them, nor read one that is not const: no other thread, no signal handler, no device. Once a
+ *   call has returned, the library holds nothing. No length has a minimum or a maximum that the caller must keep. With length 0
+ *   no byte is read or written and the pointer may be NULL: such a book is refused with 1, such a sheet with 11, and by
+ *   ssp_archive and ssp_restore with 27.
  *
  * THREADS
  *
@@ -178,6 +181,20 @@ struct ssp_closed ssp_close(uint8_t *book, size_t len, const uint8_t *sheet, siz
 
 /* States a user's account. Never writes. Refusals in the order 1 2 6. */
 struct ssp_sums ssp_statement(const uint8_t *book, size_t len, uint32_t number);
+
+/*
+ * Writes the archive of a year sheet: the header, then 24 columns of twelve, one for each quantity over the year, each number
+ * after the first of its column replaced by its difference from the one before, modulo 2^32. docs/FORMAT.md has it byte by byte.
+ * Nothing of the sheet is checked but its length. Returns 0, or 27 where either length is not SSP_SHEET_LENGTH, and then leaves
+ * every byte of the archive.
+ */
+uint32_t ssp_archive(const uint8_t *sheet, size_t sheet_len, uint8_t *archive, size_t archive_len);
+
+/*
+ * Writes the year sheet of an archive: what ssp_archive made of a sheet becomes that sheet again, byte by byte. Any bytes are an
+ * archive. Returns 0, or 27 where either length is not SSP_SHEET_LENGTH, and then leaves every byte of the sheet.
+ */
+uint32_t ssp_restore(const uint8_t *archive, size_t archive_len, uint8_t *sheet, size_t sheet_len);
 
 #ifdef __cplusplus
 }

@@ -9,14 +9,12 @@ ghost use Rattle.sheet_archive.specs.Tables.{headerLength, header};
 ghost use Rattle.sheet_archive.specs.Archive.{minus, plus, inSheet, inArchive, sheetColumns, sheetMonths};
 ghost use Rattle.sheet_archive.specs.Archive.{sizesFit, answer, archiveAfter, sheetAfter};
 ghost use Rattle.sheet_archive.specs.Steps.{columnWritten, before, monthWritten};
+use sheet::HEADER;
+use sheet::LENGTH;
+use sheet::MONTHS;
 
-const LENGTH: usize = 1184;
-
-const HEADER: usize = 32;
-
+// A month's numbers, the last one too.
 const COLUMNS: usize = 24;
-
-const MONTHS: usize = 12;
 
 // A buffer of another size.
 const WRONG_SIZE: u32 = 27;

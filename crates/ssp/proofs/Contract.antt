@@ -1,6 +1,7 @@
 -- What the contract of each exported function says, of every call: a the arguments, r the answer, s the arguments at the end.
 use mathlib.Core.Path.{_≡_}
 use denote.Ref.{now}
+use Rattle.sheet_archive.specs.Archive.{answer, archiveAfter, sheetAfter}
 use Rattle.book.specs.Book.{used}
 use Rattle.soundness.specs.Verdicts.{freshAnswer, freshAfter}
 use Rattle.calls.specs.Calls.{enrol, elect, advance, close, statement}
@@ -8,7 +9,6 @@ use Rattle.answers.specs.Answers.{Answered}
 use Rattle.advance.specs.Advances.{ticksAnswered}
 use Rattle.close.specs.Closings.{sumsAnswered}
 use Rattle.statement.specs.Stated.{sumsStated}
-use Rattle.sheet_archive.specs.Archive.{answer, archiveAfter, sheetAfter}
 use Rattle.ssp.specs.Flat.{detailsOf, flatClosed, flatSums}
 use Rattle.ssp.proofs.ssp_fresh.Reads as fresh-of
 use Rattle.ssp.proofs.ssp_enrol.Reads as enrol-of

@@ -1,6 +1,7 @@
 // The calls as other programs link them (include/ssp.h). Each answer is flat, of plain numbers, and is by definition the
 // answer of the call beneath it.
 ghost use mathlib.Core.Path.{_≡_};
+ghost use Rattle.sheet_archive.specs.Archive.{answer, archiveAfter, sheetAfter};
 ghost use Rattle.book.specs.Book.{used};
 ghost use Rattle.soundness.specs.Verdicts.{freshAnswer, freshAfter};
 ghost use Rattle.calls.specs.Calls.{enrol, elect, advance, close, statement};
@@ -8,7 +9,6 @@ ghost use Rattle.answers.specs.Answers.{Answered};
 ghost use Rattle.advance.specs.Advances.{ticksAnswered};
 ghost use Rattle.close.specs.Closings.{sumsAnswered};
 ghost use Rattle.statement.specs.Stated.{sumsStated};
-ghost use Rattle.sheet_archive.specs.Archive.{answer, archiveAfter, sheetAfter};
 ghost use Rattle.ssp.specs.Flat.{detailsOf, flatClosed, flatSums};
 use units::Rate;
 use units::UserNumber;

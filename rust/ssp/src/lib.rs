@@ -30,11 +30,13 @@
 
 mod amount;
 mod answers;
+mod archive;
 mod ffi;
 mod refusal;
 
 pub use amount::{Balance, Ticks};
 pub use answers::{Closing, Statement};
+pub use archive::{archive_sheet, archive_sheet_into, restore_sheet, restore_sheet_into};
 pub use refusal::Refusal;
 
 /// The options of a year: what becomes of value beyond the purchase cost.

@@ -3,7 +3,7 @@
 use std::error::Error;
 use std::fmt;
 
-/// Why a call was refused. A refused call leaves every byte of the book as it was.
+/// Why a call was refused. A refused call leaves every byte of the book, or of the buffer, as it was.
 #[derive(Clone, Copy, Debug, PartialEq, Eq, Hash)]
 #[non_exhaustive]
 pub enum Refusal {
@@ -38,6 +38,8 @@ pub enum Refusal {
     SheetNumber,
     /// 14: a domestic user withdrew more than 4,000,000 kWh in a month.
     DomesticMonth,
+    /// 27: a buffer is not of a sheet's 1,184 bytes.
+    BufferSize,
     /// A number that this crate has no name for: the library is newer than the crate.
     Other(u32),
 }
@@ -61,6 +63,7 @@ impl Refusal {
             12 => Refusal::SheetYear,
             13 => Refusal::SheetNumber,
             14 => Refusal::DomesticMonth,
+            27 => Refusal::BufferSize,
             other => Refusal::Other(other),
         })
     }
@@ -82,6 +85,7 @@ impl Refusal {
             Refusal::SheetYear => 12,
             Refusal::SheetNumber => 13,
             Refusal::DomesticMonth => 14,
+            Refusal::BufferSize => 27,
             Refusal::Other(number) => number,
         }
     }
@@ -106,6 +110,7 @@ impl fmt::Display for Refusal {
             Refusal::SheetYear => "the sheet's year is not open or is above 2099",
             Refusal::SheetNumber => "a number of the sheet is above its limit, or a single reading has kWh in F2 or F3",
             Refusal::DomesticMonth => "a domestic user withdrew more than 4,000,000 kWh in a month",
+            Refusal::BufferSize => "a buffer is not of a sheet's 1,184 bytes",
             Refusal::Other(number) => return write!(f, "refusal {number}"),
         })
     }
@@ -119,10 +124,11 @@ mod tests {
 
     #[test]
     fn numbers_are_kept() {
-        for number in 1..=20 {
+        for number in 1..=30 {
             let refusal = Refusal::check(number, 5).expect_err("not 0");
             assert_eq!(refusal.number(), number);
-            assert_eq!(refusal == Refusal::Other(number), number > 14, "refusal {number} has a name");
+            let named = number <= 14 || number == 27;
+            assert_eq!(refusal == Refusal::Other(number), !named, "refusal {number} has a name");
         }
         assert_eq!(Refusal::check(0, 0), Ok(()));
     }

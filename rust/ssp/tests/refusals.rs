@@ -4,7 +4,7 @@
 mod household;
 
 use household::household;
-use ssp_book::{Book, Day, Enrolment, Order, Refusal, option, run};
+use ssp_book::{Book, Day, Enrolment, Order, Refusal, archive_sheet_into, option, restore_sheet_into, run};
 
 const DAY: Day = Day {
     year: 2013,
@@ -232,4 +232,18 @@ fn domestic_month() {
 fn other() {
     assert_eq!(Refusal::Other(99).number(), 99);
     assert_eq!(Refusal::Other(99).to_string(), "refusal 99");
+}
+
+#[test]
+fn buffer_size() {
+    let text = "a buffer is not of a sheet's 1,184 bytes";
+    let (whole, short) = ([0; Book::SHEET], [0; Book::SHEET - 1]);
+    for refusal in [
+        archive_sheet_into(&whole, &mut short.clone()),
+        archive_sheet_into(&short, &mut whole.clone()),
+        restore_sheet_into(&whole, &mut short.clone()),
+        restore_sheet_into(&short, &mut whole.clone()),
+    ] {
+        is(refusal.expect_err("another size"), Refusal::BufferSize, 27, text);
+    }
 }
