@@ -120,13 +120,20 @@ fn say_stated(answer: Stated) -> bool {
     say(put_sums(refusal_of(answer.reply), answer.sums))
 }
 
+// Prints a text up to a place.
+fn say_front(text: &[u8], end: usize) -> bool
+    requires { ⌜ end ≤ length (now text) ⌝ }
+{
+    say_text(&text[..end])
+}
+
 // Prints bytes in hexadecimal, behind what stands in `out` up to a place.
 fn say_hex(bytes: &[u8], out: &mut [u8], at: usize) -> bool
     requires { ⌜ at + 2 * length (now bytes) + 1 ≤ length (now out) ⌝ }
 {
     let end = at + text::hex_to(bytes, &mut out[at..]);
     out[end] = b'\n';
-    say_text(&out[..end + 1])
+    say_front(out, end + 1)
 }
 
 // Prints the listing, by way of `out`, which has room for every listing.
@@ -145,6 +152,14 @@ fn close_year(book: &mut [u8], line: &[u8], at: usize) -> bool {
     say_closed(close::close(book, &sheet[..count]))
 }
 
+// The number of an accepted call, and a blank.
+fn put_accepted(out: &mut [u8])
+    requires { ⌜ 2 ≤ length (now out) ⌝ }
+{
+    out[0] = b'0';
+    out[1] = b' ';
+}
+
 // Prints the number of an answer, and of an accepted one the buffer after it, by way of `out`.
 fn say_buffer(refusal: u32, buffer: &[u8], out: &mut [u8]) -> bool
     requires { ⌜ 2 * length (now buffer) + 3 ≤ length (now out) ⌝ }
@@ -152,8 +167,7 @@ fn say_buffer(refusal: u32, buffer: &[u8], out: &mut [u8]) -> bool
     if refusal != 0 {
         return say_fresh(refusal);
     }
-    out[0] = b'0';
-    out[1] = b' ';
+    put_accepted(out);
     say_hex(buffer, out, 2)
 }
 

@@ -12,12 +12,12 @@ type Buffer = [u8; Book::SHEET];
 /// Both calls on the bytes, as a sheet and as an archive.
 fn agrees(bytes: &Buffer) {
     let mut plain = [0; Book::SHEET];
-    plain_archive::archive(bytes, &mut plain);
+    assert_eq!(plain_archive::archive(bytes, &mut plain), 0);
     let archive = archive_sheet(bytes);
     assert_eq!(archive, plain);
     assert_eq!(restore_sheet(&archive), *bytes);
 
-    plain_archive::restore(bytes, &mut plain);
+    assert_eq!(plain_archive::restore(bytes, &mut plain), 0);
     let restored = restore_sheet(bytes);
     assert_eq!(restored, plain);
     assert_eq!(archive_sheet(&restored), *bytes);

@@ -1,32 +1,33 @@
 -- The digits and the line feed stand within the text.
-use Prim.Native.Nat.{_+_}
-use mathlib.Core.Path.{sym}
 use native.Mathlib.Omega.{arith}
-use lib.ListN.{set, length-set}
-use lib.Seq.{length-take-le}
+use lib.ListN.{length-set}
 use borrow.Author.Needs.{needs}
-use Rattle.replay.proofs.dump.Statement.{statement}
-use Rattle.replay.proofs.dump.Tie as tie
+use Rattle.replay.proofs.say_hex.Statement.{statement}
+use Rattle.replay.proofs.say_hex.Tie as tie
+
+sub-hex-to : tie.Need-sub-hex-to
+sub-hex-to c = search needs
+
+part-hex-to-start : tie.Need-part-hex-to-start
+part-hex-to-start c = search needs
+
+part-hex-to-end : tie.Need-part-hex-to-end
+part-hex-to-end c = search needs
 
 hex-to-requires : tie.Need-hex-to-requires
 hex-to-requires c κs = search needs
 
+add-end : tie.Need-add-end
+add-end c = search needs
+
 slice-write-out : tie.Need-slice-write-out
 slice-write-out c = search needs
 
-add-say-text : tie.Need-add-say-text
-add-say-text c = search needs
+add-say-front : tie.Need-add-say-front
+add-say-front c = search needs
 
-slice-reshare-prefix-say-text : tie.Need-slice-reshare-prefix-say-text
-slice-reshare-prefix-say-text c = simp length-set (omega arith)
-
-slice-aggregate-say-text : tie.Need-slice-aggregate-say-text
-slice-aggregate-say-text c =
-    let text = c .before .before .before .hex-to in
-    sym (length-take-le (text .result + 1) (set (text .last .1 .0) (text .result) 10) (simp length-set (omega arith)))
-
-say-text-requires : tie.Need-say-text-requires
-say-text-requires c κs = search needs
+say-front-requires : tie.Need-say-front-requires
+say-front-requires c κs = simp length-set (omega arith)
 
 same-length : tie.Need-same-length
 same-length c = search needs
@@ -34,15 +35,17 @@ same-length c = search needs
 returns : tie.Need-returns
 returns c = search needs
 
-pub dump-spec : {M : Type 1} → statement M
-dump-spec =
+pub say-hex-spec : {M : Type 1} → statement M
+say-hex-spec =
     tie.close
     (tie.spec
+    sub-hex-to
+    part-hex-to-start
+    part-hex-to-end
     hex-to-requires
+    add-end
     slice-write-out
-    add-say-text
-    slice-reshare-prefix-say-text
-    slice-aggregate-say-text
-    say-text-requires
+    add-say-front
+    say-front-requires
     same-length
     returns)
