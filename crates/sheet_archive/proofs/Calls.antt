@@ -11,14 +11,11 @@ use lib.Dec.{eqb}
 use lib.ListN.{length}
 use Rattle.units.proofs.Bools.{and-left, and-right, and-both}
 use Rattle.codec.specs.Bytes.{number, stored}
-use Rattle.codec.proofs.ByteRanges.{Bytes, number-below}
 use Rattle.sheet.specs.YearSheet.{sheetLength, word}
 use Rattle.sheet_archive.specs.Tables.{headerLength, header, numberIn, line, lines, tableLength}
-use Rattle.sheet_archive.specs.Archive.{differences, sums, inSheet, inArchive, archiveOf, sheetOf, sheetColumns, sheetMonths, sizesFit, answer, archiveAfter, sheetAfter}
-use Rattle.sheet_archive.specs.Steps.{monthNumber}
-use Rattle.sheet_archive.proofs.Tables.{length-header, line-cong}
-use Rattle.sheet_archive.proofs.Columns.{Words, sums-words, sum-from-before}
-use Rattle.sheet_archive.proofs.Writing.{written, table-begun, table-next, table-whole, number-written}
+use Rattle.sheet_archive.specs.Archive.{differences, inSheet, archiveOf, sheetOf, sheetColumns, sheetMonths, sizesFit, answer, archiveAfter, sheetAfter}
+use Rattle.sheet_archive.proofs.Tables.{length-header}
+use Rattle.sheet_archive.proofs.Writing.{written, table-begun, table-next, table-whole}
 
 -- THE SIZES
 module _ (source destination : ℕ) where
@@ -103,29 +100,6 @@ module _ (n places : ℕ) (source : List ℕ) (f : ℕ → ℕ → ℕ) (t₀ : 
         ∙ ap (written places (header source) f t₀) e
         ∙ table-whole places (header source) f t₀ header-long n (w .long₀ ∙ size)
 
-    -- a number of a line that stands already
-    pub number-filled : (k j : ℕ) → k < i → j < places → f k j < 2 ^ 32 → numberIn places t k j ≡ f k j
-    number-filled k j lk lj b =
-        ap (λ (s : List ℕ). numberIn places s k j) (w .filled) ∙ number-written places (header source) f t₀ header-long i k j lk lj b
-
--- THE NUMBERS of each call's lines
+-- the numbers of the archive's lines
 abbrev pub archiveLines : List ℕ → ℕ → ℕ → ℕ
 archiveLines s column = differences (inSheet sheetColumns s column)
-
-abbrev pub sheetLines : List ℕ → ℕ → ℕ → ℕ
-sheetLines a month column = sums (inArchive sheetMonths a column) month
-
--- a month is worked from the sheet as it stands: the months before it are there
-module _ (a t₀ : List ℕ) (bytes : Bytes a) {t : List ℕ} {month : ℕ} (w : Filling sheetMonths sheetColumns a (sheetLines a) t₀ t month) where
-  column-words : (column : ℕ) → Words (inArchive sheetMonths a column)
-  unfolding numberIn
-  column-words column m = number-below 4 (headerLength + 4 * (sheetMonths * column + m)) a bytes
-
-  pub month-worked : line sheetColumns (monthNumber a t month) ≡ line sheetColumns (sheetLines a month)
-  month-worked =
-      line-cong sheetColumns (monthNumber a t month) (sheetLines a month)
-      (λ column l.
-      sum-from-before (inArchive sheetMonths a column) (inSheet sheetColumns t column) month (column-words column month)
-      (λ i h.
-      number-filled sheetMonths sheetColumns a (sheetLines a) t₀ refl w i column h l
-      (sums-words (inArchive sheetMonths a column) (column-words column) i)))

@@ -47,6 +47,10 @@ differences-of-sums f w zero = refl
 differences-of-sums f w (suc m) = minus-plus (f (suc m)) (sums f m) (w (suc m)) (sums-words f w m)
 
 -- A TURN OF EACH LOOP: in an archive a number is a difference from the one before, in a sheet the sum of that one and more
+pub before-none : (f : ℕ → ℕ) → 0 ≡ before f 0
+unfolding before
+before-none f = refl
+
 pub before-next : (f : ℕ → ℕ) (m : ℕ) {number : ℕ} → number ≡ f m → number ≡ before f (m + 1)
 unfolding before
 before-next f m e = rw (add-one m) e
@@ -60,12 +64,7 @@ pub difference-worked : (f : ℕ → ℕ) (m : ℕ) {number last less : ℕ} →
     → less ≡ differences f m
 difference-worked f m h n l e = e ∙ ap₂ minus n l ∙ difference-from-before f m h
 
-pub before-cong : (f g : ℕ → ℕ) (m : ℕ) → ((i : ℕ) → i < m → f i ≡ g i) → before f m ≡ before g m
-unfolding before
-before-cong f g zero e = refl
-before-cong f g (suc m) e = e m (omega arith)
-
-pub sum-from-before : (d f : ℕ → ℕ) (m : ℕ) → d m < 2 ^ 32 → ((i : ℕ) → i < m → f i ≡ sums d i) → plus (before f m) (d m) ≡ sums d m
+pub sum-from-before : (d : ℕ → ℕ) (m : ℕ) → d m < 2 ^ 32 → plus (before (sums d) m) (d m) ≡ sums d m
 unfolding before sums
-sum-from-before d f zero h e = omega arith
-sum-from-before d f (suc m) h e = ap (λ (n : ℕ). plus n (d (suc m))) (e m (omega arith))
+sum-from-before d zero h = omega arith
+sum-from-before d (suc m) h = refl

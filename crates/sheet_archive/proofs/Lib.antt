@@ -3,4 +3,5 @@ pub mod Tables
 pub mod Columns
 pub mod Writing
 pub mod Calls
+pub mod Restoring
 pub mod RoundTrips

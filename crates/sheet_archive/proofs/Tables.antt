@@ -37,13 +37,16 @@ unfolding line number
 line-number places f j l b =
     ap littleEndian (part-piece 4 (λ i. bytesOf 4 (f i)) (λ i. length-bytes 4 (f i)) places j l) ∙ bytes-value 4 (f j) b
 
+line-of-parts : (places at : ℕ) (s : List ℕ) (f : ℕ → ℕ) → ((j : ℕ) → j < places → part 4 (at + 4 * j) s ≡ bytesOf 4 (f j))
+    → line places f ≡ part (4 * places) at s
+unfolding line
+line-of-parts places at s f e =
+    pieces-cong places (λ j. bytesOf 4 (f j)) (λ j. part 4 (at + 4 * j) s) (λ j l. sym (e j l)) ∙ pieces-back places 4 at s
+
 pub line-back : (places at : ℕ) (s : List ℕ) → at + 4 * places ≤ length s → Bytes s
     → line places (λ j. number 4 (at + 4 * j) s) ≡ part (4 * places) at s
-unfolding line
 line-back places at s l b =
-    pieces-cong places (λ j. bytesOf 4 (number 4 (at + 4 * j) s)) (λ j. part 4 (at + 4 * j) s)
-    (λ j h. bytes-back 4 (at + 4 * j) s (omega arith) b)
-    ∙ pieces-back places 4 at s
+    line-of-parts places at s (λ j. number 4 (at + 4 * j) s) (λ j h. sym (bytes-back 4 (at + 4 * j) s (omega arith) b))
 
 -- A TABLE
 pub length-lines : (n places : ℕ) (f : ℕ → ℕ → ℕ) → length (lines n places f) ≡ 4 * places * n
@@ -75,27 +78,35 @@ number-in-lines n places h f i j e li lj b =
     place : headerLength + 4 * (places * i + j) ≡ length h + 4 * places * i + 4 * j
     place = omega arith
 
--- a table put together from its own numbers
-pub table-back : (n places : ℕ) (t : List ℕ) → length t ≡ tableLength n places → Bytes t
-    → header t ++ lines n places (numberIn places t) ≡ t
-unfolding header lines numberIn part
-table-back n places t e b =
+-- a table is its header and the lines of the numbers whose bytes stand in it
+pub table-of-parts : (n places : ℕ) (t : List ℕ) (f : ℕ → ℕ → ℕ) → length t ≡ tableLength n places
+    → ((i j : ℕ) → i < n → j < places → part 4 (headerLength + 4 * (places * i + j)) t ≡ bytesOf 4 (f i j))
+    → header t ++ lines n places f ≡ t
+unfolding header lines part
+table-of-parts n places t f e stands =
     ap (λ (l : List ℕ). take headerLength t ++ l) (each ∙ pieces-back n (4 * places) headerLength t ∙ all)
     ∙ take-append-drop headerLength t
   where
-    reach : (i : ℕ) → i < n → headerLength + 4 * places * i + 4 * places ≤ length t
-    reach i l = let m : places * suc i ≤ places * n = mul-le-mul-left places l in omega (arith, mul-suc places i)
-
-    here : (i : ℕ) → i < n → line places (λ j. number 4 (headerLength + 4 * (places * i + j)) t) ≡ part (4 * places) (headerLength + 4 * places * i) t
+    here : (i : ℕ) → i < n → line places (f i) ≡ part (4 * places) (headerLength + 4 * places * i) t
     here i l =
-        line-cong places (λ j. number 4 (headerLength + 4 * (places * i + j)) t) (λ j. number 4 (headerLength + 4 * places * i + 4 * j) t)
-        (λ j h. let same : headerLength + 4 * (places * i + j) ≡ headerLength + 4 * places * i + 4 * j = omega arith in rw same)
-        ∙ line-back places (headerLength + 4 * places * i) t (reach i l) b
+        line-of-parts places (headerLength + 4 * places * i) t (f i)
+        (λ j h.
+        let same : headerLength + 4 * places * i + 4 * j ≡ headerLength + 4 * (places * i + j) = omega arith in
+        ap (λ (at : ℕ). part 4 at t) same ∙ stands i j l h)
 
-    each : pieces n (λ i. line places (λ j. number 4 (headerLength + 4 * (places * i + j)) t)) ≡ pieces n (λ i. part (4 * places) (headerLength + 4 * places * i) t)
-    each =
-        pieces-cong n (λ i. line places (λ j. number 4 (headerLength + 4 * (places * i + j)) t))
-        (λ i. part (4 * places) (headerLength + 4 * places * i) t) here
+    each : pieces n (λ i. line places (f i)) ≡ pieces n (λ i. part (4 * places) (headerLength + 4 * places * i) t)
+    each = pieces-cong n (λ i. line places (f i)) (λ i. part (4 * places) (headerLength + 4 * places * i) t) here
 
     all : part (4 * places * n) headerLength t ≡ drop headerLength t
     all = take-all (4 * places * n) (drop headerLength t) (rw length-drop (omega arith))
+
+-- a table put together from its own numbers
+pub table-back : (n places : ℕ) (t : List ℕ) → length t ≡ tableLength n places → Bytes t
+    → header t ++ lines n places (numberIn places t) ≡ t
+unfolding numberIn
+table-back n places t e b =
+    table-of-parts n places t (numberIn places t) e
+    (λ i j l h.
+    let m : places * suc i ≤ places * n = mul-le-mul-left places l in
+    let room : headerLength + 4 * (places * i + j) + 4 ≤ length t = omega (arith, mul-suc places i) in
+    sym (bytes-back 4 (headerLength + 4 * (places * i + j)) t room b))

@@ -76,22 +76,3 @@ module _ (places : ℕ) (h : List ℕ) (f : ℕ → ℕ → ℕ) (t₀ : List �
     table-whole n e =
         let past : length t₀ ≤ 0 + length (h ++ lines n places f) = omega (arith, length-table n) in
         rw (drop-of-length-le t₀ past) (append-nil (h ++ lines n places f))
-
-    -- the numbers of the lines that stand already
-    pub number-written : (n i j : ℕ) → i < n → j < places → f i j < 2 ^ 32 → numberIn places (written n) i j ≡ f i j
-    unfolding stored numberIn number
-    number-written n i j li lj b =
-        let more : places * suc i ≤ places * n = mul-le-mul-left places li in
-        let inside : headerLength + 4 * (places * i + j) + 4 ≤ length (h ++ lines n places f) = omega (arith, length-table n, mul-suc places i) in
-        ap littleEndian
-        (part-first 4 (headerLength + 4 * (places * i + j)) (h ++ lines n places f) (drop (0 + length (h ++ lines n places f)) t₀) inside)
-        ∙ number-in-lines n places h f i j long li lj b
-
--- a line that is written leaves the numbers of the lines before it
-pub number-kept : (places n : ℕ) (bs t : List ℕ) (i j : ℕ) → headerLength + 4 * places * n ≤ length t → i < n → j < places
-    → numberIn places (stored (headerLength + 4 * places * n) bs t) i j ≡ numberIn places t i j
-unfolding numberIn number
-number-kept places n bs t i j fits li lj =
-    let more : places * suc i ≤ places * n = mul-le-mul-left places li in
-    ap littleEndian
-    (part-before 4 (headerLength + 4 * (places * i + j)) (headerLength + 4 * places * n) bs t (omega (arith, mul-suc places i)) fits)

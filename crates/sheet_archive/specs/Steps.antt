@@ -1,12 +1,24 @@
--- What one turn of each call writes: for the contracts of the inner functions alone. The archive goes column by column, the
--- sheet month by month.
-use Prim.Native.Nat.{ℕ, zero, suc, _+_, _*_}
+-- What the inner functions of the two calls do: for their contracts alone.
+use Prim.Native.Nat.{ℕ, zero, suc, _+_, _*_, _<_}
+use mathlib.Core.Path.{_≡_}
 use mathlib.Core.List.{List}
-use Rattle.codec.specs.Bytes.{stored}
-use Rattle.sheet_archive.specs.Tables.{headerLength, line}
-use Rattle.sheet_archive.specs.Archive.{plus, differences, inSheet, inArchive, sheetColumns, sheetMonths}
+use lib.ListN.{length, getD}
+use Rattle.codec.specs.Bytes.{bytesOf, part, number, stored}
+use Rattle.sheet.specs.YearSheet.{sheetLength}
+use Rattle.sheet_archive.specs.Tables.{headerLength, header, line}
+use Rattle.sheet_archive.specs.Archive.{differences, sums, inSheet, inArchive, sheetColumns, sheetMonths}
 
--- a column's line in the archive
+-- the first n numbers of an array are those of f
+abbrev pub Holds : ℕ → (ℕ → ℕ) → List ℕ → Type 0
+Holds n f numbers = (k : ℕ) → k < n → getD numbers k 0 ≡ f k
+
+abbrev pub headerWords : ℕ
+headerWords = 8
+
+abbrev pub headerWord : List ℕ → ℕ → ℕ
+headerWord s k = number 4 (4 * k) s
+
+-- THE ARCHIVE goes line by line, a column each
 abbrev pub columnPlace : ℕ → ℕ
 columnPlace column = headerLength + 4 * sheetMonths * column
 
@@ -18,12 +30,14 @@ unfoldable pub before : (ℕ → ℕ) → ℕ → ℕ
 before column zero = 0
 before column (suc month) = column month
 
--- a month's line in the sheet, from the months that stand there already
-abbrev pub monthPlace : ℕ → ℕ
-monthPlace month = headerLength + 4 * sheetColumns * month
+-- THE SHEET goes column by column. A number that stands in it is the archive's column summed up to its month.
+abbrev pub Stands : List ℕ → List ℕ → ℕ → ℕ → Type 0
+Stands a s month column =
+    part 4 (headerLength + 4 * (sheetColumns * month + column)) s ≡ bytesOf 4 (sums (inArchive sheetMonths a column) month)
 
-abbrev pub monthNumber : List ℕ → List ℕ → ℕ → ℕ → ℕ
-monthNumber a s month column = plus (before (inSheet sheetColumns s column) month) (inArchive sheetMonths a column month)
-
-abbrev pub monthWritten : List ℕ → ℕ → List ℕ → List ℕ
-monthWritten a month s = stored (monthPlace month) (line sheetColumns (monthNumber a s month)) s
+-- the header, the first `n` columns and of the next one the first `m` months stand
+pub record Restored (a s : List ℕ) (n m : ℕ) : Type 0 where
+  pub long : length s ≡ sheetLength
+  pub front : header s ≡ header a
+  pub columns : (month column : ℕ) → month < sheetMonths → column < n → Stands a s month column
+  pub months : (month : ℕ) → month < m → Stands a s month n

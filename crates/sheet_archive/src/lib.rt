@@ -6,15 +6,17 @@ ghost use lib.ListN.{length};
 ghost use Rattle.codec.specs.Bytes.{stored};
 ghost use Rattle.sheet.specs.YearSheet.{sheetLength};
 ghost use Rattle.sheet_archive.specs.Tables.{headerLength, header};
-ghost use Rattle.sheet_archive.specs.Archive.{minus, plus, inSheet, inArchive, sheetColumns, sheetMonths};
+ghost use Rattle.sheet_archive.specs.Archive.{minus, plus, sums, inSheet, inArchive, sheetColumns, sheetMonths};
 ghost use Rattle.sheet_archive.specs.Archive.{sizesFit, answer, archiveAfter, sheetAfter};
-ghost use Rattle.sheet_archive.specs.Steps.{columnWritten, before, monthWritten};
+ghost use Rattle.sheet_archive.specs.Steps.{Holds, headerWords, headerWord, columnWritten, Restored};
 use sheet::HEADER;
 use sheet::LENGTH;
 use sheet::MONTHS;
 
 // A month's numbers, the last one too.
 const COLUMNS: usize = 24;
+
+const HEADER_WORDS: usize = 8;
 
 // A buffer of another size.
 const WRONG_SIZE: u32 = 27;
@@ -56,19 +58,6 @@ fn in_archive(archive: &[u8], column: usize, month: usize) -> u32
     codec::load_u32(archive, archive_place(column, month))
 }
 
-// The number of the month before in a sheet's column, 0 before the first.
-fn before_in_sheet(sheet: &[u8], column: usize, month: usize) -> u32
-    requires { ⌜ length (now sheet) ≡ sheetLength ⌝ }
-    requires { ⌜ (column < sheetColumns) × (month < sheetMonths) ⌝ }
-    ensures { λ r. ⌜ r ≡ before (inSheet sheetColumns (now (sheet .entry)) column) month ⌝ }
-{
-    if month == 0 {
-        0
-    } else {
-        in_sheet(sheet, column, month - 1)
-    }
-}
-
 // Modulo 2^32.
 fn difference(x: u32, y: u32) -> u32
     ensures { λ r. ⌜ r ≡ minus x y ⌝ }
@@ -82,13 +71,25 @@ fn sum(x: u32, y: u32) -> u32
     std::num::wrapping_add_u32(x, y)
 }
 
-// "The header goes first."
+// "The header goes first." Its words are held by value between, so that they can be read and written several at once.
+fn header_words(from: &[u8]) -> [u32; HEADER_WORDS]
+    requires { ⌜ length (now from) ≡ sheetLength ⌝ }
+    ensures { λ r. ⌜ Holds headerWords (headerWord (now (from .entry))) r ⌝ }
+{
+    let mut words = [0u32; HEADER_WORDS];
+    for k in 0..HEADER_WORDS {
+        words[k] = codec::load_u32(from, 4 * k);
+    }
+    words
+}
+
 fn copy_header(from: &[u8], to: &mut [u8])
     requires { ⌜ (length (now from) ≡ sheetLength) × (length (now to) ≡ sheetLength) ⌝ }
     ensures { λ _. ⌜ now (to .exit) ≡ stored 0 (header (now (from .entry))) (now (to .entry)) ⌝ }
 {
-    for k in 0..HEADER / 4 {
-        codec::store_u32(to, 4 * k, codec::load_u32(from, 4 * k));
+    let words = header_words(from);
+    for k in 0..HEADER_WORDS {
+        codec::store_u32(to, 4 * k, words[k]);
     }
 }
 
@@ -112,16 +113,29 @@ fn archive_column(sheet: &[u8], archive: &mut [u8], column: usize)
     }
 }
 
-// A month of the sheet: each number is the one before it in its column with the archive's difference.
-fn restore_month(archive: &[u8], sheet: &mut [u8], month: usize)
-    requires { ⌜ (length (now archive) ≡ sheetLength) × (length (now sheet) ≡ sheetLength) ⌝ }
-    requires { ⌜ month < sheetMonths ⌝ }
-    ensures { λ _. ⌜ now (sheet .exit) ≡ monthWritten (now (archive .entry)) month (now (sheet .entry)) ⌝ }
+// A column of the sheet: each number is the one before it with the archive's difference. It is held by value before it is
+// written, so that neighbouring columns can be written at once.
+fn restored_column(archive: &[u8], column: usize) -> [u32; MONTHS]
+    requires { ⌜ (length (now archive) ≡ sheetLength) × (column < sheetColumns) ⌝ }
+    ensures { λ r. ⌜ Holds sheetMonths (sums (inArchive sheetMonths (now (archive .entry)) column)) r ⌝ }
 {
-    for column in 0..COLUMNS {
-        let last = before_in_sheet(sheet, column, month);
-        let number = sum(last, in_archive(archive, column, month));
-        codec::store_u32(sheet, sheet_place(column, month), number);
+    let mut numbers = [0u32; MONTHS];
+    let mut last = 0;
+    for month in 0..MONTHS {
+        last = sum(last, in_archive(archive, column, month));
+        numbers[month] = last;
+    }
+    numbers
+}
+
+fn restore_column(archive: &[u8], sheet: &mut [u8], column: usize)
+    requires { ⌜ (length (now archive) ≡ sheetLength) × (column < sheetColumns) ⌝ }
+    requires { ⌜ Restored (now archive) (now sheet) column 0 ⌝ }
+    ensures { λ _. ⌜ Restored (now (archive .entry)) (now (sheet .exit)) (column + 1) 0 ⌝ }
+{
+    let numbers = restored_column(archive, column);
+    for month in 0..MONTHS {
+        codec::store_u32(sheet, sheet_place(column, month), numbers[month]);
     }
 }
 
@@ -149,8 +163,8 @@ pub fn restore(archive: &[u8], sheet: &mut [u8]) -> u32
         return WRONG_SIZE;
     }
     copy_header(archive, sheet);
-    for month in 0..MONTHS {
-        restore_month(archive, sheet, month);
+    for column in 0..COLUMNS {
+        restore_column(archive, sheet, column);
     }
     0
 }

@@ -1,24 +1,25 @@
--- After each turn one month more stands in its line of the sheet, worked from the month before it.
-use Prim.Native.Nat.{_-_}
-use mathlib.Core.Path.{refl, sym, _∙_}
+-- After each turn one column more stands in the sheet.
+use Prim.Native.Nat.{_-_, _≤_}
+use mathlib.Core.Path.{_≡_, refl, sym, _∙_}
 use native.Mathlib.Omega.{arith}
 use borrow.Author.Needs.{needs}
 use borrow.Author.Tests.{not-true, not-false}
 use denote.Ref.{now}
 use lib.ListN.{length}
-use Rattle.codec.proofs.ByteRanges.{Bytes}
-use Rattle.sheet_archive.specs.Tables.{line}
-use Rattle.sheet_archive.specs.Archive.{sheetOf, sheetColumns, sheetMonths}
-use Rattle.sheet_archive.specs.Steps.{monthNumber}
-use Rattle.sheet_archive.proofs.Calls.{source-fits, destination-fits, refused-sheet, accepted-sheet, Filling, begins, goes-on, ends, sheetLines, month-worked}
+use Rattle.sheet.specs.YearSheet.{sheetLength}
+use Rattle.sheet_archive.specs.Archive.{sheetOf, sheetColumns}
+use Rattle.sheet_archive.specs.Steps.{Restored}
+use Rattle.sheet_archive.proofs.Calls.{source-fits, destination-fits, refused-sheet, accepted-sheet}
+use Rattle.sheet_archive.proofs.Restoring.{restored-none, restored-whole}
 use Rattle.sheet_archive.proofs.restore.Statement.{statement}
 use Rattle.sheet_archive.proofs.restore.Tie as tie
 
 abbrev Inv-loop : tie.InvT-loop
-Inv-loop archive sheet₀ month₀ sheet month = Filling sheetMonths sheetColumns archive (sheetLines archive) sheet₀ sheet month
+Inv-loop archive sheet₀ column₀ sheet column =
+    (column ≤ sheetColumns) × ((length archive ≡ sheetLength) × ((length sheet ≡ length sheet₀) × Restored archive sheet column 0))
 
 abbrev μ-loop : tie.MeasureT-loop
-μ-loop archive sheet₀ month₀ sheet month = sheetMonths - month
+μ-loop archive sheet₀ column₀ sheet column = sheetColumns - column
 
 sizes-fit-requires : tie.Need-sizes-fit-requires Inv-loop μ-loop
 sizes-fit-requires c κs = search needs
@@ -39,15 +40,15 @@ loop-holds c =
     let a = c .before .before .before .before .before .before .before .before .args in
     let fit = sym (c .before .before .before .before .before .sizes-fit .ensures) ∙ not-false _ (c .before .before .before .before .if1 .left) in
     let h = c .before .before .copy-header in
-    begins sheetMonths sheetColumns (now (a .archive)) (sheetLines (now (a .archive))) (h .last .1 .0) (now (a .sheet))
-    (source-fits (length (now (a .archive))) (length (now (a .sheet))) fit)
-    (destination-fits (length (now (a .archive))) (length (now (a .sheet))) fit) (h .kept .1 .0) (h .ensures)
+    let long = source-fits (length (now (a .archive))) (length (now (a .sheet))) fit in
+    let long₀ = destination-fits (length (now (a .archive))) (length (now (a .sheet))) fit in
+    (search needs, (long, (refl, restored-none (now (a .archive)) (h .last .1 .0) (now (a .sheet)) long (h .kept .1 .0 ∙ long₀) (h .ensures))))
 
-restore-month-requires : tie.Need-restore-month-requires Inv-loop μ-loop
-restore-month-requires c κs = search needs
+restore-column-requires : tie.Need-restore-column-requires Inv-loop μ-loop
+restore-column-requires c κs = search needs
 
-add-month : tie.Need-add-month Inv-loop μ-loop
-add-month c = search needs
+add-column : tie.Need-add-column Inv-loop μ-loop
+add-column c = search needs
 
 loop-less : tie.Need-loop-less Inv-loop μ-loop
 loop-less c = search needs
@@ -55,16 +56,11 @@ loop-less c = search needs
 loop-again : tie.Need-loop-again Inv-loop μ-loop
 loop-again c =
     let l = c .before .before .before .before .before .loop in
-    let a = c .before .before .before .before .before .before .before .before .before .before .before .before .before .before .args in
-    let w = c .before .before .restore-month in
-    let t₀ = c .before .before .before .before .before .before .before .before .copy-header .last .1 .0 in
-    let bytes : Bytes (now (a .archive)) = λ k. c .before .before .before .before .before .before .before .before .before .before .before .before .before .shared-slice-known .given k .fits in
-    goes-on sheetMonths sheetColumns (now (a .archive)) (sheetLines (now (a .archive))) t₀ refl (l .inv) (w .last .1 .0)
-    (line sheetColumns (monthNumber (now (a .archive)) (l .sheet) (l .month)))
-    (search needs) (month-worked (now (a .archive)) t₀ bytes (l .inv)) (w .ensures) (w .kept .1 .0)
+    let w = c .before .before .restore-column in
+    (search needs, (l .inv .1 .0, (omega (arith, w .kept .1 .0), w .ensures)))
 
 same-length : tie.Need-same-length Inv-loop μ-loop
-same-length c = c .before .loop .inv .same ∙ c .before .before .before .before .copy-header .kept .1 .0
+same-length c = c .before .loop .inv .1 .1 .0 ∙ c .before .before .before .before .copy-header .kept .1 .0
 
 returns-2 : tie.Need-returns-2 Inv-loop μ-loop
 unfolding sheetOf
@@ -72,9 +68,9 @@ returns-2 c =
     let l = c .before .loop in
     let a = c .before .before .before .before .before .before .before .before .before .before .args in
     let fit = sym (c .before .before .before .before .before .before .before .sizes-fit .ensures) ∙ not-false _ (c .before .before .before .before .before .before .if1 .left) in
-    let t₀ = c .before .before .before .before .copy-header .last .1 .0 in
     let said = accepted-sheet (now (a .archive)) (now (a .sheet)) fit in
-    (said .0, ends sheetMonths sheetColumns (now (a .archive)) (sheetLines (now (a .archive))) t₀ refl (l .inv) (omega arith) ∙ said .1)
+    let end : l .column ≡ sheetColumns = omega arith in
+    (said .0, restored-whole (now (a .archive)) (l .sheet) (rw end at (l .inv .1 .1 .1)) ∙ said .1)
 
 pub restore-spec : {M : Type 1} → statement M
 restore-spec =
@@ -86,8 +82,8 @@ restore-spec =
     returns
     copy-header-requires
     loop-holds
-    restore-month-requires
-    add-month
+    restore-column-requires
+    add-column
     loop-less
     loop-again
     same-length
