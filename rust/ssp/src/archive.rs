@@ -28,6 +28,7 @@ pub fn restore_sheet(archive: &[u8; Book::SHEET]) -> [u8; Book::SHEET] {
 
 /// As [`archive_sheet`], into bytes that the caller lends. Refused with [`Refusal::BufferSize`] alone, where either has another
 /// size than [`Book::SHEET`]; then the archive is left as it was.
+#[inline]
 pub fn archive_sheet_into(sheet: &[u8], archive: &mut [u8]) -> Result<(), Refusal> {
     // SAFETY: the pointers and the lengths are those of two slices that are borrowed for the whole call, the archive's mutably,
     // so that they do not overlap.
@@ -37,6 +38,7 @@ pub fn archive_sheet_into(sheet: &[u8], archive: &mut [u8]) -> Result<(), Refusa
 
 /// As [`restore_sheet`], into bytes that the caller lends. Refused with [`Refusal::BufferSize`] alone, where either has another
 /// size than [`Book::SHEET`]; then the sheet is left as it was.
+#[inline]
 pub fn restore_sheet_into(archive: &[u8], sheet: &mut [u8]) -> Result<(), Refusal> {
     // SAFETY: the pointers and the lengths are those of two slices that are borrowed for the whole call, the sheet's mutably, so
     // that they do not overlap.

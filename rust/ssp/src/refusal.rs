@@ -46,6 +46,7 @@ pub enum Refusal {
 
 impl Refusal {
     /// Nothing for an accepted call, else the refusal with this number.
+    #[inline]
     pub(crate) fn check(refusal: u32, record: u32) -> Result<(), Refusal> {
         Err(match refusal {
             0 => return Ok(()),
