@@ -1,14 +1,14 @@
 // Sheets for the archive (document 02, ticket 14): "24 columns of twelve, each number after the first of its column replaced
 // by its difference from the one before, modulo 2^32", and the way back. Both work on any bytes.
 ghost use mathlib.Core.Path.{_≡_};
-ghost use Prim.Native.Nat.{_+_, _*_, _<_};
+ghost use Prim.Native.Nat.{_+_, _*_, _≤_, _<_};
 ghost use lib.ListN.{length};
 ghost use Rattle.codec.specs.Bytes.{stored};
 ghost use Rattle.sheet.specs.YearSheet.{sheetLength};
 ghost use Rattle.sheet_archive.specs.Tables.{headerLength, header};
-ghost use Rattle.sheet_archive.specs.Archive.{minus, plus, sums, inSheet, inArchive, sheetColumns, sheetMonths};
+ghost use Rattle.sheet_archive.specs.Archive.{minus, plus, inSheet, inArchive, sheetColumns, sheetMonths};
 ghost use Rattle.sheet_archive.specs.Archive.{sizesFit, answer, archiveAfter, sheetAfter};
-ghost use Rattle.sheet_archive.specs.Steps.{Holds, headerWords, headerWord, columnWritten, Restored};
+ghost use Rattle.sheet_archive.specs.Steps.{Holds, headerWords, headerWord, columnWritten, nextFour, fourStored, Restored};
 use sheet::HEADER;
 use sheet::LENGTH;
 use sheet::MONTHS;
@@ -17,6 +17,14 @@ use sheet::MONTHS;
 const COLUMNS: usize = 24;
 
 const HEADER_WORDS: usize = 8;
+
+// The numbers of four columns that stand side by side, in one month.
+struct Four {
+    first: u32,
+    second: u32,
+    third: u32,
+    fourth: u32,
+}
 
 // A buffer of another size.
 const WRONG_SIZE: u32 = 27;
@@ -113,29 +121,49 @@ fn archive_column(sheet: &[u8], archive: &mut [u8], column: usize)
     }
 }
 
-// A column of the sheet: each number is the one before it with the archive's difference. It is held by value before it is
-// written, so that neighbouring columns can be written at once.
-fn restored_column(archive: &[u8], column: usize) -> [u32; MONTHS]
-    requires { ⌜ (length (now archive) ≡ sheetLength) × (column < sheetColumns) ⌝ }
-    ensures { λ r. ⌜ Holds sheetMonths (sums (inArchive sheetMonths (now (archive .entry)) column)) r ⌝ }
+// The numbers of a month in four columns, each the one before it in its column with the archive's difference.
+fn next_four(archive: &[u8], last: Four, column: usize, month: usize) -> Four
+    requires { ⌜ length (now archive) ≡ sheetLength ⌝ }
+    requires { ⌜ (column + 4 ≤ sheetColumns) × (month < sheetMonths) ⌝ }
+    ensures { λ r. ⌜ r ≡ nextFour (now (archive .entry)) last column month ⌝ }
 {
-    let mut numbers = [0u32; MONTHS];
-    let mut last = 0;
-    for month in 0..MONTHS {
-        last = sum(last, in_archive(archive, column, month));
-        numbers[month] = last;
+    let first = sum(last.first, in_archive(archive, column, month));
+    let second = sum(last.second, in_archive(archive, column + 1, month));
+    let third = sum(last.third, in_archive(archive, column + 2, month));
+    let fourth = sum(last.fourth, in_archive(archive, column + 3, month));
+    Four {
+        first,
+        second,
+        third,
+        fourth,
     }
-    numbers
 }
 
-fn restore_column(archive: &[u8], sheet: &mut [u8], column: usize)
-    requires { ⌜ (length (now archive) ≡ sheetLength) × (column < sheetColumns) ⌝ }
-    requires { ⌜ Restored (now archive) (now sheet) column 0 ⌝ }
-    ensures { λ _. ⌜ Restored (now (archive .entry)) (now (sheet .exit)) (column + 1) 0 ⌝ }
+fn store_four(sheet: &mut [u8], column: usize, month: usize, numbers: Four)
+    requires { ⌜ length (now sheet) ≡ sheetLength ⌝ }
+    requires { ⌜ (column + 4 ≤ sheetColumns) × (month < sheetMonths) ⌝ }
+    ensures { λ _. ⌜ now (sheet .exit) ≡ fourStored column month numbers (now (sheet .entry)) ⌝ }
 {
-    let numbers = restored_column(archive, column);
+    codec::store_u32(sheet, sheet_place(column, month), numbers.first);
+    codec::store_u32(sheet, sheet_place(column + 1, month), numbers.second);
+    codec::store_u32(sheet, sheet_place(column + 2, month), numbers.third);
+    codec::store_u32(sheet, sheet_place(column + 3, month), numbers.fourth);
+}
+
+fn restore_four(archive: &[u8], sheet: &mut [u8], column: usize)
+    requires { ⌜ (length (now archive) ≡ sheetLength) × (column + 4 ≤ sheetColumns) ⌝ }
+    requires { ⌜ Restored (now archive) (now sheet) column 0 0 ⌝ }
+    ensures { λ _. ⌜ Restored (now (archive .entry)) (now (sheet .exit)) (column + 4) 0 0 ⌝ }
+{
+    let mut numbers = Four {
+        first: 0,
+        second: 0,
+        third: 0,
+        fourth: 0,
+    };
     for month in 0..MONTHS {
-        codec::store_u32(sheet, sheet_place(column, month), numbers[month]);
+        numbers = next_four(archive, numbers, column, month);
+        store_four(sheet, column, month, numbers);
     }
 }
 
@@ -163,8 +191,8 @@ pub fn restore(archive: &[u8], sheet: &mut [u8]) -> u32
         return WRONG_SIZE;
     }
     copy_header(archive, sheet);
-    for column in 0..COLUMNS {
-        restore_column(archive, sheet, column);
+    for four in 0..COLUMNS / 4 {
+        restore_four(archive, sheet, 4 * four);
     }
     0
 }

@@ -1,5 +1,5 @@
--- After each turn one column more stands in the sheet.
-use Prim.Native.Nat.{_-_, _≤_}
+-- After each turn four columns more stand in the sheet.
+use Prim.Native.Nat.{_+_, _-_, _*_, _≤_}
 use mathlib.Core.Path.{_≡_, refl, sym, _∙_}
 use native.Mathlib.Omega.{arith}
 use borrow.Author.Needs.{needs}
@@ -10,16 +10,16 @@ use Rattle.sheet.specs.YearSheet.{sheetLength}
 use Rattle.sheet_archive.specs.Archive.{sheetOf, sheetColumns}
 use Rattle.sheet_archive.specs.Steps.{Restored}
 use Rattle.sheet_archive.proofs.Calls.{source-fits, destination-fits, refused-sheet, accepted-sheet}
-use Rattle.sheet_archive.proofs.Restoring.{restored-none, restored-whole}
+use Rattle.sheet_archive.proofs.Restoring.{restored-none, restored-at, restored-whole}
 use Rattle.sheet_archive.proofs.restore.Statement.{statement}
 use Rattle.sheet_archive.proofs.restore.Tie as tie
 
 abbrev Inv-loop : tie.InvT-loop
-Inv-loop archive sheet₀ column₀ sheet column =
-    (column ≤ sheetColumns) × ((length archive ≡ sheetLength) × ((length sheet ≡ length sheet₀) × Restored archive sheet column 0))
+Inv-loop archive sheet₀ four₀ sheet four =
+    (four ≤ 6) × ((length archive ≡ sheetLength) × ((length sheet ≡ length sheet₀) × Restored archive sheet (4 * four) 0 0))
 
 abbrev μ-loop : tie.MeasureT-loop
-μ-loop archive sheet₀ column₀ sheet column = sheetColumns - column
+μ-loop archive sheet₀ four₀ sheet four = 6 - four
 
 sizes-fit-requires : tie.Need-sizes-fit-requires Inv-loop μ-loop
 sizes-fit-requires c κs = search needs
@@ -44,11 +44,14 @@ loop-holds c =
     let long₀ = destination-fits (length (now (a .archive))) (length (now (a .sheet))) fit in
     (search needs, (long, (refl, restored-none (now (a .archive)) (h .last .1 .0) (now (a .sheet)) long (h .kept .1 .0 ∙ long₀) (h .ensures))))
 
-restore-column-requires : tie.Need-restore-column-requires Inv-loop μ-loop
-restore-column-requires c κs = search needs
+mul-restore-four : tie.Need-mul-restore-four Inv-loop μ-loop
+mul-restore-four c = search needs
 
-add-column : tie.Need-add-column Inv-loop μ-loop
-add-column c = search needs
+restore-four-requires : tie.Need-restore-four-requires Inv-loop μ-loop
+restore-four-requires c κs = search needs
+
+add-four : tie.Need-add-four Inv-loop μ-loop
+add-four c = search needs
 
 loop-less : tie.Need-loop-less Inv-loop μ-loop
 loop-less c = search needs
@@ -56,8 +59,9 @@ loop-less c = search needs
 loop-again : tie.Need-loop-again Inv-loop μ-loop
 loop-again c =
     let l = c .before .before .before .before .before .loop in
-    let w = c .before .before .restore-column in
-    (search needs, (l .inv .1 .0, (omega (arith, w .kept .1 .0), w .ensures)))
+    let w = c .before .before .restore-four in
+    let next : 4 * l .four + 4 ≡ 4 * (l .four + 1) = omega arith in
+    (search needs, (l .inv .1 .0, (omega (arith, w .kept .1 .0), restored-at next (w .ensures))))
 
 same-length : tie.Need-same-length Inv-loop μ-loop
 same-length c = c .before .loop .inv .1 .1 .0 ∙ c .before .before .before .before .copy-header .kept .1 .0
@@ -69,7 +73,7 @@ returns-2 c =
     let a = c .before .before .before .before .before .before .before .before .before .before .args in
     let fit = sym (c .before .before .before .before .before .before .before .sizes-fit .ensures) ∙ not-false _ (c .before .before .before .before .before .before .if1 .left) in
     let said = accepted-sheet (now (a .archive)) (now (a .sheet)) fit in
-    let end : l .column ≡ sheetColumns = omega arith in
+    let end : l .four ≡ 6 = omega arith in
     (said .0, restored-whole (now (a .archive)) (l .sheet) (rw end at (l .inv .1 .1 .1)) ∙ said .1)
 
 pub restore-spec : {M : Type 1} → statement M
@@ -82,8 +86,9 @@ restore-spec =
     returns
     copy-header-requires
     loop-holds
-    restore-column-requires
-    add-column
+    mul-restore-four
+    restore-four-requires
+    add-four
     loop-less
     loop-again
     same-length
