@@ -21,8 +21,7 @@
  * ANSWERS
  *
  *   `refusal` is 0 for an accepted call, or the number of the first objection that holds, in the order that each function
- *   names. A refused call leaves every byte of the book, or of the buffer that it writes, as it was, and every value in its
- *   answer is 0.
+ *   names. A refused call leaves every byte of the book as it was, and every value in its answer is 0.
  *   `record` is, after refusal 2, the index of a faulty record (which one of several is not laid down); after an accepted
  *   ssp_enrol, the index of the new record; else 0.
  *

@@ -3,7 +3,7 @@
 use std::error::Error;
 use std::fmt;
 
-/// Why a call was refused. A refused call leaves every byte of the book, or of the buffer, as it was.
+/// Why a call was refused. A refused call leaves every byte of the book as it was.
 #[derive(Clone, Copy, Debug, PartialEq, Eq, Hash)]
 #[non_exhaustive]
 pub enum Refusal {

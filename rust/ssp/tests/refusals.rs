@@ -4,7 +4,7 @@
 mod household;
 
 use household::household;
-use ssp_book::{Book, Day, Enrolment, Order, Refusal, archive_sheet_into, option, restore_sheet_into, run};
+use ssp_book::{Book, Day, Enrolment, Order, Refusal, option, run};
 
 const DAY: Day = Day {
     year: 2013,
@@ -236,6 +236,7 @@ fn other() {
 
 #[test]
 fn buffer_size() {
+    use ssp_book::{archive_sheet_into, restore_sheet_into};
     let text = "a buffer is not of a sheet's 1,184 bytes";
     let (whole, short) = ([0; Book::SHEET], [0; Book::SHEET - 1]);
     for refusal in [
