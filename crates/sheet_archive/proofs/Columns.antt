@@ -1,6 +1,6 @@
 -- Differences and running sums of a column undo each other modulo 2^32.
 use Prim.Native.Nat.{ℕ, zero, suc, _+_, _^_, _≤_, _<_}
-use mathlib.Core.Path.{_≡_, refl, ap, ap₂, _∙_}
+use mathlib.Core.Path.{_≡_, refl, ap₂, _∙_}
 use native.Mathlib.Numerals.{add-one}
 use native.Mathlib.Omega.{arith}
 use Rattle.sheet_archive.specs.Archive.{minus, plus, differences, sums}
@@ -47,10 +47,6 @@ differences-of-sums f w zero = refl
 differences-of-sums f w (suc m) = minus-plus (f (suc m)) (sums f m) (w (suc m)) (sums-words f w m)
 
 -- A TURN OF EACH LOOP: in an archive a number is a difference from the one before, in a sheet the sum of that one and more
-pub before-none : (f : ℕ → ℕ) → 0 ≡ before f 0
-unfolding before
-before-none f = refl
-
 pub before-next : (f : ℕ → ℕ) (m : ℕ) {number : ℕ} → number ≡ f m → number ≡ before f (m + 1)
 unfolding before
 before-next f m e = rw (add-one m) e

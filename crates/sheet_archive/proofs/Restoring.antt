@@ -1,6 +1,6 @@
 -- A sheet is restored by four columns, and these month by month: a number that is stored leaves all others, and a sheet whose
 -- numbers all stand is the sheet of the archive.
-use Prim.Native.Nat.{ℕ, _+_, _-_, _*_, _^_, _≤_, _<_}
+use Prim.Native.Nat.{ℕ, _+_, _-_, _*_, _≤_, _<_}
 use mathlib.Core.Path.{_≡_, refl, sym, ap, subst, _∙_}
 use mathlib.Core.List.{List, _++_}
 use native.Mathlib.Decide.{decLt}

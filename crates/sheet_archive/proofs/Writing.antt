@@ -1,19 +1,18 @@
 -- A table is written line by line and a line number by number, each where the one before it ends; what is written can be read
 -- at once.
-use Prim.Native.Nat.{ℕ, suc, _+_, _*_, _^_, _≤_, _<_}
+use Prim.Native.Nat.{ℕ, _+_, _*_, _≤_}
 use mathlib.Core.Path.{_≡_, sym, ap, ap₂, _∙_}
 use mathlib.Core.List.{List, _++_, append-assoc, append-nil}
-use native.Mathlib.Nat.{mul-suc, mul-le-mul-left}
+use native.Mathlib.Nat.{mul-suc}
 use native.Mathlib.Numerals.{add-one}
 use native.Mathlib.Omega.{arith}
-use lib.ListN.{length, drop, length-append, drop-of-length-le}
-use Rattle.codec.specs.Bytes.{littleEndian, bytesOf, number, stored}
+use lib.ListN.{length, length-append, drop-of-length-le}
+use Rattle.codec.specs.Bytes.{bytesOf, stored}
 use Rattle.codec.proofs.Numbers.{length-bytes}
-use Rattle.codec.proofs.Parts.{part-first}
-use Rattle.codec.proofs.Stores.{part-before, stored-over}
+use Rattle.codec.proofs.Stores.{stored-over}
 use Rattle.codec.proofs.Pieces.{stored-then, stored-none}
-use Rattle.sheet_archive.specs.Tables.{headerLength, numberIn, pieces, line, lines, tableLength}
-use Rattle.sheet_archive.proofs.Tables.{length-line, length-lines, number-in-lines}
+use Rattle.sheet_archive.specs.Tables.{headerLength, pieces, line, lines, tableLength}
+use Rattle.sheet_archive.proofs.Tables.{length-line, length-lines}
 
 -- A LINE from `at` on, of the string t₀
 module _ (at : ℕ) (f : ℕ → ℕ) (t₀ : List ℕ) where
