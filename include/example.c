@@ -1,5 +1,6 @@
 /*
- * Three years of one user, the first advance of another, and calls that are refused: every field of every answer is printed.
+ * Three years of one user, the first advance of another, calls that are refused, and a sheet to its archive and back: every
+ * field of every answer is printed.
  *
  *     gcc -std=c11 -Wall -Wextra -Werror -Iinclude include/example.c target/staticlib/libssp.a -o example
  *
@@ -22,11 +23,18 @@ enum { RECORD = 80, HYDRO = 270013, HOUSEHOLD = 7, HEADER = 32, NUMBERS_A_MONTH 
 
 static uint8_t book[16 * RECORD];
 static uint8_t sheet[SSP_SHEET_LENGTH];
+static uint8_t archive[SSP_SHEET_LENGTH];
+static uint8_t restored[SSP_SHEET_LENGTH];
 
 static void put(uint8_t *at, uint32_t number, int bytes)
 {
     for (int k = 0; k < bytes; k++)
         at[k] = (uint8_t)(number >> 8 * k);
+}
+
+static uint32_t number(const uint8_t *at)
+{
+    return at[0] | (uint32_t)at[1] << 8 | (uint32_t)at[2] << 16 | (uint32_t)at[3] << 24;
 }
 
 /* The year sheet of the hydroelectric plant, by bands, with twelve equal months; each year it injects more. */
@@ -132,6 +140,22 @@ static void statement(const char *call, uint32_t number)
     amount("closed_advances", sums.closed_advances);
 }
 
+/* A sheet to its archive and back. The kWh injected in F1, the fourth column of the archive, were 9 less in February. */
+static void archive_and_restore(void)
+{
+    const int column = 3;
+
+    write_sheet(2016);
+    put(sheet + HEADER + 4 * (NUMBERS_A_MONTH + column), number(sheet + HEADER + 4 * column) - 9, 4);
+    printf("archive: refusal %" PRIu32 "\n", ssp_archive(sheet, sizeof sheet, archive, sizeof archive));
+    for (int m = 0; m < 4; m++)
+        printf("  injected in F1   %" PRIu32 "\n", number(archive + HEADER + 4 * (12 * column + m)));
+    printf("restore: refusal %" PRIu32 "\n", ssp_restore(archive, sizeof archive, restored, sizeof restored));
+    printf("  %s\n", memcmp(sheet, restored, sizeof sheet) == 0 ? "the sheet as it was" : "another sheet");
+    printf("archive of 1,183 bytes: refusal %" PRIu32 "\n", ssp_archive(sheet, 1183, archive, sizeof archive));
+    printf("restore into 1,183 bytes: refusal %" PRIu32 "\n", ssp_restore(archive, sizeof archive, restored, 1183));
+}
+
 int main(void)
 {
     printf("interface of the header: %s that of the library\n", ssp_interface() == SSP_INTERFACE ? "equal to" : "NOT");
@@ -184,5 +208,7 @@ int main(void)
     advance("advance in a damaged book", HYDRO, 2016, SSP_OCTOBER, 23011, 1, 2);
     close_year("close in a damaged book", 2016);
     statement("statement in a damaged book", HYDRO);
+
+    archive_and_restore();
     return 0;
 }

@@ -15,7 +15,7 @@
  *   user, each advance and each closing one more. docs/FORMAT.md has the book byte by byte. A buffer becomes a book by
  *   ssp_fresh. It may then be stored, copied or moved between calls; the bytes are the whole of it.
  *
- *   Every call but ssp_fresh checks the whole book first, so a book of any bytes is safe to pass: damage is answered with
+ *   Every call on a book but ssp_fresh checks the whole of it first, so any bytes are safe to pass: damage is answered with
  *   refusal 2.
  *
  * ANSWERS
@@ -45,14 +45,16 @@
  *   14  A domestic user (class 1 or 2) withdrew more than 4,000,000 kWh in a month.
  *   19  A single reading has kWh in F2 or F3: at `month` and `place`. The earliest number at fault decides between 13 and 19,
  *       and where it has both faults, 13 is answered.
+ *   27  A buffer of ssp_archive or ssp_restore is not of SSP_SHEET_LENGTH bytes.
  *
  * MEMORY
  *
- *   `book` points to `len` bytes, and `sheet` to `sheet_len` bytes, that are valid for the whole call: readable, and for a
- *   `book` that is not const also writable. They need no alignment. Book and sheet must not overlap. During the call nobody
- *   else may write to them, nor read a book that is not const: no other thread, no signal handler, no device. Once a call has
- *   returned, the library holds nothing. No length has a minimum or a maximum that the caller must keep. With length 0 no byte
- *   is read or written and the pointer may be NULL: such a book is refused with 1, such a sheet with 11.
+ *   `book` points to `len` bytes, `sheet` to `sheet_len` and `archive` to `archive_len`, that are valid for the whole call:
+ *   readable, and what is not const also writable. They need no alignment. The buffers of one call must not overlap. During the
+ *   call nobody else may write to them, nor read one that is not const: no other thread, no signal handler, no device. Once a
+ *   call has returned, the library holds nothing. No length has a minimum or a maximum that the caller must keep. With length 0
+ *   no byte is read or written and the pointer may be NULL: such a book is refused with 1, such a sheet with 11, and by
+ *   ssp_archive and ssp_restore with 27.
  *
  * THREADS
  *
@@ -65,7 +67,7 @@
 #include <stdint.h>
 
 /* Header and library belong together, since answers grow: this is to be the number that ssp_interface() answers. */
-#define SSP_INTERFACE 2
+#define SSP_INTERFACE 3
 
 #ifdef __cplusplus
 extern "C" {
@@ -219,6 +221,20 @@ struct ssp_closed ssp_close(uint8_t *book, size_t len, const uint8_t *sheet, siz
 
 /* States a user's account. Never writes. Refusals in the order 1 2 6. */
 struct ssp_sums ssp_statement(const uint8_t *book, size_t len, uint32_t number);
+
+/*
+ * Writes the archive of a year sheet: the header, then 24 columns of twelve, one for each quantity over the year, each number
+ * after the first of its column replaced by its difference from the one before, modulo 2^32. docs/FORMAT.md has it byte by byte.
+ * Nothing of the sheet is checked but its length. Returns 0, or 27 where either length is not SSP_SHEET_LENGTH, and then leaves
+ * every byte of the archive.
+ */
+uint32_t ssp_archive(const uint8_t *sheet, size_t sheet_len, uint8_t *archive, size_t archive_len);
+
+/*
+ * Writes the year sheet of an archive: what ssp_archive made of a sheet becomes that sheet again, byte by byte. Any bytes are an
+ * archive. Returns 0, or 27 where either length is not SSP_SHEET_LENGTH, and then leaves every byte of the sheet.
+ */
+uint32_t ssp_restore(const uint8_t *archive, size_t archive_len, uint8_t *sheet, size_t sheet_len);
 
 #ifdef __cplusplus
 }

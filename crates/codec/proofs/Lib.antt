@@ -1,2 +1,5 @@
 pub mod Numbers
+pub mod ByteRanges
+pub mod Parts
 pub mod Stores
+pub mod Pieces

@@ -1,6 +1,6 @@
 -- Laws of a store: the bytes stored are read back, and bytes before and after it stay.
 use Prim.Native.Nat.{ℕ, zero, suc, _+_, _-_, _^_, _≤_, _<_}
-use mathlib.Core.Path.{_≡_, refl, sym, ap, _∙_}
+use mathlib.Core.Path.{_≡_, refl, sym, ap, ap₂, _∙_}
 use mathlib.Core.List.{List, [], _∷_, _++_, append-assoc}
 use native.Mathlib.Omega.{arith}
 use lib.ListN.{length, getD, take, drop, length-append, length-take, length-drop}
@@ -33,18 +33,29 @@ part-before w o at bs s h l =
     ∙ ap (take w) (drop-take o at s)
     ∙ take-take w (at - o) (drop o s) (omega arith)
 
-pub part-after : (w o at : ℕ) (bs s : List ℕ) → at + length bs ≤ o → at ≤ length s → part w o (stored at bs s) ≡ part w o s
-unfolding part stored
-part-after w o at bs s h l =
+pub drop-after : (o at : ℕ) (bs s : List ℕ) → at + length bs ≤ o → at ≤ length s → drop o (stored at bs s) ≡ drop o s
+unfolding stored
+drop-after o at bs s h l =
     let end : length (take at s ++ bs) ≡ at + length bs = simp (length-append, length-take) (omega arith) in
     let reach : o ≡ length (take at s ++ bs) + (o - (at + length bs)) = rw end (omega arith) in
     let rest : (at + length bs) + (o - (at + length bs)) ≡ o = omega arith in
-    ap (take w)
-    (ap (drop o) (sym (append-assoc (take at s) bs (drop (at + length bs) s)))
+    ap (drop o) (sym (append-assoc (take at s) bs (drop (at + length bs) s)))
     ∙ ap (λ (k : ℕ). drop k ((take at s ++ bs) ++ drop (at + length bs) s)) reach
     ∙ drop-append-add (take at s ++ bs) (drop (at + length bs) s) (o - (at + length bs))
     ∙ drop-drop (o - (at + length bs)) (at + length bs) s
-    ∙ ap (λ (k : ℕ). drop k s) rest)
+    ∙ ap (λ (k : ℕ). drop k s) rest
+
+pub part-after : (w o at : ℕ) (bs s : List ℕ) → at + length bs ≤ o → at ≤ length s → part w o (stored at bs s) ≡ part w o s
+unfolding part
+part-after w o at bs s h l = ap (take w) (drop-after o at bs s h l)
+
+-- what is stored over a shorter piece leaves nothing of it
+pub stored-over : (at : ℕ) (bs cs s : List ℕ) → length cs ≤ length bs → at + length bs ≤ length s
+    → stored at bs (stored at cs s) ≡ stored at bs s
+unfolding stored
+stored-over at bs cs s h room =
+    ap₂ (λ (l r : List ℕ). l ++ (bs ++ r)) (take-at (take at s) (cs ++ drop (at + length cs) s) at (length-take-le at s (omega arith)))
+    (drop-after (at + length bs) at cs s (omega arith) (omega arith))
 
 -- the number written is the number read
 pub number-stored : (w at n : ℕ) (s : List ℕ) → n < 256 ^ w → at ≤ length s → number w at (stored at (bytesOf w n) s) ≡ n

@@ -78,6 +78,17 @@ pub fn read_u64(s: &[u8], at: usize) -> u64
     }
 }
 
+// A number of four bytes goes to its place in a lent string.
+pub fn store_u32(s: &mut [u8], at: usize, n: u32)
+    requires { ⌜ at + 4 ≤ length (now s) ⌝ }
+    ensures { λ _. ⌜ now (s .exit) ≡ stored at (bytesOf 4 n) (now (s .entry)) ⌝ }
+{
+    s[at] = (n % 256) as u8;
+    s[at + 1] = (n / 256 % 256) as u8;
+    s[at + 2] = (n / 256 / 256 % 256) as u8;
+    s[at + 3] = (n / 256 / 256 / 256 % 256) as u8;
+}
+
 // The image with the lowest `width` bytes of a number from `at` on.
 pub fn write(image: [u8; 80], at: usize, width: usize, n: u64) -> [u8; 80]
     requires { ⌜ at + width ≤ 80 ⌝ }

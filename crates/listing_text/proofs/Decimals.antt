@@ -12,7 +12,7 @@ use lib.ListN.{length, set, length-append}
 use Rattle.codec.specs.Bytes.{stored}
 use Rattle.codec.proofs.Stores.{length-stored}
 use Rattle.listing_text.specs.Listing.{mostDigits, decimalOf, decimal}
-use Rattle.listing_text.proofs.Pieces.{stored-next}
+use Rattle.codec.proofs.Pieces.{stored-next}
 
 -- a digit more than are needed changes nothing
 decimal-more : (k n : ℕ) → n < 10 ^ suc k → decimalOf (suc (suc k)) n ≡ decimalOf (suc k) n

@@ -1,4 +1,3 @@
-pub mod Pieces
 pub mod Decimals
 pub mod Lines
 pub mod Walk

@@ -9,7 +9,7 @@ use Rattle.codec.specs.Bytes.{stored}
 use Rattle.book.specs.Book.{accountAt}
 use Rattle.listing_text.specs.Listing.{decimal, blank, lineFeed, line}
 use Rattle.listing_text.specs.Written.{longestField, longestLine, field, accountLine}
-use Rattle.listing_text.proofs.Pieces.{stored-next, stored-then}
+use Rattle.codec.proofs.Pieces.{stored-next, stored-then}
 use Rattle.listing_text.proofs.Decimals.{decimal-short}
 
 pub length-field : (n x : ℕ) → length (field n x) ≡ length (decimal n) + 1

@@ -17,7 +17,7 @@ use Rattle.soundness.specs.Verdicts.{BookJudged, Accepted, Objected}
 use Rattle.book.proofs.Faults.{faulty-not-sound}
 use Rattle.listing_text.specs.Listing.{blank, lineFeed, lines, refused, listing}
 use Rattle.listing_text.specs.Written.{longestRefusal, longestText, field, AllWritten}
-use Rattle.listing_text.proofs.Pieces.{stored-then}
+use Rattle.codec.proofs.Pieces.{stored-then}
 use Rattle.listing_text.proofs.Walk.{text-short}
 use Rattle.listing_text.proofs.Lines.{field-short}
 

@@ -22,7 +22,7 @@ use Rattle.chains.proofs.Links.{first-user, users-fall}
 use Rattle.chains.proofs.Walks.{walk-here, walk-on, walk-falls, walk-chain}
 use Rattle.listing_text.specs.Listing.{line, lines}
 use Rattle.listing_text.specs.Written.{longestLine, mostUsers, longestText, accountLine}
-use Rattle.listing_text.proofs.Pieces.{stored-then, stored-none}
+use Rattle.codec.proofs.Pieces.{stored-then, stored-none}
 use Rattle.listing_text.proofs.Lines.{line-short, user-line}
 
 lines-short : (b is : List ℕ) → length (lines b is) ≤ longestLine * length is

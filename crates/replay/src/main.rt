@@ -1,5 +1,5 @@
-// Replays a script of calls on a book: one call a line on standard input, one answer a line on standard output, numbers in
-// decimal with one blank between. A line that is no call is answered `error` and changes nothing.
+// Replays a script of calls on a book and on sheets: one call a line on standard input, one answer a line on standard output,
+// numbers in decimal with one blank between. A line that is no call is answered `error` and changes nothing.
 use accounts::Balance;
 use accounts::ClosingSums;
 use advance::Advanced;
@@ -8,6 +8,7 @@ use close::Closed;
 use input::Found;
 use listing_text::Listed;
 use output::Row;
+use script::Digits;
 use script::Order;
 use sheet::Position;
 use statement::Stated;
@@ -22,8 +23,8 @@ ghost use lib.ListN.{length};
 ghost use Rattle.script.specs.Orders.{longestBook};
 ghost use Rattle.replay.specs.Lines.{LineDone, FoundDone};
 
-// What the longest dump takes: two digits a byte, and the line feed.
-const DUMP: usize = 131_073;
+// What the longest answer takes: `0`, a blank, two digits a byte, and the line feed.
+const ANSWER: usize = 131_075;
 
 // The length of the book after a line, and whether to look for the next one.
 struct Step {
@@ -129,13 +130,20 @@ fn say_stated(answer: Stated) -> bool {
     say(put_sums(refusal_of(answer.reply), answer.sums))
 }
 
-// Prints the book in hexadecimal, by way of `out`.
-fn dump(book: &[u8], out: &mut [u8]) -> bool
-    requires { ⌜ 2 * length (now book) + 1 ≤ length (now out) ⌝ }
+// Prints a text up to a place.
+fn say_front(text: &[u8], end: usize) -> bool
+    requires { ⌜ end ≤ length (now text) ⌝ }
 {
-    let end = text::hex_to(book, out);
+    say_text(&text[..end])
+}
+
+// Prints bytes in hexadecimal, behind what stands in `out` up to a place.
+fn say_hex(bytes: &[u8], out: &mut [u8], at: usize) -> bool
+    requires { ⌜ at + 2 * length (now bytes) + 1 ≤ length (now out) ⌝ }
+{
+    let end = at + text::hex_to(bytes, &mut out[at..]);
     out[end] = b'\n';
-    say_text(&out[..end + 1])
+    say_front(out, end + 1)
 }
 
 // Prints the listing, by way of `out`, which has room for every listing.
@@ -152,6 +160,52 @@ fn close_year(book: &mut [u8], line: &[u8], at: usize) -> bool {
         return say_error();
     };
     say_closed(close::close(book, &sheet[..count]))
+}
+
+// The number of an accepted call, and a blank.
+fn put_accepted(out: &mut [u8])
+    requires { ⌜ 2 ≤ length (now out) ⌝ }
+{
+    out[0] = b'0';
+    out[1] = b' ';
+}
+
+// Prints the number of an answer, and of an accepted one the buffer after it, by way of `out`.
+fn say_buffer(refusal: u32, buffer: &[u8], out: &mut [u8]) -> bool
+    requires { ⌜ 2 * length (now buffer) + 3 ≤ length (now out) ⌝ }
+{
+    if refusal != 0 {
+        return say_fresh(refusal);
+    }
+    put_accepted(out);
+    say_hex(buffer, out, 2)
+}
+
+fn archive_or_restore(back: bool, source: &[u8], buffer: &mut [u8]) -> u32 {
+    if back {
+        sheet_archive::restore(source, buffer)
+    } else {
+        sheet_archive::archive(source, buffer)
+    }
+}
+
+// A sheet to its archive, or back, into a buffer that holds the second word's bytes.
+fn rearrange(line: &[u8], source: Digits, buffer: Digits, back: bool, out: &mut [u8]) -> bool
+    requires { ⌜ 2 * longestBook + 3 ≤ length (now out) ⌝ }
+{
+    let mut from = io::large_buffer();
+    let Bytes::Read(read) = text::hex_from(text::front(line, source.to), source.from, &mut from)
+    else {
+        return say_error();
+    };
+    let mut to = io::large_buffer();
+    let Bytes::Read(room) = text::hex_from(text::front(line, buffer.to), buffer.from, &mut to)
+    else {
+        return say_error();
+    };
+    let lent = &mut to[..room];
+    let refusal = archive_or_restore(back, &from[..read], lent);
+    say_buffer(refusal, lent, out)
 }
 
 fn new_book(buffer: &mut [u8], len: usize) -> usize
@@ -178,9 +232,10 @@ fn load_book(buffer: &mut [u8], len: usize, line: &[u8], at: usize) -> Step
     }
 }
 
-// Makes a call on the book and prints its answer.
+// Makes a call, on the book or on sheets, and prints its answer.
 fn call(order: Order, line: &[u8], book: &mut [u8], out: &mut [u8]) -> bool
     requires { ⌜ 2 * length (now book) + 1 ≤ length (now out) ⌝ }
+    requires { ⌜ 2 * longestBook + 3 ≤ length (now out) ⌝ }
 {
     match order {
         Order::Fresh => say_fresh(soundness::fresh(book)),
@@ -231,7 +286,9 @@ fn call(order: Order, line: &[u8], book: &mut [u8], out: &mut [u8]) -> bool
         }
         Order::Close(at) => close_year(book, line, at),
         Order::Statement(number) => say_stated(statement::statement(book, UserNumber(number))),
-        Order::Dump => dump(book, out),
+        Order::Archive { sheet, buffer } => rearrange(line, sheet, buffer, false, out),
+        Order::Restore { archive, buffer } => rearrange(line, archive, buffer, true, out),
+        Order::Dump => say_hex(book, out, 0),
         Order::List => list(book, out),
         Order::New(_) => say_error(),
         Order::Load(_) => say_error(),
@@ -242,7 +299,7 @@ fn call(order: Order, line: &[u8], book: &mut [u8], out: &mut [u8]) -> bool
 // Does what a line asks on the book in the first `len` bytes of the buffer.
 fn answer(line: &[u8], buffer: &mut [u8], len: usize, out: &mut [u8]) -> Step
     requires { ⌜ (longestBook ≤ length (now buffer)) × (len ≤ length (now buffer)) ⌝ }
-    requires { ⌜ 2 * length (now buffer) + 1 ≤ length (now out) ⌝ }
+    requires { ⌜ 2 * length (now buffer) + 3 ≤ length (now out) ⌝ }
     ensures { λ r. ⌜ LineDone (now (line .entry)) (now (buffer .entry)) (now (buffer .exit)) len (r .len) ⌝ }
 {
     let order = script::order_of(line);
@@ -266,7 +323,7 @@ fn answer(line: &[u8], buffer: &mut [u8], len: usize, out: &mut [u8]) -> Step
 // Answers what was found where a line was looked for. Only a whole line is made a call.
 fn answer_found(found: Found, line: &[u8], buffer: &mut [u8], len: usize, out: &mut [u8]) -> Step
     requires { ⌜ (longestBook ≤ length (now buffer)) × (len ≤ length (now buffer)) ⌝ }
-    requires { ⌜ 2 * length (now buffer) + 1 ≤ length (now out) ⌝ }
+    requires { ⌜ 2 * length (now buffer) + 3 ≤ length (now out) ⌝ }
     ensures { λ r. ⌜ FoundDone found (now (line .entry)) (now (buffer .entry)) (now (buffer .exit)) len r ⌝ }
 {
     match found {
@@ -290,7 +347,7 @@ fn answer_found(found: Found, line: &[u8], buffer: &mut [u8], len: usize, out: &
 // A proved loop has to end, so the lines are counted to a number that no input reaches.
 fn run(held: &mut [u8], buffer: &mut [u8], out: &mut [u8])
     requires { ⌜ longestBook ≤ length (now buffer) ⌝ }
-    requires { ⌜ 2 * length (now buffer) + 1 ≤ length (now out) ⌝ }
+    requires { ⌜ 2 * length (now buffer) + 3 ≤ length (now out) ⌝ }
 {
     let mut line = input::start();
     let mut len = 0;
@@ -316,6 +373,6 @@ fn main() {
     }
     let mut held = input::line_buffer();
     let mut buffer = io::large_buffer();
-    let mut out = [0u8; DUMP];
+    let mut out = [0u8; ANSWER];
     run(&mut held, &mut buffer, &mut out);
 }

@@ -15,7 +15,7 @@ use Rattle.text.specs.declared.Number.the-variants as number
 use Rattle.text.specs.Text.{fieldAt, afterFields}
 use Rattle.script.specs.declared.Order.{Order}
 use Rattle.script.specs.declared.Order.the-variants as order
-use Rattle.script.specs.Orders.{newWord, loadWord, freshWord, enrolWord, electWord, advanceWord, closeWord, statementWord, dumpWord, listWord, longestBook, longestLine, begins, isAtMost, valueOf, numbersFit, numberOf, bytesFit, newOrder, enrolOrder, electOrder, advanceOrder, statementOrder, loadOrder, closeOrder, aloneOrder, callOrder, bookOrder, orderOf, enrolMost, electMost, advanceMost, most32}
+use Rattle.script.specs.Orders.{newWord, loadWord, freshWord, enrolWord, electWord, advanceWord, closeWord, statementWord, archiveWord, restoreWord, dumpWord, listWord, longestBook, longestLine, begins, isAtMost, valueOf, numbersFit, numberOf, bytesFit, wordsAt, newOrder, enrolOrder, electOrder, advanceOrder, statementOrder, loadOrder, closeOrder, archiveOrder, restoreOrder, sheetOrder, aloneOrder, callOrder, bookOrder, orderOf, enrolMost, electMost, advanceMost, most32}
 
 abbrev pub NewFits : Order → Type 0
 NewFits (order.New n) = n ≤ longestBook
@@ -26,6 +26,8 @@ NewFits (order.Elect number option year month day) = Unit {0}
 NewFits (order.Advance number year run rate estimate1 estimate2) = Unit {0}
 NewFits (order.Close at) = Unit {0}
 NewFits (order.Statement number) = Unit {0}
+NewFits (order.Archive sheet buffer) = Unit {0}
+NewFits (order.Restore archive buffer) = Unit {0}
 NewFits order.Dump = Unit {0}
 NewFits order.List = Unit {0}
 NewFits order.Wrong = Unit {0}
@@ -59,13 +61,15 @@ unfolding aloneOrder
 alone-fits line word asked h = either (eqb (length line) (length word)) asked order.Wrong h tt
 
 call-fits : (line : List ℕ) → NewFits (callOrder line)
-unfolding callOrder enrolOrder electOrder advanceOrder closeOrder statementOrder
+unfolding callOrder enrolOrder electOrder advanceOrder closeOrder statementOrder sheetOrder archiveOrder restoreOrder
 call-fits line =
     either (begins line enrolWord) _ _ (either (numbersFit line (length enrolWord) enrolMost) _ _ tt tt)
     (either (begins line electWord) _ _ (either (numbersFit line (length electWord) electMost) _ _ tt tt)
     (either (begins line advanceWord) _ _ (either (numbersFit line (length advanceWord) advanceMost) _ _ tt tt)
     (either (begins line closeWord) _ _ (either (bytesFit line (length closeWord)) _ _ tt tt)
-    (either (begins line statementWord) _ _ (either (numbersFit line (length statementWord) (most32 ∷ [])) _ _ tt tt) tt))))
+    (either (begins line statementWord) _ _ (either (numbersFit line (length statementWord) (most32 ∷ [])) _ _ tt tt)
+    (either (begins line archiveWord) _ _ (either (wordsAt line (length archiveWord) .fit) _ _ tt tt)
+    (either (begins line restoreWord) _ _ (either (wordsAt line (length restoreWord) .fit) _ _ tt tt) tt))))))
 
 pub new-fits : (line : List ℕ) → NewFits (orderOf line)
 unfolding orderOf bookOrder loadOrder

@@ -1,17 +1,20 @@
 -- What a line of a script asks: the words in ASCII, what has to stand after each, and every other line wrong.
-use Prim.Native.Nat.{ℕ, _+_, _*_, _≤_, _<_}
+use Prim.Native.Nat.{ℕ, _+_, _-_, _*_, _≤_, _<_}
 use mathlib.Core.Path.{_≡_}
 use mathlib.Core.Bool.{Bool, true, false, cond, _&&_, _||_}
 use mathlib.Core.List.{List, [], _∷_}
 use lib.Dec.{leb, ltb, eqb}
-use lib.ListN.{length, getD, drop}
+use lib.ListN.{length, getD, take, drop}
 use Rattle.units.specs.Folds.{allBelow}
 use Rattle.text.specs.declared.Number.{Number}
 use Rattle.text.specs.declared.Number.the-variants as number
-use Rattle.text.specs.Text.{isHex, isBlankAt, afterBlank, fieldAt, afterFields}
+use Rattle.text.specs.Text.{isHex, isBlankAt, afterBlank, fieldAt, afterFields, wordEnd}
 use Rattle.script.specs.declared.Order.{Order}
 use Rattle.script.specs.declared.Order.the-variants as order
 use Rattle.script.specs.declared.Fields.{Fields}
+use Rattle.script.specs.declared.Digits.{Digits}
+use Rattle.script.specs.declared.Word.{Word}
+use Rattle.script.specs.declared.Words.{Words}
 
 -- the words
 abbrev pub newWord : List ℕ
@@ -37,6 +40,12 @@ closeWord = 99 ∷ 108 ∷ 111 ∷ 115 ∷ 101 ∷ []
 
 abbrev pub statementWord : List ℕ
 statementWord = 115 ∷ 116 ∷ 97 ∷ 116 ∷ 101 ∷ 109 ∷ 101 ∷ 110 ∷ 116 ∷ []
+
+abbrev pub archiveWord : List ℕ
+archiveWord = 97 ∷ 114 ∷ 99 ∷ 104 ∷ 105 ∷ 118 ∷ 101 ∷ []
+
+abbrev pub restoreWord : List ℕ
+restoreWord = 114 ∷ 101 ∷ 115 ∷ 116 ∷ 111 ∷ 114 ∷ 101 ∷ []
 
 abbrev pub dumpWord : List ℕ
 dumpWord = 100 ∷ 117 ∷ 109 ∷ 112 ∷ []
@@ -100,6 +109,35 @@ numberOf line at k = valueOf (fieldAt line (afterFields line at k))
 unfoldable pub bytesFit : List ℕ → ℕ → Bool
 bytesFit line at = (isBlankAt line at || eqb at (length line)) && isHex (drop (afterBlank line at) line) longestBook
 
+-- a word of bytes after one blank: hexadecimal digits, or `-` for none. It ends at the next blank or with the line; its digits
+-- stand from `from` to `to`.
+unfoldable pub isNoBytes : List ℕ → ℕ → Bool
+isNoBytes line from = eqb (getD line from 0) 45 && eqb (wordEnd line from - from) 1
+
+unfoldable pub isSomeBytes : List ℕ → ℕ → Bool
+isSomeBytes line from = ltb from (wordEnd line from) && isHex (drop from (take (wordEnd line from) line)) longestBook
+
+abbrev pub digitsAt : List ℕ → ℕ → Digits
+digitsAt line from = record { from = cond (isNoBytes line from) (wordEnd line from) from; to = wordEnd line from }
+
+unfoldable pub wordAt : List ℕ → ℕ → Word
+wordAt line at =
+    record {
+      fit = isBlankAt line at && (isNoBytes line (afterBlank line at) || isSomeBytes line (afterBlank line at));
+      digits = digitsAt line (afterBlank line at);
+    }
+
+-- two such words, from a place to the end of the line
+unfoldable pub wordsAt : List ℕ → ℕ → Words
+wordsAt line at =
+    let first : Word = wordAt line at in
+    let second : Word = wordAt line (first .digits .to) in
+    record {
+      fit = (first .fit && second .fit) && eqb (second .digits .to) (length line);
+      first = first .digits;
+      second = second .digits;
+    }
+
 -- a word, and what has to stand after it
 unfoldable pub newOrder : List ℕ → Order
 newOrder line = cond (numbersFit line (length newWord) (longestBook ∷ [])) (order.New (numberOf line (length newWord) 0)) order.Wrong
@@ -129,9 +167,24 @@ loadOrder line = cond (bytesFit line (length loadWord)) (order.Load (afterBlank 
 unfoldable pub closeOrder : List ℕ → Order
 closeOrder line = cond (bytesFit line (length closeWord)) (order.Close (afterBlank line (length closeWord))) order.Wrong
 
+unfoldable pub archiveOrder : List ℕ → Order
+archiveOrder line =
+    let words : Words = wordsAt line (length archiveWord) in
+    cond (words .fit) (order.Archive (words .first) (words .second)) order.Wrong
+
+unfoldable pub restoreOrder : List ℕ → Order
+restoreOrder line =
+    let words : Words = wordsAt line (length restoreWord) in
+    cond (words .fit) (order.Restore (words .first) (words .second)) order.Wrong
+
 -- a word alone
 unfoldable pub aloneOrder : List ℕ → List ℕ → Order → Order
 aloneOrder line word asked = cond (eqb (length line) (length word)) asked order.Wrong
+
+-- the calls on sheets alone, and those on the book
+unfoldable pub sheetOrder : List ℕ → Order
+sheetOrder line =
+    cond (begins line archiveWord) (archiveOrder line) (cond (begins line restoreWord) (restoreOrder line) order.Wrong)
 
 unfoldable pub callOrder : List ℕ → Order
 callOrder line =
@@ -139,7 +192,7 @@ callOrder line =
     (cond (begins line electWord) (electOrder line)
     (cond (begins line advanceWord) (advanceOrder line)
     (cond (begins line closeWord) (closeOrder line)
-    (cond (begins line statementWord) (statementOrder line) order.Wrong))))
+    (cond (begins line statementWord) (statementOrder line) (sheetOrder line)))))
 
 unfoldable pub bookOrder : List ℕ → Order
 bookOrder line =

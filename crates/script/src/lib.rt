@@ -1,10 +1,18 @@
 // A line of a script of calls, from its bytes to what it asks. Every string of bytes is an ordinary input.
 ghost use mathlib.Core.Path.{_≡_};
+ghost use mathlib.Core.Bool.{cond};
 ghost use Prim.Native.Nat.{_≤_};
 ghost use lib.ListN.{length};
 ghost use Rattle.script.specs.Orders.{begins, bytesFit, NumbersRead, newOrder, enrolOrder, electOrder, advanceOrder, statementOrder, loadOrder, closeOrder, aloneOrder, callOrder, bookOrder, orderOf};
+ghost use Rattle.script.specs.Orders.{isNoBytes, isSomeBytes, wordAt, wordsAt, archiveOrder, restoreOrder, sheetOrder};
 
-// What a line asks. `Load` and `Close` name the place where their digits begin.
+// Where the digits of a word of bytes stand: none for `-`.
+pub struct Digits {
+    pub from: usize,
+    pub to: usize,
+}
+
+// What a line asks. `Load` and `Close` name the place where their digits begin, which go to the end of the line.
 pub enum Order {
     New(usize),
     Load(usize),
@@ -36,6 +44,14 @@ pub enum Order {
     },
     Close(usize),
     Statement(u32),
+    Archive {
+        sheet: Digits,
+        buffer: Digits,
+    },
+    Restore {
+        archive: Digits,
+        buffer: Digits,
+    },
     Dump,
     List,
     Wrong,
@@ -45,6 +61,19 @@ pub enum Order {
 pub struct Fields {
     pub fit: bool,
     pub values: [u64; 8],
+}
+
+// A word of bytes, and whether one stands there.
+pub struct Word {
+    pub fit: bool,
+    pub digits: Digits,
+}
+
+// Two words of bytes, and whether they are all that stands there.
+pub struct Words {
+    pub fit: bool,
+    pub first: Digits,
+    pub second: Digits,
 }
 
 // The longest buffer, and the longest line: `load`, a blank and two digits for each of its bytes.
@@ -91,6 +120,58 @@ fn bytes_fit(line: &[u8], at: usize) -> bool
 {
     let begun = (codec::byte_at(line, at) == b' ') | (at == line.len());
     begun & text::is_hex(line, text::after_blank(line, at), LONGEST_BOOK)
+}
+
+// A word from a place on is `-` alone, or hexadecimal digits.
+fn is_no_bytes(line: &[u8], from: usize) -> bool
+    ensures { λ r. ⌜ r ≡ isNoBytes (now (line .entry)) from ⌝ }
+{
+    (codec::byte_at(line, from) == b'-') & (text::word_end(line, from) - from == 1)
+}
+
+fn is_some_bytes(line: &[u8], from: usize) -> bool
+    ensures { λ r. ⌜ r ≡ isSomeBytes (now (line .entry)) from ⌝ }
+{
+    let to = text::word_end(line, from);
+    (from < to) & text::is_hex(text::front(line, to), from, LONGEST_BOOK)
+}
+
+fn choose(t: bool, a: usize, b: usize) -> usize
+    ensures { λ r. ⌜ r ≡ cond t a b ⌝ }
+{
+    if t { a } else { b }
+}
+
+// The word of bytes that stands at a place, after one blank.
+fn word_at(line: &[u8], at: usize) -> Word
+    ensures { λ r. ⌜ r ≡ wordAt (now (line .entry)) at ⌝ }
+{
+    let begun = codec::byte_at(line, at) == b' ';
+    let from = text::after_blank(line, at);
+    let to = text::word_end(line, from);
+    let none = is_no_bytes(line, from);
+    let digits = Digits {
+        from: choose(none, to, from),
+        to,
+    };
+    Word {
+        fit: begun & (none | is_some_bytes(line, from)),
+        digits,
+    }
+}
+
+fn words_at(line: &[u8], at: usize) -> Words
+    ensures { λ r. ⌜ r ≡ wordsAt (now (line .entry)) at ⌝ }
+{
+    let one = word_at(line, at);
+    let first = one.digits;
+    let two = word_at(line, first.to);
+    let second = two.digits;
+    Words {
+        fit: (one.fit & two.fit) & (second.to == line.len()),
+        first,
+        second,
+    }
 }
 
 fn new_order(line: &[u8]) -> Order
@@ -199,6 +280,32 @@ fn close_order(line: &[u8]) -> Order
     }
 }
 
+fn archive_order(line: &[u8]) -> Order
+    ensures { λ r. ⌜ r ≡ archiveOrder (now (line .entry)) ⌝ }
+{
+    let words = words_at(line, 7);
+    let sheet = words.first;
+    let buffer = words.second;
+    if words.fit {
+        Order::Archive { sheet, buffer }
+    } else {
+        Order::Wrong
+    }
+}
+
+fn restore_order(line: &[u8]) -> Order
+    ensures { λ r. ⌜ r ≡ restoreOrder (now (line .entry)) ⌝ }
+{
+    let words = words_at(line, 7);
+    let archive = words.first;
+    let buffer = words.second;
+    if words.fit {
+        Order::Restore { archive, buffer }
+    } else {
+        Order::Wrong
+    }
+}
+
 // The order of a word that stands alone.
 fn alone_order(line: &[u8], word: &[u8], asked: Order) -> Order
     ensures { λ r. ⌜ r ≡ aloneOrder (now (line .entry)) (now (word .entry)) asked ⌝ }
@@ -210,7 +317,20 @@ fn alone_order(line: &[u8], word: &[u8], asked: Order) -> Order
     }
 }
 
-// The five calls.
+// The calls on sheets alone.
+fn sheet_order(line: &[u8]) -> Order
+    ensures { λ r. ⌜ r ≡ sheetOrder (now (line .entry)) ⌝ }
+{
+    if begins(line, b"archive") {
+        return archive_order(line);
+    }
+    if begins(line, b"restore") {
+        return restore_order(line);
+    }
+    Order::Wrong
+}
+
+// The five calls on the book, and else one on sheets.
 fn call_order(line: &[u8]) -> Order
     ensures { λ r. ⌜ r ≡ callOrder (now (line .entry)) ⌝ }
 {
@@ -229,7 +349,7 @@ fn call_order(line: &[u8]) -> Order
     if begins(line, b"statement") {
         return statement_order(line);
     }
-    Order::Wrong
+    sheet_order(line)
 }
 
 // What concerns the whole book, and else a call.

@@ -15,11 +15,11 @@ use units::MAX_KWH;
 use units::MAX_PRICE;
 use units::UserNumber;
 
-const LENGTH: usize = 1184;
+pub const LENGTH: usize = 1184;
 
-const HEADER: usize = 32;
+pub const HEADER: usize = 32;
 
-const MONTHS: usize = 12;
+pub const MONTHS: usize = 12;
 // A month's numbers that have a limit; the one after them is zero.
 const NUMBERS: usize = 23;
 

@@ -1,6 +1,7 @@
 -- What the contract of each exported function says, of every call: a the arguments, r the answer, s the arguments at the end.
 use mathlib.Core.Path.{_≡_}
 use denote.Ref.{now}
+use Rattle.sheet_archive.specs.Archive.{answer, archiveAfter, sheetAfter}
 use Rattle.book.specs.Book.{used}
 use Rattle.soundness.specs.Verdicts.{freshAnswer, freshAfter}
 use Rattle.sheet.specs.YearSheet.{Tells}
@@ -17,6 +18,8 @@ use Rattle.ssp.proofs.ssp_elect.Reads as elect-of
 use Rattle.ssp.proofs.ssp_advance.Reads as advance-of
 use Rattle.ssp.proofs.ssp_close.Reads as close-of
 use Rattle.ssp.proofs.ssp_statement.Reads as statement-of
+use Rattle.ssp.proofs.ssp_archive.Reads as archive-of
+use Rattle.ssp.proofs.ssp_restore.Reads as restore-of
 
 pub interface-says : (κs : _) (a : _) (r : _) (s : _) → interface-of.Post κs a r s → r ≡ interfaceNumber
 interface-says κs a r s said = said
@@ -47,3 +50,11 @@ pub statement-says : (κs : _) (a : _) (r : _) (s : _) → statement-of.Post κs
     → Answered (now (a .0)) (statement (a .1 .0)) 0 (r .refusal) (r .«record») (now (a .0))
     × (r ≡ flatSums (r .refusal) (r .«record») (sumsStated (now (a .0)) (a .1 .0) (r .refusal)))
 statement-says κs a r s said = said
+
+pub archive-says : (κs : _) (a : _) (r : _) (s : _) → archive-of.Post κs a r s
+    → (r ≡ answer (now (a .0)) (now (a .1 .0))) × (now (s .1 .0) ≡ archiveAfter (now (a .0)) (now (a .1 .0)))
+archive-says κs a r s said = said
+
+pub restore-says : (κs : _) (a : _) (r : _) (s : _) → restore-of.Post κs a r s
+    → (r ≡ answer (now (a .0)) (now (a .1 .0))) × (now (s .1 .0) ≡ sheetAfter (now (a .0)) (now (a .1 .0)))
+restore-says κs a r s said = said

@@ -1,6 +1,7 @@
-// The book's calls as other programs link them (include/ssp.h). Each answer is flat, of plain numbers, and is by definition the
+// The calls as other programs link them (include/ssp.h). Each answer is flat, of plain numbers, and is by definition the
 // answer of the call beneath it.
 ghost use mathlib.Core.Path.{_≡_};
+ghost use Rattle.sheet_archive.specs.Archive.{answer, archiveAfter, sheetAfter};
 ghost use Rattle.book.specs.Book.{used};
 ghost use Rattle.soundness.specs.Verdicts.{freshAnswer, freshAfter};
 ghost use Rattle.sheet.specs.YearSheet.{Tells};
@@ -16,7 +17,7 @@ use units::WideKwh;
 use values::Details;
 
 // The number of this interface, SSP_INTERFACE of the header: it rises with each landing that changes a struct or a function.
-const INTERFACE: u32 = 2;
+const INTERFACE: u32 = 3;
 
 #[repr(C)]
 pub struct Booked {
@@ -211,4 +212,20 @@ pub extern "C" fn ssp_statement(book: &[u8], number: u32) -> Sums
     ensures { λ r. ⌜ r ≡ flatSums (r .refusal) (r .record) (sumsStated (now (book .entry)) number (r .refusal)) ⌝ }
 {
     flat_sums(statement::statement(book, UserNumber(number)))
+}
+
+#[no_mangle]
+pub extern "C" fn ssp_archive(sheet: &[u8], archive: &mut [u8]) -> u32
+    ensures { λ r. ⌜ r ≡ answer (now (sheet .entry)) (now (archive .entry)) ⌝ }
+    ensures { λ _. ⌜ now (archive .exit) ≡ archiveAfter (now (sheet .entry)) (now (archive .entry)) ⌝ }
+{
+    sheet_archive::archive(sheet, archive)
+}
+
+#[no_mangle]
+pub extern "C" fn ssp_restore(archive: &[u8], sheet: &mut [u8]) -> u32
+    ensures { λ r. ⌜ r ≡ answer (now (archive .entry)) (now (sheet .entry)) ⌝ }
+    ensures { λ _. ⌜ now (sheet .exit) ≡ sheetAfter (now (archive .entry)) (now (sheet .entry)) ⌝ }
+{
+    sheet_archive::restore(archive, sheet)
 }

@@ -1,3 +1,4 @@
 pub mod Lift
 pub mod Possible
 pub mod Theorem
+pub mod Archives

@@ -70,6 +70,14 @@ pub record FieldsRead (s : List ℕ) (at count : ℕ) (r : Numbers) : Type 0 whe
   pub each : (k : ℕ) → k < r .count → fieldAt s (afterFields s at k) ≡ number.Read (getD (r .values) k 0) (afterFields s at (k + 1))
   pub stopped : r .count < count → fieldAt s (r .next) ≡ number.Missing
 
+-- how many bytes stand before the first blank of a text, all where there is none; and where the word from a place on ends
+unfoldable pub wordLength : List ℕ → ℕ
+wordLength [] = 0
+wordLength (b ∷ bs) = cond (eqb b 32) 0 (suc (wordLength bs))
+
+unfoldable pub wordEnd : List ℕ → ℕ → ℕ
+wordEnd s at = at + wordLength (drop at s)
+
 -- a number below a bound, else 0
 abbrev pub narrow : ℕ → ℕ → ℕ
 narrow bound n = cond (ltb n bound) n 0

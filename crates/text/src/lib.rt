@@ -3,8 +3,8 @@
 ghost use mathlib.Core.Path.{_≡_};
 ghost use mathlib.Core.Bool.{true};
 ghost use Prim.Native.Nat.{_+_, _*_, _^_, _≤_};
-ghost use lib.ListN.{length, getD, drop};
-ghost use Rattle.text.specs.Text.{narrow, isDigit, isHexDigit, hexDigit, hexByte, isHex, numberAt, NextWithin, afterBlank, fieldAt, FieldsRead, HexRead, HexWritten};
+ghost use lib.ListN.{length, getD, take, drop};
+ghost use Rattle.text.specs.Text.{narrow, isDigit, isHexDigit, hexDigit, hexByte, isHex, numberAt, NextWithin, afterBlank, fieldAt, wordEnd, FieldsRead, HexRead, HexWritten};
 
 // A number that stands at a place, and the place after it.
 pub enum Number {
@@ -116,6 +116,29 @@ pub fn fields_from(s: &[u8], at: usize, count: usize) -> Numbers
         values,
         next,
     }
+}
+
+// Where the word that begins at a place ends: at the blank after it, or where the text ends.
+pub fn word_end(s: &[u8], from: usize) -> usize
+    ensures { λ r. ⌜ r ≡ wordEnd (now (s .entry)) from ⌝ }
+    ensures { λ r. ⌜ from ≤ r ⌝ }
+{
+    let mut at = from;
+    while at < s.len() {
+        if s[at] == b' ' {
+            return at;
+        }
+        at += 1;
+    }
+    at
+}
+
+// The text up to a place; all of it where it ends before.
+pub fn front<'a>(s: &'a [u8], to: usize) -> &'a [u8]
+    ensures { λ r. ⌜ now r ≡ take to (now (s .entry)) ⌝ }
+{
+    let end = if to < s.len() { to } else { s.len() };
+    &s[..end]
 }
 
 // A number of 8 or of 32 bits; 0 where it does not fit.

@@ -1,7 +1,7 @@
 //! The exported functions of libssp.a, as `include/ssp.h` declares them.
 
 /// `SSP_INTERFACE` of the header that these declarations follow.
-pub const INTERFACE: u32 = 2;
+pub const INTERFACE: u32 = 3;
 
 #[repr(C)]
 pub struct Booked {
@@ -76,13 +76,15 @@ unsafe extern "C" {
     ) -> Advanced;
     pub fn ssp_close(book: *mut u8, len: usize, sheet: *const u8, sheet_len: usize) -> Closed;
     pub fn ssp_statement(book: *const u8, len: usize, number: u32) -> Sums;
+    pub fn ssp_archive(sheet: *const u8, sheet_len: usize, archive: *mut u8, archive_len: usize) -> u32;
+    pub fn ssp_restore(archive: *const u8, archive_len: usize, sheet: *mut u8, sheet_len: usize) -> u32;
 }
 
 #[cfg(test)]
 mod tests {
     use std::ptr::{null, null_mut};
 
-    use super::{ssp_close, ssp_fresh, ssp_statement};
+    use super::{ssp_archive, ssp_close, ssp_fresh, ssp_restore, ssp_statement};
 
     /// "With length 0 no byte is read or written and the pointer may be NULL."
     #[test]
@@ -95,6 +97,8 @@ mod tests {
             assert_eq!(ssp_close(null_mut(), 0, null(), 0).refusal, 1);
             assert_eq!(ssp_fresh(book.as_mut_ptr(), book.len()), 0);
             assert_eq!(ssp_close(book.as_mut_ptr(), book.len(), null(), 0).refusal, 11);
+            assert_eq!(ssp_archive(null(), 0, null_mut(), 0), 27);
+            assert_eq!(ssp_restore(null(), 0, null_mut(), 0), 27);
         }
     }
 }

@@ -30,12 +30,14 @@
 
 mod amount;
 mod answers;
+mod archive;
 mod ffi;
 mod place;
 mod refusal;
 
 pub use amount::{Balance, Ticks};
 pub use answers::{Closing, Statement};
+pub use archive::{archive_sheet, archive_sheet_into, restore_sheet, restore_sheet_into};
 pub use place::Place;
 pub use refusal::Refusal;
 
@@ -103,7 +105,7 @@ pub struct Order {
     pub estimates: [u64; 2],
 }
 
-/// A library of another interface lays its answers out otherwise: none of its other functions is called.
+/// A library of another interface may lay its answers out otherwise: no book is made with it.
 fn check_library() {
     // SAFETY: it takes nothing and answers a number, in every interface from 2 on.
     let linked = unsafe { ffi::ssp_interface() };

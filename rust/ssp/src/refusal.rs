@@ -52,12 +52,15 @@ pub enum Refusal {
         /// Its place in the month.
         place: Place,
     },
+    /// 27: a buffer is not of a sheet's 1,184 bytes.
+    BufferSize,
     /// A number that this crate has no name for: the library is newer than the crate.
     Other(u32),
 }
 
 impl Refusal {
     /// Nothing for an accepted call, else the refusal with this number.
+    #[inline]
     pub(crate) fn check(refusal: u32, record: u32) -> Result<(), Refusal> {
         Refusal::check_sheet(refusal, record, 0, 0)
     }
@@ -82,6 +85,7 @@ impl Refusal {
             13 => Refusal::AboveLimit { month, place },
             14 => Refusal::DomesticMonth,
             19 => Refusal::StrayBand { month, place },
+            27 => Refusal::BufferSize,
             other => Refusal::Other(other),
         })
     }
@@ -104,6 +108,7 @@ impl Refusal {
             Refusal::AboveLimit { .. } => 13,
             Refusal::DomesticMonth => 14,
             Refusal::StrayBand { .. } => 19,
+            Refusal::BufferSize => 27,
             Refusal::Other(number) => number,
         }
     }
@@ -134,6 +139,7 @@ impl fmt::Display for Refusal {
             Refusal::StrayBand { month, place } => {
                 return write!(f, "month {month}: {place} is filled, but the reading is single");
             }
+            Refusal::BufferSize => "a buffer is not of a sheet's 1,184 bytes",
             Refusal::Other(number) => return write!(f, "refusal {number}"),
         })
     }
@@ -147,10 +153,10 @@ mod tests {
 
     #[test]
     fn numbers_are_kept() {
-        for number in 1..=20 {
+        for number in 1..=30 {
             let refusal = Refusal::check(number, 5).expect_err("not 0");
             assert_eq!(refusal.number(), number);
-            let named = number <= 14 || number == 19;
+            let named = number <= 14 || number == 19 || number == 27;
             assert_eq!(refusal != Refusal::Other(number), named, "refusal {number} has a name");
         }
         assert_eq!(Refusal::check(0, 0), Ok(()));

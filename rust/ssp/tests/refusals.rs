@@ -247,3 +247,18 @@ fn other() {
     assert_eq!(Refusal::Other(99).number(), 99);
     assert_eq!(Refusal::Other(99).to_string(), "refusal 99");
 }
+
+#[test]
+fn buffer_size() {
+    use ssp_book::{archive_sheet_into, restore_sheet_into};
+    let text = "a buffer is not of a sheet's 1,184 bytes";
+    let (whole, short) = ([0; Book::SHEET], [0; Book::SHEET - 1]);
+    for refusal in [
+        archive_sheet_into(&whole, &mut short.clone()),
+        archive_sheet_into(&short, &mut whole.clone()),
+        restore_sheet_into(&whole, &mut short.clone()),
+        restore_sheet_into(&short, &mut whole.clone()),
+    ] {
+        is(refusal.expect_err("another size"), Refusal::BufferSize, 27, text);
+    }
+}

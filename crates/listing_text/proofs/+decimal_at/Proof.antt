@@ -8,7 +8,7 @@ use denote.Ref.{now}
 use lib.ListN.{length, set, length-set}
 use Rattle.codec.specs.Bytes.{stored}
 use Rattle.listing_text.specs.Listing.{decimal}
-use Rattle.listing_text.proofs.Pieces.{stored-none}
+use Rattle.codec.proofs.Pieces.{stored-none}
 use Rattle.listing_text.proofs.Decimals.{front, front-none, front-more, front-room, front-inside, length-front, last-written}
 use borrow.Fn.Kinds.{In}
 use borrow.Fn.PlainCycle.{Measures, is, falls, and}

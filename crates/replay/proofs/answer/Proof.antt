@@ -50,7 +50,7 @@ call-requires : tie.Need-call-requires
 call-requires c κs =
     let a = c .before .before .before .before .before .before .before .args in
     let within : a .len ≤ length (now (a .buffer)) = omega arith in
-    rw (length-take-le (a .len) (now (a .buffer)) within) (omega arith)
+    rw (length-take-le (a .len) (now (a .buffer)) within) (omega arith, omega arith)
 
 same-length : tie.Need-same-length
 same-length c = search needs
@@ -61,7 +61,7 @@ returns c =
     let read = asked .before .order-of .ensures in
     record {
       within = search needs;
-      wrong = λ e. let other = rw (read ∙ e) at (asked .match .keys1) in absurd (miss (0 ∷ []) 10 tt other);
+      wrong = λ e. let other = rw (read ∙ e) at (asked .match .keys1) in absurd (miss (0 ∷ []) 12 tt other);
     }
 
 same-length-2 : tie.Need-same-length-2
@@ -73,7 +73,7 @@ returns-2 c =
     let read = asked .before .order-of .ensures in
     record {
       within = search needs;
-      wrong = λ e. let other = rw (read ∙ e) at (asked .match .keys2) in absurd (miss (1 ∷ []) 10 tt other);
+      wrong = λ e. let other = rw (read ∙ e) at (asked .match .keys2) in absurd (miss (1 ∷ []) 12 tt other);
     }
 
 returns-3 : tie.Need-returns-3
@@ -91,7 +91,7 @@ returns-4 c =
     let read = asked .before .order-of .ensures in
     record {
       within = search needs;
-      wrong = λ e. let other = rw (read ∙ e) at (asked .match .keys4) in absurd (miss (2 ∷ 3 ∷ 4 ∷ 5 ∷ 6 ∷ 7 ∷ 8 ∷ 9 ∷ []) 10 tt other);
+      wrong = λ e. let other = rw (read ∙ e) at (asked .match .keys4) in absurd (miss (2 ∷ 3 ∷ 4 ∷ 5 ∷ 6 ∷ 7 ∷ 8 ∷ 9 ∷ 10 ∷ 11 ∷ []) 12 tt other);
     }
 
 pub answer-spec : {M : Type 1} → statement M

@@ -90,15 +90,18 @@ returns-5 c =
     let one = two .before .before .before in
     rw (sym (one .before .begins .ensures) ∙ one .if1 .left, sym (two .before .begins2 .ensures) ∙ two .if2 .left, sym (three .before .begins3 .ensures) ∙ three .if3 .left, sym (four .before .begins4 .ensures) ∙ four .if4 .left, sym (five .before .begins5 .ensures) ∙ five .if5 .taken) (c .statement-order .ensures)
 
+sheet-order-requires : tie.Need-sheet-order-requires
+sheet-order-requires c κs = search needs
+
 returns-6 : tie.Need-returns-6
 unfolding callOrder
 returns-6 c =
-    let five = c in
+    let five = c .before in
     let four = five .before .before .before in
     let three = four .before .before .before in
     let two = three .before .before .before in
     let one = two .before .before .before in
-    rw (sym (one .before .begins .ensures) ∙ one .if1 .left, sym (two .before .begins2 .ensures) ∙ two .if2 .left, sym (three .before .begins3 .ensures) ∙ three .if3 .left, sym (four .before .begins4 .ensures) ∙ four .if4 .left, sym (five .before .begins5 .ensures) ∙ five .if5 .left)
+    rw (sym (one .before .begins .ensures) ∙ one .if1 .left, sym (two .before .begins2 .ensures) ∙ two .if2 .left, sym (three .before .begins3 .ensures) ∙ three .if3 .left, sym (four .before .begins4 .ensures) ∙ four .if4 .left, sym (five .before .begins5 .ensures) ∙ five .if5 .left) (c .sheet-order .ensures)
 
 pub call-order-spec : {M : Type 1} → statement M
 call-order-spec =
@@ -124,4 +127,5 @@ call-order-spec =
     begins-requires-5
     statement-order-requires
     returns-5
+    sheet-order-requires
     returns-6)

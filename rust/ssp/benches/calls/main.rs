@@ -4,12 +4,14 @@
 mod books;
 #[path = "../../tests/common/household.rs"]
 mod household;
+#[path = "../../tests/common/plain_archive.rs"]
+mod plain_archive;
 
 use std::hint::black_box;
 use std::time::{Duration, Instant};
 
 use books::{LONGEST, Numbers, book_of_entries, book_of_one, book_of_users, damaged, middle_user, sheet};
-use ssp_book::{Book, Day, Order, Refusal, option, run};
+use ssp_book::{Book, Day, Order, Refusal, archive_sheet_into, option, restore_sheet_into, run};
 
 /// The shortest of 15 rounds, each of as many turns as take 4 ms.
 fn nanoseconds(mut turn: impl FnMut()) -> f64 {
@@ -132,6 +134,25 @@ fn refused(name: &str, book: &[u8]) {
     );
 }
 
+/// The archive of a sheet and the way back, beside the same loops in plain Rust.
+fn archives(name: &str, sheet: &[u8; Book::SHEET]) {
+    let mut archive = [0; Book::SHEET];
+    let mut restored = [0; Book::SHEET];
+    row(
+        name,
+        "archive",
+        nanoseconds(|| assert!(archive_sheet_into(black_box(&sheet[..]), black_box(&mut archive)).is_ok())),
+        nanoseconds(|| assert_eq!(plain_archive::archive(black_box(&sheet[..]), black_box(&mut archive)), 0)),
+    );
+    row(
+        name,
+        "restore",
+        nanoseconds(|| assert!(restore_sheet_into(black_box(&archive[..]), black_box(&mut restored)).is_ok())),
+        nanoseconds(|| assert_eq!(plain_archive::restore(black_box(&archive[..]), black_box(&mut restored)), 0)),
+    );
+    assert!(restored == *sheet);
+}
+
 fn main() {
     println!(
         "{:<30} {:<10} {:>12} {:>12} {:>8}",
@@ -153,6 +174,11 @@ fn main() {
             statement_of(&name, &book_of_users(records, order));
         }
     }
+
+    archives(
+        "a sheet, beside a plain loop",
+        &sheet(1, 2013).try_into().expect("a sheet's size"),
+    );
 
     println!();
     refused("798 users", &book_of_users(800, Numbers::Scattered));

@@ -1,13 +1,13 @@
--- A text is stored piece by piece, each where the one before it ends.
+-- A string is stored piece by piece, each where the one before it ends.
 use Prim.Native.Nat.{ℕ, suc, _+_, _≤_, _<_}
-use mathlib.Core.Path.{_≡_, refl, sym, ap, _∙_}
+use mathlib.Core.Path.{_≡_, sym, ap, _∙_}
 use mathlib.Core.List.{List, [], _∷_, _++_}
 use native.Mathlib.Nat.{add-zero}
 use native.Mathlib.Omega.{arith}
 use lib.ListN.{length, set, length-append, take-append-drop}
 use lib.Seq.{sets, length-sets}
 use Rattle.codec.specs.Bytes.{stored}
 use Rattle.codec.proofs.Stores.{sets-stored}
 
 sets-append : (at : ℕ) (bs cs s : List ℕ) → sets s at (bs ++ cs) ≡ sets (sets s at bs) (at + length bs) cs
 sets-append at [] cs s = rw add-zero

@@ -1,0 +1,58 @@
+-- Each answer rests on the tests of the words on the way to it, counted from the first.
+use mathlib.Core.Path.{sym, _∙_}
+use Rattle.script.specs.Orders.{sheetOrder}
+use borrow.Author.Needs.{needs}
+use Rattle.script.proofs.sheet_order.Statement.{statement}
+use Rattle.script.proofs.sheet_order.Tie as tie
+
+slice-aggregate-begins : tie.Need-slice-aggregate-begins
+slice-aggregate-begins c = search needs
+
+begins-requires : tie.Need-begins-requires
+begins-requires c κs = search needs
+
+archive-order-requires : tie.Need-archive-order-requires
+archive-order-requires c κs = search needs
+
+returns : tie.Need-returns
+unfolding sheetOrder
+returns c =
+    let one = c .before in
+    rw (sym (one .before .begins .ensures) ∙ one .if1 .taken) (c .archive-order .ensures)
+
+slice-aggregate-begins-2 : tie.Need-slice-aggregate-begins-2
+slice-aggregate-begins-2 c = search needs
+
+begins-requires-2 : tie.Need-begins-requires-2
+begins-requires-2 c κs = search needs
+
+restore-order-requires : tie.Need-restore-order-requires
+restore-order-requires c κs = search needs
+
+returns-2 : tie.Need-returns-2
+unfolding sheetOrder
+returns-2 c =
+    let two = c .before in
+    let one = two .before .before .before in
+    rw (sym (one .before .begins .ensures) ∙ one .if1 .left, sym (two .before .begins2 .ensures) ∙ two .if2 .taken) (c .restore-order .ensures)
+
+returns-3 : tie.Need-returns-3
+unfolding sheetOrder
+returns-3 c =
+    let two = c in
+    let one = two .before .before .before in
+    rw (sym (one .before .begins .ensures) ∙ one .if1 .left, sym (two .before .begins2 .ensures) ∙ two .if2 .left)
+
+pub sheet-order-spec : {M : Type 1} → statement M
+sheet-order-spec =
+    tie.close
+    (tie.spec
+    slice-aggregate-begins
+    begins-requires
+    archive-order-requires
+    returns
+    slice-aggregate-begins-2
+    begins-requires-2
+    restore-order-requires
+    returns-2
+    returns-3)

@@ -1,0 +1,136 @@
+-- The first number as it is, then each difference: after a turn one number more of the column stands in its line.
+use Prim.Native.Nat.{ℕ, _+_, _-_, _*_, _≤_}
+use mathlib.Core.Path.{_≡_, sym, _∙_}
+use mathlib.Core.List.{List}
+use native.Mathlib.Omega.{arith}
+use borrow.Author.Needs.{needs}
+use denote.Ref.{now}
+use lib.ListN.{length}
+use Rattle.codec.specs.Bytes.{bytesOf, stored}
+use Rattle.sheet_archive.specs.Tables.{headerLength, line}
+use Rattle.sheet_archive.specs.Archive.{differences, inSheet, sheetColumns, sheetMonths}
+use Rattle.sheet_archive.specs.Steps.{columnPlace, before}
+use Rattle.sheet_archive.proofs.Columns.{before-next, difference-worked}
+use Rattle.sheet_archive.proofs.Writing.{line-begun, line-next, line-again}
+use Rattle.sheet_archive.proofs.archive_column.Statement.{statement}
+use Rattle.sheet_archive.proofs.archive_column.Tie as tie
+
+-- a column's line, and the first number of it stored
+abbrev less : List ℕ → ℕ → ℕ → ℕ
+less s column = differences (inSheet sheetColumns s column)
+
+first-stored : (s a a₀ : List ℕ) (column place n : ℕ) → columnPlace column + 4 ≤ length a → a₀ ≡ stored place (bytesOf 4 n) a
+    → place ≡ headerLength + 4 * (sheetMonths * column + 0) → n ≡ inSheet sheetColumns s column 0 → a₀ ≡ stored (columnPlace column) (line 1 (less s column)) a
+unfolding differences
+first-stored s a a₀ column place n room e p v =
+    e ∙ line-next (columnPlace column) (less s column) a 0 a place n (omega arith) (line-begun (columnPlace column) (less s column) a) (omega arith) v
+
+abbrev Inv-loop : tie.InvT-loop
+Inv-loop sheet archive₀ column last₀ month₀ archive last month =
+    ((1 ≤ month) × (month ≤ sheetMonths))
+    × ((last ≡ before (inSheet sheetColumns sheet column) month)
+    × ((length archive ≡ length archive₀)
+    × (archive ≡ stored (columnPlace column) (line month (less sheet column)) archive₀)))
+
+abbrev μ-loop : tie.MeasureT-loop
+μ-loop sheet archive₀ column last₀ month₀ archive last month = sheetMonths - month
+
+in-sheet-requires : tie.Need-in-sheet-requires Inv-loop μ-loop
+in-sheet-requires c κs = search needs
+
+archive-place-requires : tie.Need-archive-place-requires Inv-loop μ-loop
+archive-place-requires c κs = search needs
+
+store-u32-requires : tie.Need-store-u32-requires Inv-loop μ-loop
+store-u32-requires c κs = search needs
+
+loop-holds : tie.Need-loop-holds Inv-loop μ-loop
+loop-holds c =
+    let w = c .before .before .store-u32 in
+    let place = c .before .before .before .archive-place in
+    let number = c .before .before .before .before .before .in-sheet in
+    let a = c .before .before .before .before .before .before .before .before .args in
+    let first = first-stored (now (a .sheet)) (now (a .archive)) (w .last .0) (a .column) (place .result) (number .result) (omega arith) (w .ensures) (place .ensures) (number .ensures) in (
+      search needs,
+      (
+        before-next (inSheet sheetColumns (now (a .sheet)) (a .column)) 0 (number .ensures),
+        (search needs, first ∙ sym (line-again (columnPlace (a .column)) (less (now (a .sheet)) (a .column)) (w .last .0) 1 1 (now (a .archive)) (omega arith) (omega arith) first)),
+      ),
+    )
+
+in-sheet-requires-2 : tie.Need-in-sheet-requires-2 Inv-loop μ-loop
+in-sheet-requires-2 c κs = search needs
+
+archive-place-requires-2 : tie.Need-archive-place-requires-2 Inv-loop μ-loop
+archive-place-requires-2 c κs = search needs
+
+difference-requires : tie.Need-difference-requires Inv-loop μ-loop
+difference-requires c κs = search needs
+
+store-u32-requires-2 : tie.Need-store-u32-requires-2 Inv-loop μ-loop
+store-u32-requires-2 c κs = search needs
+
+add-month : tie.Need-add-month Inv-loop μ-loop
+add-month c = search needs
+
+loop-less : tie.Need-loop-less Inv-loop μ-loop
+loop-less c = search needs
+
+loop-again : tie.Need-loop-again Inv-loop μ-loop
+loop-again c =
+    let w = c .before .before .store-u322 in
+    let worked = c .before .before .before .difference in
+    let place = c .before .before .before .before .archive-place2 in
+    let number = c .before .before .before .before .before .before .in-sheet2 in
+    let l = c .before .before .before .before .before .before .before .before .loop in
+    let begin = c .before .before .before .before .before .before .before .before .before .before .before .before .before .before .before .before .before in
+    let a = begin .args in
+    let t₀ = c .before .before .before .before .before .before .before .before .before .before .before .store-u32 in
+    let column = inSheet sheetColumns (now (a .sheet)) (a .column) in (
+      search needs,
+      (
+        before-next column (l .month) (number .ensures),
+        (
+          omega (arith, w .kept .0),
+          w .ensures
+              ∙ line-next (columnPlace (a .column)) (less (now (a .sheet)) (a .column)) (t₀ .last .0) (l .month) (l .archive) (place .result) (worked .result)
+              (omega (arith, t₀ .kept .0, begin .pre)) (l .inv .1 .1 .1) (omega (arith, place .ensures))
+              (difference-worked column (l .month) (search needs) (number .ensures) (l .inv .1 .0) (worked .ensures)),
+        ),
+      ),
+    )
+
+same-length : tie.Need-same-length Inv-loop μ-loop
+same-length c = search needs
+
+returns : tie.Need-returns Inv-loop μ-loop
+returns c =
+    let l = c .before .loop in
+    let w = c .before .before .before .before .store-u32 in
+    let place = c .before .before .before .before .before .archive-place in
+    let number = c .before .before .before .before .before .before .before .in-sheet in
+    let a = c .before .before .before .before .before .before .before .before .before .before .args in
+    let end : l .month ≡ sheetMonths = omega arith in
+    let first = first-stored (now (a .sheet)) (now (a .archive)) (w .last .0) (a .column) (place .result) (number .result) (omega arith) (w .ensures) (place .ensures) (number .ensures) in
+    rw end at (l .inv .1 .1 .1)
+    ∙ line-again (columnPlace (a .column)) (less (now (a .sheet)) (a .column)) (w .last .0) 1 sheetMonths (now (a .archive)) (omega arith) (omega arith) first
+
+pub archive-column-spec : {M : Type 1} → statement M
+archive-column-spec =
+    tie.close
+    (tie.spec
+    Inv-loop
+    μ-loop
+    in-sheet-requires
+    archive-place-requires
+    store-u32-requires
+    loop-holds
+    in-sheet-requires-2
+    archive-place-requires-2
+    difference-requires
+    store-u32-requires-2
+    add-month
+    loop-less
+    loop-again
+    same-length
+    returns)

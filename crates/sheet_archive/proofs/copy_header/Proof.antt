@@ -1,0 +1,102 @@
+-- The header goes over word by word: after k turns its first k words stand in their place.
+use Prim.Native.Nat.{ℕ, _+_, _-_, _*_, _≤_}
+use mathlib.Core.Path.{_≡_, refl, ap, _∙_}
+use mathlib.Core.List.{List}
+use native.Mathlib.Omega.{arith}
+use borrow.Author.Needs.{needs}
+use denote.Ref.{now}
+use lib.ListN.{length, getD}
+use Rattle.codec.specs.Bytes.{part, number, stored}
+use Rattle.codec.proofs.ByteRanges.{Bytes}
+use Rattle.sheet_archive.specs.Tables.{headerLength, header, line}
+use Rattle.sheet_archive.specs.Steps.{Holds, headerWords, headerWord}
+use Rattle.sheet_archive.proofs.Tables.{line-cong, line-back}
+use Rattle.sheet_archive.proofs.Writing.{line-begun, line-next}
+use Rattle.sheet_archive.proofs.copy_header.Statement.{statement}
+use Rattle.sheet_archive.proofs.copy_header.Tie as tie
+
+header-back : (s : List ℕ) → headerLength ≤ length s → Bytes s → line headerWords (headerWord s) ≡ header s
+unfolding header part
+header-back s l b =
+    line-cong headerWords (headerWord s) (λ j. number 4 (0 + 4 * j) s) (λ j h. let same : 4 * j ≡ 0 + 4 * j = omega arith in ap (λ (at : ℕ). number 4 at s) same)
+    ∙ line-back headerWords 0 s (omega arith) b
+
+abbrev Inv-loop : tie.InvT-loop
+Inv-loop from to₀ words k₀ to k =
+    (k ≤ headerWords)
+    × (Holds headerWords (headerWord from) words × ((length to ≡ length to₀) × (to ≡ stored 0 (line k (headerWord from)) to₀)))
+
+abbrev μ-loop : tie.MeasureT-loop
+μ-loop from to₀ words k₀ to k = headerWords - k
+
+header-words-requires : tie.Need-header-words-requires Inv-loop μ-loop
+header-words-requires c κs = search needs
+
+loop-holds : tie.Need-loop-holds Inv-loop μ-loop
+loop-holds c = (search needs, (c .header-words .ensures, (refl, line-begun _ _ _)))
+
+mul-store-u32 : tie.Need-mul-store-u32 Inv-loop μ-loop
+mul-store-u32 c = search needs
+
+mul-store-u32-2 : tie.Need-mul-store-u32-2 Inv-loop μ-loop
+mul-store-u32-2 c = search needs
+
+array-read-store-u32 : tie.Need-array-read-store-u32 Inv-loop μ-loop
+array-read-store-u32 c = search needs
+
+store-u32-requires : tie.Need-store-u32-requires Inv-loop μ-loop
+store-u32-requires c κs = search needs
+
+add-k : tie.Need-add-k Inv-loop μ-loop
+add-k c = search needs
+
+loop-less : tie.Need-loop-less Inv-loop μ-loop
+loop-less c = search needs
+
+loop-again : tie.Need-loop-again Inv-loop μ-loop
+loop-again c =
+    let w = c .before .before .store-u32 in
+    let l = c .before .before .before .before .before .loop in
+    let words = c .before .before .before .before .before .before .header-words in
+    let a = c .before .before .before .before .before .before .before .before .before .args in
+    let here : 4 * l .k ≡ 0 + 4 * l .k = omega arith in (
+      search needs,
+      (
+        l .inv .1 .0,
+        (
+          omega (arith, w .kept .0),
+          w .ensures
+              ∙ line-next 0 (headerWord (now (a .from))) (now (a .to)) (l .k) (l .to) (4 * l .k) (getD (words .result) (l .k) 0) (omega arith) (l .inv .1 .1 .1) here
+              (l .inv .1 .0 (l .k) (search needs)),
+        ),
+      ),
+    )
+
+same-length : tie.Need-same-length Inv-loop μ-loop
+same-length c = search needs
+
+returns : tie.Need-returns Inv-loop μ-loop
+returns c =
+    let l = c .before .loop in
+    let a = c .before .before .before .before .before .args in
+    let end : l .k ≡ headerWords = omega arith in
+    let bytes : Bytes (now (a .from)) = λ k. c .before .before .before .before .shared-slice-known .given k .fits in
+    rw end at (l .inv .1 .1 .1) ∙ ap (λ (s : List ℕ). stored 0 s (now (a .to))) (header-back (now (a .from)) (omega arith) bytes)
+
+pub copy-header-spec : {M : Type 1} → statement M
+copy-header-spec =
+    tie.close
+    (tie.spec
+    Inv-loop
+    μ-loop
+    header-words-requires
+    loop-holds
+    mul-store-u32
+    mul-store-u32-2
+    array-read-store-u32
+    store-u32-requires
+    add-k
+    loop-less
+    loop-again
+    same-length
+    returns)

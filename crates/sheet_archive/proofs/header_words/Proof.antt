@@ -1,0 +1,68 @@
+-- The words are filled in one by one.
+use Prim.Native.Nat.{_-_, _≤_}
+use mathlib.Core.Path.{_≡_, refl}
+use native.Mathlib.Nat.{not-suc-le-zero}
+use native.Mathlib.Omega.{arith}
+use borrow.Author.Needs.{needs}
+use denote.Ref.{now}
+use lib.ListN.{length, length-set}
+use Rattle.units.proofs.Filled.{Filled, filled-next}
+use Rattle.sheet_archive.specs.Steps.{headerWords, headerWord}
+use Rattle.sheet_archive.proofs.header_words.Statement.{statement}
+use Rattle.sheet_archive.proofs.header_words.Tie as tie
+
+abbrev Inv-loop : tie.InvT-loop
+Inv-loop from words₀ k₀ words k = (k ≤ headerWords) × ((length words ≡ headerWords) × Filled 0 (headerWord from) k words)
+
+abbrev μ-loop : tie.MeasureT-loop
+μ-loop from words₀ k₀ words k = headerWords - k
+
+loop-holds : tie.Need-loop-holds Inv-loop μ-loop
+loop-holds c = (search needs, (refl, λ m l. absurd (not-suc-le-zero l)))
+
+mul-load-u32 : tie.Need-mul-load-u32 Inv-loop μ-loop
+mul-load-u32 c = search needs
+
+load-u32-requires : tie.Need-load-u32-requires Inv-loop μ-loop
+load-u32-requires c κs = search needs
+
+mul-words : tie.Need-mul-words Inv-loop μ-loop
+mul-words c = search needs
+
+array-write-words : tie.Need-array-write-words Inv-loop μ-loop
+array-write-words c = search needs
+
+add-k : tie.Need-add-k Inv-loop μ-loop
+add-k c = search needs
+
+loop-less : tie.Need-loop-less Inv-loop μ-loop
+loop-less c = search needs
+
+loop-again : tie.Need-loop-again Inv-loop μ-loop
+loop-again c =
+    let l = c .before .before .loop in
+    let a = c .before .before .before .before .args in
+    let n = c .load-u32 in
+    (search needs, (simp length-set (l .inv .1 .0), filled-next 0 (headerWord (now (a .from))) (l .k) (l .words) (n .result) (omega arith) (n .ensures) (l .inv .1 .1)))
+
+returns : tie.Need-returns Inv-loop μ-loop
+returns c =
+    let l = c .before .loop in
+    let end : l .k ≡ headerWords = omega arith in
+    λ m h. l .inv .1 .1 m (rw end h)
+
+pub header-words-spec : {M : Type 1} → statement M
+header-words-spec =
+    tie.close
+    (tie.spec
+    Inv-loop
+    μ-loop
+    loop-holds
+    mul-load-u32
+    load-u32-requires
+    mul-words
+    array-write-words
+    add-k
+    loop-less
+    loop-again
+    returns)

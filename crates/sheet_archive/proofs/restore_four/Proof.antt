@@ -1,0 +1,87 @@
+-- Month by month, each from the one before it.
+use Prim.Native.Nat.{ℕ, _+_, _-_, _≤_}
+use mathlib.Core.Path.{_≡_, refl, sym, subst}
+use mathlib.Core.List.{List}
+use native.Mathlib.Omega.{arith}
+use borrow.Author.Needs.{needs}
+use denote.Ref.{now}
+use lib.ListN.{length}
+use Rattle.codec.proofs.ByteRanges.{Bytes}
+use Rattle.sheet.specs.YearSheet.{sheetLength}
+use Rattle.sheet_archive.specs.Archive.{sheetMonths}
+use Rattle.sheet_archive.specs.Steps.{Restored}
+use Rattle.sheet_archive.proofs.Restoring.{Hold, carried, carried-none, carried-on, month-worked, month-stored, restored-columns}
+use Rattle.sheet_archive.proofs.restore_four.Statement.{statement}
+use Rattle.sheet_archive.proofs.restore_four.Tie as tie
+
+abbrev Inv-loop : tie.InvT-loop
+Inv-loop archive sheet₀ column numbers₀ month₀ sheet numbers month =
+    (month ≤ sheetMonths)
+    × ((length sheet ≡ length sheet₀) × ((length sheet ≡ sheetLength) × (Hold (carried archive) column month numbers × Restored archive sheet column month 0)))
+
+abbrev μ-loop : tie.MeasureT-loop
+μ-loop archive sheet₀ column numbers₀ month₀ sheet numbers month = sheetMonths - month
+
+loop-holds : tie.Need-loop-holds Inv-loop μ-loop
+loop-holds c =
+    let begun = c .before .before .pre .1 in
+    (search needs, (refl, (begun .long, (carried-none _ _, begun))))
+
+next-four-requires : tie.Need-next-four-requires Inv-loop μ-loop
+next-four-requires c κs = search needs
+
+store-four-requires : tie.Need-store-four-requires Inv-loop μ-loop
+store-four-requires c κs = search needs
+
+add-month : tie.Need-add-month Inv-loop μ-loop
+add-month c = search needs
+
+loop-less : tie.Need-loop-less Inv-loop μ-loop
+loop-less c = search needs
+
+loop-again : tie.Need-loop-again Inv-loop μ-loop
+loop-again c =
+    let w = c .before .before .store-four in
+    let n = c .before .before .before .before .next-four in
+    let l = c .before .before .before .before .before .before .loop in
+    let a = c .before .before .before .before .before .before .before .before .before .args in
+    let bytes : Bytes (now (a .archive)) = λ k. c .before .before .before .before .before .before .before .before .shared-slice-known .given k .fits in
+    let worked = month-worked (now (a .archive)) bytes (a .column) (l .month) (l .numbers) (n .result) (l .inv .1 .1 .1 .0) (n .ensures) in (
+      search needs,
+      (
+        omega (arith, w .kept .0),
+        (
+          omega (arith, w .kept .0),
+          (
+            carried-on (now (a .archive)) (a .column) (l .month) (n .result) worked,
+            subst (λ (s : List ℕ). Restored (now (a .archive)) s (a .column) (l .month + 1) 0) (sym (w .ensures))
+                (month-stored (now (a .archive)) (l .sheet) (a .column) (l .month) (n .result) (search needs) (search needs) worked (l .inv .1 .1 .1 .1)),
+          ),
+        ),
+      ),
+    )
+
+same-length : tie.Need-same-length Inv-loop μ-loop
+same-length c = search needs
+
+returns : tie.Need-returns Inv-loop μ-loop
+returns c =
+    let l = c .before .loop in
+    let a = c .before .before .before .before .args in
+    let end : l .month ≡ sheetMonths = omega arith in
+    restored-columns (now (a .archive)) (l .sheet) (a .column) (rw end at (l .inv .1 .1 .1 .1))
+
+pub restore-four-spec : {M : Type 1} → statement M
+restore-four-spec =
+    tie.close
+    (tie.spec
+    Inv-loop
+    μ-loop
+    loop-holds
+    next-four-requires
+    store-four-requires
+    add-month
+    loop-less
+    loop-again
+    same-length
+    returns)

@@ -1,0 +1,4 @@
+pub mod Tables
+pub mod Archive
+pub mod Steps
+pub mod RoundTrips
