@@ -23,8 +23,8 @@
  *   `refusal` is 0 for an accepted call, or the number of the first objection that holds, in the order that each function
  *   names. A refused call leaves every byte of the book as it was, and every value in its answer is 0, but for `record`, `month`
  *   and `place`.
- *   `record` is, after refusal 2, the index of a faulty record (which one of several is not laid down); after an accepted
- *   ssp_enrol, the index of the new record; else 0.
+ *   `record` is, after refusal 2, the index of the faulty record, of several the smallest; after an accepted ssp_enrol, the
+ *   index of the new record; else 0.
  *   `month`, 1 to 12, and `place`, 1 to 24, name after refusal 13 or 19 the earliest number of the sheet that is at fault; else
  *   both are 0.
  *

@@ -7,13 +7,12 @@ use native.Mathlib.Omega.{arith}
 use borrow.Author.Tests.{eq-eqb, ne-eqb}
 use Rattle.book.specs.Book.{lengthFits, sound}
 use Rattle.soundness.specs.Verdicts.{Accepted, Objected}
-use Rattle.book.proofs.Faults.{faulty-not-sound}
 use Rattle.units.specs.declared.RecordIndex.{RecordIndex}
 use Rattle.units.specs.Units.{recordIndex}
 use Rattle.book.specs.Find.{findUser}
 use Rattle.calls.specs.Rules.{Rule, _unless_, refusedBy}
 use Rattle.calls.specs.Refusals.{lookAt, present}
-use Rattle.calls.specs.Calls.{Call, namedBy, rulesOf, refusalOf, booked, bookAfter}
+use Rattle.calls.specs.Calls.{Call, namedBy, rulesOf, refusalOf, booked, bookAfter, recordNamed}
 use Rattle.calls.proofs.Rules.{never-answered}
 use Rattle.calls.proofs.Orders.{reserved}
 use Rattle.answers.specs.declared.Reply.{Reply}
@@ -27,19 +26,20 @@ module _ (b : List ℕ) (c : Call) where
 
   -- a refusal other than 2 answers zero beside its number
   pub refused : (answered n : ℕ) → n ≡ refusalOf b c → (n ≡ 0 → ⊥) → (n ≡ 2 → ⊥) → Answered b c answered n 0 b
+  unfolding recordNamed
   refused answered n e some other =
       record {
         refusal-is = e;
-        names = record { damaged = λ two. absurd (other two); else = λ p. rw (ne-eqb n 0 some) };
+        record-is = rw (ne-eqb n 2 other, ne-eqb n 0 some) refl;
         book-is = sym (left-as-found (λ z. some (e ∙ z)));
       }
 
   pub accepted : (answered : ℕ) (after : List ℕ) → refusalOf b c ≡ 0 → after ≡ booked b c → Answered b c answered 0 answered after
-  unfolding bookAfter
+  unfolding bookAfter recordNamed
   accepted answered after e k =
       record {
         refusal-is = sym e;
-        names = record { damaged = λ two. let z : ⊥ = omega (arith, two) in absurd z; else = λ p. refl };
+        record-is = refl;
         book-is = k ∙ rw (eq-eqb (refusalOf b c) 0 e);
       }
 
@@ -85,10 +85,11 @@ pub refused-length : (b : List ℕ) (c : Call) (answered : ℕ) → lengthFits b
 refused-length b c answered f = refused b c answered 1 (sym (length-refusal b c f)) (omega arith) (omega arith)
 
 pub refused-unsound : (b : List ℕ) (c : Call) (answered i : ℕ) → Objected b i → Answered b c answered 2 i b
+unfolding recordNamed
 refused-unsound b c answered i o =
-    let two = unsound-refusal b c (o .fits) (faulty-not-sound b (o .fits) i (o .isFaulty)) in
+    let two = unsound-refusal b c (o .fits) (o .unsound) in
     record {
       refusal-is = sym two;
-      names = record { damaged = λ e. o .isFaulty; else = λ other. absurd (other refl) };
+      record-is = o .smallest;
       book-is = sym (left-as-found b c (λ z. let w : ⊥ = omega (arith, two, z) in w));
     }

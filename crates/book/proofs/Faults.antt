@@ -10,9 +10,9 @@ use lib.Dec.{leb, eqb}
 use lib.ListN.{length}
 use Rattle.units.specs.Limits.{mostRecords}
 use Rattle.units.proofs.Bools.{and-left, and-right}
-use Rattle.units.proofs.Folds.{none-at, none-of, any-of}
+use Rattle.units.proofs.Folds.{none-at, none-of, any-of, first-is}
 use Rattle.layout.specs.Fields.{recordLength, capacity, userKind}
-use Rattle.book.specs.Book.{lengthFits, used, usedFits, kindAt, ownerFits, ownRulesFit, linksFit, goodRecord, goodHead, faulty, sound}
+use Rattle.book.specs.Book.{lengthFits, used, usedFits, kindAt, ownerFits, ownRulesFit, linksFit, goodRecord, goodHead, faulty, sound, smallestFaulty}
 use Rattle.book.proofs.Lengths.{capacity-least, capacity-most}
 
 pub used-within : (b : List ℕ) → usedFits b ≡ true → (1 ≤ used b) × (used b ≤ capacity b)
@@ -92,3 +92,21 @@ faulty-below b fits i f = by-used (usedFits b) refl
 pub faulty-not-sound : (b : List ℕ) → lengthFits b ≡ true → (i : ℕ) → faulty b i ≡ true → sound b ≡ false
 unfolding sound
 faulty-not-sound b fits i f = rw (any-of (capacity b) (faulty b) i (faulty-below b fits i f) f)
+
+-- the smallest faulty record: it is faulty, and none before it is
+pub smallest-is : (b : List ℕ) → lengthFits b ≡ true → (i : ℕ) → faulty b i ≡ true → ((j : ℕ) → j < i → faulty b j ≡ false) → i ≡ smallestFaulty b
+unfolding smallestFaulty
+smallest-is b fits i f before = first-is (capacity b) (faulty b) i (faulty-below b fits i f) f before
+
+-- the head, where it is faulty
+pub smallest-head : (b : List ℕ) → lengthFits b ≡ true → faulty b 0 ≡ true → 0 ≡ smallestFaulty b
+smallest-head b fits f = smallest-is b fits 0 f (λ j l. let z : ⊥ = omega arith in absurd z)
+
+-- another record, where the head and all records before it are good
+pub smallest-record : (b : List ℕ) → lengthFits b ≡ true → usedFits b ≡ true → goodHead b ≡ true → (i : ℕ) → 1 ≤ i → i < used b → goodRecord b i ≡ false
+    → ((j : ℕ) → 1 ≤ j → j < i → goodRecord b j ≡ true) → i ≡ smallestFaulty b
+smallest-record b fits u head i lo hi bad before = smallest-is b fits i (faulty-record b u i lo hi ∙ ap not bad) (λ j l. by-index j l (decLt 0 j))
+  where
+    by-index : (j : ℕ) → j < i → Dec (0 < j) → faulty b j ≡ false
+    by-index j l (yes p) = faulty-record b u j p (omega arith) ∙ ap not (before j p l)
+    by-index j l (no z) = let e : j ≡ 0 = omega (arith, z) in rw e (faulty-head b u ∙ ap not head)

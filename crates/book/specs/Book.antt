@@ -6,7 +6,7 @@ use mathlib.Core.List.{List, [], _∷_}
 use lib.Dec.{leb, ltb, eqb}
 use lib.ListN.{length, replicate}
 use Rattle.units.specs.Limits.{maxYearTicks, maxFlatRate, maxContribution, maxHalfTicks, maxHalfKwh, maxPower, firstActivation, lastActivation, lastOpenYear}
-use Rattle.units.specs.Folds.{sumBelow, anyBelow}
+use Rattle.units.specs.Folds.{sumBelow, anyBelow, firstBelow}
 use Rattle.calendar.specs.declared.Halves.{Halves}
 use Rattle.calendar.specs.ElectionAndAdvances.{june, october, january, halvesPaid, due, halvesCount}
 use Rattle.values.specs.declared.Details.{Details}
@@ -258,3 +258,7 @@ faulty b i = cond (usedFits b) (ltb i (used b) && not (cond (eqb i 0) (goodHead 
 -- "A book is sound if no record is faulty."
 unfoldable pub sound : List ℕ → Bool
 sound b = not (anyBelow (capacity b) (faulty b))
+
+-- "the faulty record with the smallest index" (ticket 4), of a book that is not sound
+unfoldable pub smallestFaulty : List ℕ → ℕ
+smallestFaulty b = firstBelow (capacity b) (faulty b)

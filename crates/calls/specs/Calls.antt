@@ -1,13 +1,12 @@
 -- The five calls of document 01: their refusal, their answer and the book after them. "A refusal leaves every byte and
 -- answers zeros beside its number, but for the record in 2."
 use Prim.Native.Nat.{ℕ}
-use mathlib.Core.Path.{_≡_}
-use mathlib.Core.Bool.{true, cond, not}
+use mathlib.Core.Bool.{cond, not}
 use mathlib.Core.List.{List, [], _∷_}
 use lib.Dec.{eqb}
 use Rattle.sheet.specs.YearSheet.{sheetUser, sheetYear, refused11, refused13, refused14, refused19}
 use Rattle.values.specs.declared.Details.{Details}
-use Rattle.book.specs.Book.{lengthFits, sound, faulty, detailsFit}
+use Rattle.book.specs.Book.{lengthFits, sound, smallestFaulty, detailsFit}
 use Rattle.units.specs.Units.{ticks}
 use Rattle.values.specs.YearsValues.{yearValues}
 use Rattle.accounts.specs.declared.Account.{Account}
@@ -75,7 +74,7 @@ booked b c = applied (findUser b (namedBy c)) (changeOf (userAt b (namedBy c)) c
 unfoldable pub bookAfter : List ℕ → Call → List ℕ
 bookAfter b c = cond (eqb (refusalOf b c) 0) (booked b c) b
 
--- the record that an answer names: after a refusal 2 any faulty one; else what the call answers, or 0 beside a refusal
-pub record Names (b : List ℕ) (refusal answered named : ℕ) : Type 0 where
-  pub damaged : refusal ≡ 2 → faulty b named ≡ true
-  pub else : (refusal ≡ 2 → ⊥) → named ≡ cond (eqb refusal 0) answered 0
+-- the record that an answer names: after a refusal 2 "the faulty record with the smallest index" (ticket 4); else what the call
+-- answers, or 0 beside another refusal
+unfoldable pub recordNamed : List ℕ → (refusal answered : ℕ) → ℕ
+recordNamed b refusal answered = cond (eqb refusal 2) (smallestFaulty b) (cond (eqb refusal 0) answered 0)

@@ -33,7 +33,6 @@ use Rattle.layout.proofs.ByteRanges.{Bytes}
 use Rattle.demand.specs.Lists.{Made, made, Runs, madeOf, bookAfterAll}
 use Rattle.demand.specs.Fed.{here}
 use Rattle.calls.specs.Typed.{Typed, AllTyped}
-use Rattle.demand.proofs.Theorem as demand
 use Rattle.claims.specs.Runs.{Calls}
 use Rattle.claims.specs.Claims.{Claim}
 use Rattle.claims.proofs.Theorem.{third-demand}
@@ -103,16 +102,12 @@ typed = (enrolment-typed, (bytes-2013, (election-typed, (bytes-2014, (enrolment-
 abbrev buffer : List ℕ
 buffer = replicate 480 0
 
-fits : lengthFits buffer ≡ true
-unfolding lengthFits
-fits = refl
-
 abbrev after : List ℕ
 after = bookAfterAll (freshBook 480) calls
 
 -- each call is answered, and the book as the last one left it goes to the next
 pub run : Runs Calls (freshBook 480) (made (enrol 7 details 0) 0 ∷ others) after
-run = subst (λ ms. Runs Calls (freshBook 480) ms after) answered (possible (freshBook 480) calls typed (demand.never-damaged buffer fits calls typed))
+run = subst (λ ms. Runs Calls (freshBook 480) ms after) answered (possible (freshBook 480) calls typed)
 
 freshened : freshAfter buffer ≡ freshBook 480
 unfolding freshAfter lengthFits

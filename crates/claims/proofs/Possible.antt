@@ -1,4 +1,4 @@
--- Each call can be made on any book but a damaged one, answered as its contract says; and so, one after the other, can a list.
+-- Each call can be made on any book, answered as its contract says; and so, one after the other, can a list.
 use Prim.Native.Nat.{ℕ}
 use mathlib.Core.Path.{_≡_, refl, ap, subst}
 use mathlib.Core.Bool.{Bool, true, false, cond, not}
@@ -12,7 +12,7 @@ use Rattle.sheet.specs.YearSheet.{sheetUser, sheetYear, refused11, refused14, t
 use Rattle.sheet.proofs.Faults.{telling}
 use Rattle.book.specs.Book.{lengthFits, used, sound}
 use Rattle.calls.specs.Refusals.{lookAt, present, yearOpen}
-use Rattle.calls.specs.Calls.{Call, enrol, elect, advance, close, statement, namedBy, rulesOf, refusalOf, changeOf, booked, bookAfter}
+use Rattle.calls.specs.Calls.{Call, enrol, elect, advance, close, statement, namedBy, rulesOf, refusalOf, changeOf, booked, bookAfter, recordNamed}
 use Rattle.calls.specs.Rules.{refusedBy}
 use Rattle.calls.specs.Changes.{applied}
 use Rattle.answers.specs.declared.Reply.{Reply}
@@ -22,7 +22,6 @@ use Rattle.advance.specs.Advances.{ticksAnswered}
 use Rattle.close.specs.Closings.{sumsAnswered}
 use Rattle.statement.specs.Stated.{sumsStated}
 use Rattle.demand.specs.Lists.{made, callsOf, Runs, done, andThen, madeOf, bookAfterAll}
-use Rattle.demand.specs.Fed.{NoneDamaged}
 use Rattle.calls.specs.Typed.{AllTyped}
 use Rattle.claims.specs.Runs.{Calls, enrols, elects, advances, closes, states}
 
@@ -42,8 +41,8 @@ or-else true h k = h
 or-else false h k = k
 
 module _ (b : List ℕ) where
-  right : (c : Call) (answered : ℕ) → (refusalOf b c ≡ 2 → ⊥) → Answered b c answered (refusalOf b c) (cond (eqb (refusalOf b c) 0) answered 0) (bookAfter b c)
-  right c answered other = record { refusal-is = refl; names = record { damaged = λ two. absurd (other two); else = λ p. refl }; book-is = refl }
+  right : (c : Call) (answered : ℕ) → Answered b c answered (refusalOf b c) (recordNamed b (refusalOf b c) answered) (bookAfter b c)
+  right c answered = record { refusal-is = refl; record-is = refl; book-is = refl }
 
   stated-left : (n : ℕ) → bookAfter b (statement n) ≡ b
   unfolding bookAfter booked applied changeOf
@@ -67,48 +66,48 @@ module _ (b : List ℕ) where
       let answer : Other (refusalOf b (close s)) = rw (past .0, past .1) by-book in
       answer .told-not
 
-  -- the reply of a call that names no record
+  -- the reply of a call that names no record but after a 2
   abbrev unnamed : Call → Reply
-  unnamed c = replyOf (refusalOf b c) (cond (eqb (refusalOf b c) 0) 0 0)
+  unnamed c = replyOf (refusalOf b c) (recordNamed b (refusalOf b c) 0)
 
-  performed : (c : Call) → (refusalOf b c ≡ 2 → ⊥) → Calls b (made c (refusalOf b c)) (bookAfter b c)
-  performed (enrol n d o) other =
+  performed : (c : Call) → Calls b (made c (refusalOf b c)) (bookAfter b c)
+  performed (enrol n d o) =
       let c = enrol n d o in
-      enrols ([], tt) (lent b, (userNumber n, (d, (o, tt)))) (replyOf (refusalOf b c) (cond (eqb (refusalOf b c) 0) (used b) 0)) (lent (bookAfter b c), (userNumber n, (d, (o, tt))))
-      (right c (used b) other)
-  performed (elect n o y m d) other =
+      enrols ([], tt) (lent b, (userNumber n, (d, (o, tt)))) (replyOf (refusalOf b c) (recordNamed b (refusalOf b c) (used b))) (lent (bookAfter b c), (userNumber n, (d, (o, tt))))
+      (right c (used b))
+  performed (elect n o y m d) =
       let c = elect n o y m d in
       elects ([], tt) (lent b, (userNumber n, (o, (y, (m, (d, tt)))))) (unnamed c) (lent (bookAfter b c), (userNumber n, (o, (y, (m, (d, tt))))))
-      (right c 0 other)
-  performed (advance n y r p e₁ e₂) other =
+      (right c 0)
+  performed (advance n y r p e₁ e₂) =
       let c = advance n y r p e₁ e₂ in
       let price : Rate = record { 0 = p } in
       let estimate1 : WideKwh = record { 0 = e₁ } in
       let estimate2 : WideKwh = record { 0 = e₂ } in
       advances ([], tt) (lent b, (userNumber n, (y, (r, (price, (estimate1, (estimate2, tt)))))))
       (record { reply = unnamed c; ticks = ticksAnswered b n y r p e₁ e₂ (refusalOf b c) })
-      (lent (bookAfter b c), (userNumber n, (y, (r, (price, (estimate1, (estimate2, tt))))))) (right c 0 other, refl)
-  performed (close s) other =
+      (lent (bookAfter b c), (userNumber n, (y, (r, (price, (estimate1, (estimate2, tt))))))) (right c 0, refl)
+  performed (close s) =
       let c = close s in
       let at = telling s (refusalOf b c) (others s) in
       closes ([], ([], tt)) (lent b, (lent s, tt))
       (record { reply = unnamed c; position = at .position; sums = sumsAnswered b s (refusalOf b c) })
-      (lent (bookAfter b c), (lent s, tt)) (right c 0 other, (at .told, refl))
-  performed (statement n) other =
+      (lent (bookAfter b c), (lent s, tt)) (right c 0, (at .told, refl))
+  performed (statement n) =
       let c = statement n in
       let same = stated-left n in
       rw same
       (states ([], tt) (lent b, (userNumber n, tt))
       (record { reply = unnamed c; sums = sumsStated b n (refusalOf b c) })
       (lent b, (userNumber n, tt))
-      (subst (Answered b c 0 (refusalOf b c) (cond (eqb (refusalOf b c) 0) 0 0)) same (right c 0 other), refl))
+      (subst (Answered b c 0 (refusalOf b c) (recordNamed b (refusalOf b c) 0)) same (right c 0), refl))
 
-pub possible : (b : List ℕ) (cs : List Call) → AllTyped cs → NoneDamaged (madeOf b cs) → Runs Calls b (madeOf b cs) (bookAfterAll b cs)
-unfolding madeOf bookAfterAll AllTyped NoneDamaged
-possible b [] typed none-damaged = done b
-possible b (c ∷ cs) typed none-damaged =
-    andThen b (bookAfter b c) (bookAfterAll (bookAfter b c) cs) (made c (refusalOf b c)) (madeOf (bookAfter b c) cs) (performed b c (none-damaged .1)) (typed .0)
-    (possible (bookAfter b c) cs (typed .1) (none-damaged .2))
+pub possible : (b : List ℕ) (cs : List Call) → AllTyped cs → Runs Calls b (madeOf b cs) (bookAfterAll b cs)
+unfolding madeOf bookAfterAll AllTyped
+possible b [] typed = done b
+possible b (c ∷ cs) typed =
+    andThen b (bookAfter b c) (bookAfterAll (bookAfter b c) cs) (made c (refusalOf b c)) (madeOf (bookAfter b c) cs) (performed b c) (typed .0)
+    (possible (bookAfter b c) cs (typed .1))
 
 pub made-calls : (b : List ℕ) (cs : List Call) → callsOf (madeOf b cs) ≡ cs
 unfolding madeOf callsOf

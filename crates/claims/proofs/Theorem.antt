@@ -21,7 +21,7 @@ use Rattle.chains.proofs.Fit.{sums-fit}
 use Rattle.book.specs.Find.{findUser}
 use Rattle.calls.specs.Rules.{testOf}
 use Rattle.calls.specs.Refusals.{lookAt}
-use Rattle.calls.specs.Calls.{Call, enrol, elect, advance, close, statement, namedBy, rulesOf, refusalOf}
+use Rattle.calls.specs.Calls.{Call, enrol, elect, advance, close, statement, namedBy, rulesOf, refusalOf, recordNamed}
 use Rattle.calls.proofs.Orders.{fact}
 use Rattle.bookings.proofs.CallsFit.{named-user}
 use Rattle.statements.specs.Walk.{sumsOf, statementIn}
@@ -79,12 +79,12 @@ module _ (b : List ℕ) (number : ℕ) (known : refusalOf b (statement number) �
 
   pub statement-answers : (κs : _) (a : _) (r : _) (s : _) → statement-of.Post κs a r s → now (a .0) ≡ b → a .1 .0 .0 ≡ number
       → (r .reply .refusal ≡ 0) × (r .reply .«record» .0 ≡ 0) × (statementIn (r .sums) ≡ statementAt b (findUser b number))
-  unfolding sumsStated
+  unfolding sumsStated recordNamed
   statement-answers κs a r s p is-book is-number =
       let says = statement-says κs a r s p in
       let zero : r .reply .refusal ≡ 0 = says .0 .refusal-is ∙ rw (is-book, is-number, known) in
       let sums : r .sums ≡ sumsOf (statementAt b (findUser b number)) = says .1 ∙ rw (is-book, is-number, zero) in
-      (zero, says .0 .names .else (λ two. omega (arith, zero, two)) ∙ ap (λ n. cond (eqb n 0) 0 0) zero, ap statementIn sums ∙ sums-back)
+      (zero, says .0 .record-is ∙ rw zero refl, ap statementIn sums ∙ sums-back)
 
 -- the claim, from the demand over the definitions
 module _ (b : List ℕ) (fits : lengthFits b ≡ true) (ms : List Made) (b′ : List ℕ) (run : Runs Calls (freshBook (length b)) ms b′) where
@@ -142,6 +142,6 @@ every-list κs a r s said accepted cs typed =
       after = bookAfterAll fresh cs;
       run =
           subst (λ x. Runs Calls x (madeOf fresh cs) (bookAfterAll fresh cs)) (sym (says .1 ∙ fresh-left start fits))
-          (possible fresh cs typed (demand.never-damaged start fits cs typed));
+          (possible fresh cs typed);
       calls = made-calls fresh cs;
     }

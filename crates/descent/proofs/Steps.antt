@@ -7,7 +7,7 @@ use native.Mathlib.Omega.{arith}
 use Rattle.book.specs.Book.{used, isUser, isEntry, ownerOf, nextOf, levelOf}
 use Rattle.book.proofs.RecordKinds.{not-both}
 use Rattle.owners.specs.Owners.{owns}
-use Rattle.owners.proofs.Last.{owns-own, owns-no-other}
+use Rattle.owners.proofs.Owned.{owns-own, owns-no-other}
 use Rattle.descent.specs.Descent.{met, dueUser, dueEntry, dueYear, MetUser, MetEntry}
 
 -- the record i is met after all above it

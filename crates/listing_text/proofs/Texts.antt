@@ -14,7 +14,6 @@ use Rattle.units.specs.declared.RecordIndex.{RecordIndex}
 use Rattle.soundness.specs.declared.Verdict.{Verdict}
 use Rattle.soundness.specs.declared.Verdict.the-variants.{Length, Sound, Faulty}
 use Rattle.soundness.specs.Verdicts.{BookJudged, Accepted, Objected}
-use Rattle.book.proofs.Faults.{faulty-not-sound}
 use Rattle.listing_text.specs.Listing.{blank, lineFeed, lines, refused, listing}
 use Rattle.listing_text.specs.Written.{longestRefusal, longestText, field, AllWritten}
 use Rattle.codec.proofs.Pieces.{stored-then}
@@ -56,7 +55,7 @@ module _ (b : List ℕ) where
   refused-faulty v {i} h e =
       let o : Objected b (i .0) = subst (BookJudged b 0) e h in
       let long : lengthFits b ≡ true = o .fits in
-      let bad : sound b ≡ false = faulty-not-sound b long (i .0) (o .isFaulty) in
+      let bad : sound b ≡ false = o .unsound in
       rw (long, bad)
 
   -- the text written is the listing

@@ -1,56 +1,57 @@
--- The lists of the entries below an index, and how the next record changes them.
+-- The lists of the entries from an index on, and how the record before it changes them.
 use Prim.Native.Nat.{ℕ, _+_, _≤_, _<_}
-use mathlib.Core.Path.{_≡_, refl, sym, ap, _∙_}
+use mathlib.Core.Path.{_≡_, refl, sym, ap, subst, _∙_}
 use mathlib.Core.Bool.{Bool, true, false, _&&_, true≢false}
 use mathlib.Core.List.{List}
 use native.Mathlib.Decide.{ℕ-discrete}
 use native.Mathlib.Omega.{arith}
-use borrow.Author.Count.{below-more}
 use borrow.Author.Tests.{lt-ltb}
 use lib.Dec.{ltb}
 use lib.ListN.{length, getD, set, replicate, getD-replicate}
 use lib.Seq.{getD-set-same, getD-set-other}
 use Rattle.book.specs.Book.{used, isEntry, ownerOf}
-use Rattle.book.proofs.RecordKinds.{entry-index}
 use Rattle.units.specs.Limits.{mostRecords}
 use Rattle.owners.specs.declared.Entries.{Entries}
-use Rattle.owners.specs.Owners.{owns, lastOwned, Linked}
-use Rattle.owners.proofs.Last.{owns-entry, owns-owner, owns-own, owns-no-other, last-none, last-here, last-not-here}
+use Rattle.owners.specs.Owners.{owns, NextOwned, Linked}
+use Rattle.owners.proofs.Owned.{owns-entry, owns-owner, owns-own, owns-no-other, owned-none, owned-here, owned-further}
 
--- the entries below `n` are linked
-pub record LinkedBelow (b : List ℕ) (n : ℕ) (lasts earliers : List ℕ) : Type 0 where
-  pub last : (o : ℕ) → o < used b → getD lasts o 0 ≡ lastOwned b o n
-  pub earlier : (k : ℕ) → k < n → (o : ℕ) → o < used b → owns b o k ≡ true → getD earliers k 0 ≡ lastOwned b o k
+-- the entries from `n` on are linked
+pub record LinkedFrom (b : List ℕ) (n : ℕ) (firsts laters : List ℕ) : Type 0 where
+  pub first : (o : ℕ) → o < used b → NextOwned b o n (getD firsts o 0)
+  pub later : (k : ℕ) → n ≤ k → (o : ℕ) → o < used b → owns b o k ≡ true → NextOwned b o (k + 1) (getD laters k 0)
 
-pub linked-none : (b earliers : List ℕ) → used b ≤ mostRecords → LinkedBelow b 0 (replicate mostRecords 0) earliers
-linked-none b earliers fits =
+pub linked-none : (b laters : List ℕ) (n : ℕ) → n ≡ used b → used b ≤ mostRecords → LinkedFrom b n (replicate mostRecords 0) laters
+linked-none b laters n end fits =
     record {
-      last = λ o h. getD-replicate mostRecords o 0 0 (omega arith) ∙ sym (last-none b o);
-      earlier = λ k h. let z : ⊥ = omega arith in absurd z;
+      first = λ o h. subst (NextOwned b o n) (sym (getD-replicate mostRecords o 0 0 (omega arith))) (owned-none b o n (omega (arith, end)));
+      later = λ k l o h q. absurd (owned-none b o n (omega (arith, end)) .none-before k l q .0 refl);
     }
 
-module _ (b : List ℕ) (n : ℕ) {lasts earliers : List ℕ} (linked : LinkedBelow b n lasts earliers) where
+module _ (b : List ℕ) (n : ℕ) {firsts laters : List ℕ} (linked : LinkedFrom b (n + 1) firsts laters) where
   -- the record is an entry of a record of the book
-  module _ {owner : ℕ} (e : isEntry b n ≡ true) (w : owner ≡ ownerOf b n) (room : owner < length lasts) (place : n < length earliers) where
-    last-after : (o : ℕ) → o < used b → Dec (o ≡ owner) → getD (set lasts owner n) o 0 ≡ lastOwned b o (n + 1)
-    last-after o h (yes same) = rw same (getD-set-same lasts owner n 0 room ∙ sym (last-here b owner n (owns-own b owner n e (sym w))))
-    last-after o h (no d) = getD-set-other lasts owner o n 0 d ∙ linked .last o h ∙ sym (last-not-here b o n (owns-no-other b o n (λ same. d (sym (w ∙ same)))))
+  module _ {owner : ℕ} (e : isEntry b n ≡ true) (w : owner ≡ ownerOf b n) (room : owner < length firsts) (place : n < length laters) where
+    first-after : (o : ℕ) → o < used b → Dec (o ≡ owner) → NextOwned b o n (getD (set firsts owner n) o 0)
+    first-after o h (yes same) =
+        let here = owned-here b owner n (owns-own b owner n e (sym w)) in
+        rw (same, getD-set-same firsts owner n 0 room) here
+    first-after o h (no d) =
+        rw (getD-set-other firsts owner o n 0 d) (owned-further b o n (owns-no-other b o n (λ same. d (sym (w ∙ same)))) (linked .first o h))
 
-    abbrev earliers-after : List ℕ
-    earliers-after = set earliers n (getD lasts owner 0)
+    abbrev laters-after : List ℕ
+    laters-after = set laters n (getD firsts owner 0)
 
-    here-after : (o : ℕ) → o < used b → owns b o n ≡ true → getD earliers-after n 0 ≡ lastOwned b o n
-    here-after o h q =
-        let same : owner ≡ o = w ∙ owns-owner b o n q in
-        getD-set-same earliers n (getD lasts owner 0) 0 place ∙ (rw same (linked .last o h))
+    later-after : (k : ℕ) → n ≤ k → (o : ℕ) → o < used b → owns b o k ≡ true → Dec (k ≡ n) → NextOwned b o (k + 1) (getD laters-after k 0)
+    later-after k l o h q (yes same) =
+        let here : owns b o n ≡ true = rw same at q in
+        let mine : owner ≡ o = w ∙ owns-owner b o n here in
+        rw (same, getD-set-same laters n (getD firsts owner 0) 0 place, mine) (linked .first o h)
+    later-after k l o h q (no d) = rw (getD-set-other laters n k (getD firsts owner 0) 0 d) (linked .later k (omega (arith, d)) o h q)
 
-    pub linked-entry : LinkedBelow b (n + 1) (set lasts owner n) earliers-after
+    pub linked-entry : LinkedFrom b n (set firsts owner n) laters-after
     linked-entry =
         record {
-          last = λ o h. last-after o h (ℕ-discrete o owner);
-          earlier =
-              below-more (λ k. (o : ℕ) → o < used b → owns b o k ≡ true → getD earliers-after k 0 ≡ lastOwned b o k) n
-              (λ k l o h q. getD-set-other earliers n k (getD lasts owner 0) 0 (omega arith) ∙ linked .earlier k l o h q) here-after;
+          first = λ o h. first-after o h (ℕ-discrete o owner);
+          later = λ k l o h q. later-after k l o h q (ℕ-discrete k n);
         }
 
   -- it is no entry, or its owner is no record of the book
@@ -68,19 +69,19 @@ module _ (b : List ℕ) (n : ℕ) {lasts earliers : List ℕ} (linked : LinkedBe
             let both : (entry && ltb owner records) ≡ true = rw (found, within) in
             absurd (true≢false (sym both ∙ told))
 
-    pub linked-other : LinkedBelow b (n + 1) lasts earliers
+    later-kept : (k : ℕ) → n ≤ k → (o : ℕ) → o < used b → owns b o k ≡ true → Dec (k ≡ n) → NextOwned b o (k + 1) (getD laters k 0)
+    later-kept k l o h q (yes same) = let here : owns b o n ≡ true = rw same at q in absurd (true≢false (sym here ∙ nobody's o h))
+    later-kept k l o h q (no d) = linked .later k (omega (arith, d)) o h q
+
+    pub linked-other : LinkedFrom b n firsts laters
     linked-other =
         record {
-          last = λ o h. linked .last o h ∙ sym (last-not-here b o n (nobody's o h));
-          earlier =
-              below-more (λ k. (o : ℕ) → o < used b → owns b o k ≡ true → getD earliers k 0 ≡ lastOwned b o k) n (linked .earlier)
-              (λ o h q. absurd (true≢false (sym q ∙ nobody's o h)));
+          first = λ o h. owned-further b o n (nobody's o h) (linked .first o h);
+          later = λ k l o h q. later-kept k l o h q (ℕ-discrete k n);
         }
 
 -- all records are passed
-pub linked-all : (b : List ℕ) (n : ℕ) (entries : Entries) → n ≡ used b → LinkedBelow b n (entries .last) (entries .earlier) → Linked b entries
+pub linked-all : (b : List ℕ) (n : ℕ) (entries : Entries) → n ≡ 0 → LinkedFrom b n (entries .first) (entries .later) → Linked b entries
 linked-all b n entries end linked =
-    record {
-      last = λ o h. linked .last o h ∙ ap (lastOwned b o) end;
-      earlier = λ o e h q. linked .earlier e (let l = entry-index b e (owns-entry b o e q) .1 in omega arith) o h q;
-    }
+    let from : LinkedFrom b 0 (entries .first) (entries .later) = subst (λ m. LinkedFrom b m (entries .first) (entries .later)) end linked in
+    record { first = from .first; later = λ o e h q. from .later e (omega arith) o h q }

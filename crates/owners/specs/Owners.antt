@@ -1,7 +1,7 @@
--- The entries of an owner, from the last one down.
-use Prim.Native.Nat.{ℕ, zero, suc, _<_}
+-- The entries of an owner, from the first one up.
+use Prim.Native.Nat.{ℕ, _+_, _≤_, _<_}
 use mathlib.Core.Path.{_≡_}
-use mathlib.Core.Bool.{Bool, true, cond, _&&_}
+use mathlib.Core.Bool.{Bool, true, _&&_}
 use mathlib.Core.List.{List}
 use lib.Dec.{eqb}
 use lib.ListN.{getD}
@@ -12,12 +12,12 @@ use Rattle.owners.specs.declared.Entries.{Entries}
 unfoldable pub owns : List ℕ → ℕ → ℕ → Bool
 owns b owner e = isEntry b e && eqb (ownerOf b e) owner
 
--- the greatest index below n that is an entry of the owner, 0 if none is
-unfoldable pub lastOwned : List ℕ → ℕ → ℕ → ℕ
-lastOwned b owner zero = 0
-lastOwned b owner (suc n) = cond (owns b owner n) n (lastOwned b owner n)
+-- the smallest index from n on that is an entry of the owner, 0 if none is
+pub record NextOwned (b : List ℕ) (owner n e : ℕ) : Type 0 where
+  pub here : (e ≡ 0 → ⊥) → (owns b owner e ≡ true) × (n ≤ e)
+  pub none-before : (k : ℕ) → n ≤ k → owns b owner k ≡ true → (e ≡ 0 → ⊥) × (e ≤ k)
 
--- the last entry of each record, and the one before each entry of it
+-- the first entry of each record, and the one after each entry of it
 pub record Linked (b : List ℕ) (entries : Entries) : Type 0 where
-  pub last : (owner : ℕ) → owner < used b → getD (entries .last) owner 0 ≡ lastOwned b owner (used b)
-  pub earlier : (owner e : ℕ) → owner < used b → owns b owner e ≡ true → getD (entries .earlier) e 0 ≡ lastOwned b owner e
+  pub first : (owner : ℕ) → owner < used b → NextOwned b owner 0 (getD (entries .first) owner 0)
+  pub later : (owner e : ℕ) → owner < used b → owns b owner e ≡ true → NextOwned b owner (e + 1) (getD (entries .later) e 0)

@@ -9,27 +9,30 @@ use units::RecordIndex;
 use view::is_entry;
 use view::owner_of;
 
-// The last entry of each owner, and of each entry the one before it that has the same owner; 0 for none.
+// The first entry of each owner, and of each entry the next one that has the same owner; 0 for none.
 pub struct Entries {
-    pub last: [u32; MOST_RECORDS],
-    pub earlier: [u32; MOST_RECORDS],
+    pub first: [u32; MOST_RECORDS],
+    pub later: [u32; MOST_RECORDS],
 }
 
-// An entry whose owner is no record of the book stands in no list.
+// The records are passed from the last one down. An entry whose owner is no record of the book stands in no list.
 pub fn by_owner(book: &[u8]) -> Entries
     requires { ⌜ used (now book) ≤ mostRecords ⌝ }
     ensures { λ r. ⌜ Linked (now (book .entry)) r ⌝ }
 {
-    let mut last = [0u32; MOST_RECORDS];
-    let mut earlier = [0u32; MOST_RECORDS];
+    let mut first = [0u32; MOST_RECORDS];
+    let mut later = [0u32; MOST_RECORDS];
     let records = view::used(book);
-    for e in 0..records {
+    let mut left = records;
+    while 0 < left {
+        let e = left - 1;
         let entry = RecordIndex(e);
         let owner = owner_of(book, entry).0;
         if is_entry(book, entry) & (owner < records) {
-            earlier[e as usize] = last[owner as usize];
-            last[owner as usize] = e;
+            later[e as usize] = first[owner as usize];
+            first[owner as usize] = e;
         }
+        left = e;
     }
-    Entries { last, earlier }
+    Entries { first, later }
 }

@@ -1,6 +1,6 @@
 -- The own rules of a record, as the pass tests them: a user by itself, an entry by its owner's record too; and that a record that
--- breaks them, or whose owner is not before it, is faulty.
-use Prim.Native.Nat.{ℕ, _≤_, _<_}
+-- breaks them, or whose owner is not before it, is not good.
+use Prim.Native.Nat.{ℕ, _<_}
 use mathlib.Core.Path.{_≡_, sym, ap, _∙_}
 use mathlib.Core.Bool.{Bool, true, false, not, _&&_, _||_, and-false}
 use mathlib.Core.List.{List}
@@ -11,8 +11,8 @@ use lib.Dec.{eqb, leb, ltb}
 use Rattle.units.proofs.Bools.{and-left, or-cases}
 use Rattle.layout.specs.Fields.{get, allZero, unnamedOfUser, recordAt, kindField, numberField, ownerField, userKind}
 use Rattle.records.specs.Records.{accountIn}
-use Rattle.book.specs.Book.{used, usedFits, kindAt, hasKind, isUser, ownerOf, ownerFits, accountFits, entryRanges, rangesFit, unnamedOf, zeroBytesFit, ownRulesFit, faulty, detailsFit, openYearFits, runsFit, advancesFit, creditFits, halvesFit}
-use Rattle.book.proofs.Faults.{faulty-record, own-bad, ownerless-bad}
+use Rattle.book.specs.Book.{kindAt, hasKind, isUser, ownerOf, ownerFits, accountFits, entryRanges, rangesFit, unnamedOf, zeroBytesFit, ownRulesFit, goodRecord, detailsFit, openYearFits, runsFit, advancesFit, creditFits, halvesFit}
+use Rattle.book.proofs.Faults.{own-bad, ownerless-bad}
 
 -- a user that keeps its rules has a number
 pub number-some : (r : List ℕ) → (accountFits (accountIn r) && allZero unnamedOfUser r) ≡ true → 0 < get numberField r
@@ -52,8 +52,8 @@ module _ (b : List ℕ) (index : ℕ) {r : List ℕ} (bytes : r ≡ recordAt b i
         (λ (l : leb index home ≡ true). rw (owner-here, le-ltb home index (leb-true index home l), and-false (isUser b home)))
         (or-cases (eqb home 0) (leb index home) t)
 
-    pub owner-bad : usedFits b ≡ true → 1 ≤ index → index < used b → (eqb home 0 || leb index home) ≡ true → faulty b index ≡ true
-    owner-bad u lo hi t = faulty-record b u index lo hi ∙ ap not (ownerless-bad b index (λ e. other (sym kind-here ∙ e)) (unowned t))
+    pub owner-bad : (eqb home 0 || leb index home) ≡ true → goodRecord b index ≡ false
+    owner-bad t = ownerless-bad b index (λ e. other (sym kind-here ∙ e)) (unowned t)
 
-pub rules-bad : (b : List ℕ) → usedFits b ≡ true → (index : ℕ) → 1 ≤ index → index < used b → {t : Bool} → ownRulesFit b index ≡ t → not t ≡ true → faulty b index ≡ true
-rules-bad b u index lo hi {t} e n = faulty-record b u index lo hi ∙ ap not (own-bad b index (e ∙ not-true t n))
+pub rules-bad : (b : List ℕ) (index : ℕ) {t : Bool} → ownRulesFit b index ≡ t → not t ≡ true → goodRecord b index ≡ false
+rules-bad b index {t} e n = own-bad b index (e ∙ not-true t n)

@@ -8,7 +8,7 @@ use lib.ListN.{length, getD}
 use Rattle.layout.specs.Fields.{get, kindField, nextField, firstEntryField, activationYearField, openYearField, userKind}
 use Rattle.units.specs.declared.RecordIndex.{RecordIndex}
 use Rattle.units.specs.Units.{recordIndex}
-use Rattle.book.specs.Book.{used, levelIn, yearsEnded, ownRulesFit, faulty, sound}
+use Rattle.book.specs.Book.{used, levelIn, yearsEnded, ownRulesFit, goodRecord, sound}
 use Rattle.book.specs.Find.{findUser}
 use Rattle.pass.specs.declared.Passed.{Passed}
 
@@ -47,18 +47,33 @@ pub record StateAfter (r : List ℕ) (state : ℕ) : Type 0 where
 unfoldable pub firstMet : ℕ → ℕ → ℕ → ℕ → ℕ
 firstMet found index number wanted = cond (eqb number wanted && eqb found 0) index found
 
--- what the pass begins with: a state for each record, none of them known, and a table of numbers
-pub record Tables (records : ℕ) (states seen : List ℕ) : Type 0 where
+-- what the pass begins with: a state for each record and a table of numbers; and where it begins at u, no state is known
+pub record Tables (records below : ℕ) (states seen : List ℕ) : Type 0 where
   pub room : records ≤ length states
-  pub unknown : (o : ℕ) → getD states o 0 ≡ 0
+  pub unknown : below ≡ records → (o : ℕ) → getD states o 0 ≡ 0
   pub places : 0 < length seen
 
--- what the pass answers where it meets a record that is faulty by itself
-abbrev pub faultyAt : RecordIndex → Passed
-faultyAt i = record { faulty = i; joined = false; user = recordIndex 0 }
+-- what the pass answers where it meets a record that breaks a rule by itself
+abbrev pub brokenAt : RecordIndex → Passed
+brokenAt i = record { broken = i; joined = false; user = recordIndex 0 }
 
--- What the pass says. Where the chains do not lead to every record, some record is faulty, and the pass does not say which.
-pub record PassedOver (b : List ℕ) (n : ℕ) (p : Passed) : Type 0 where
-  pub named : (p .faulty .0 ≡ 0 → ⊥) → faulty b (p .faulty .0) ≡ true
-  pub own : p .faulty .0 ≡ 0 → (i : ℕ) → 1 ≤ i → i < used b → ownRulesFit b i ≡ true
+-- What the pass over the records below an index says. Where the chains do not lead to every record, some record is faulty, and the
+-- pass does not say which.
+pub record PassedOver (b : List ℕ) (n below : ℕ) (p : Passed) : Type 0 where
+  pub from : 1 ≤ p .broken .0
+  pub to : p .broken .0 ≤ below
+  pub faulty : p .broken .0 < below → goodRecord b (p .broken .0) ≡ false
+  pub own : p .broken .0 ≡ below → (i : ℕ) → 1 ≤ i → i < below → ownRulesFit b i ≡ true
+  pub whole : p .joined ≡ true → (sound b ≡ true) × (p .user ≡ recordIndex (findUser b n))
+
+-- an index below which all records keep their own rules, and whose record is faulty, or u
+pub record Broken (b : List ℕ) (i : ℕ) : Type 0 where
+  pub from : 1 ≤ i
+  pub to : i ≤ used b
+  pub faulty : i < used b → goodRecord b i ≡ false
+  pub own : (j : ℕ) → 1 ≤ j → j < i → ownRulesFit b j ≡ true
+
+-- what the pass over all records says
+pub record PassedThrough (b : List ℕ) (n : ℕ) (p : Passed) : Type 0 where
+  pub broken : Broken b (p .broken .0)
   pub whole : p .joined ≡ true → (sound b ≡ true) × (p .user ≡ recordIndex (findUser b n))

@@ -2,11 +2,12 @@
 // whether the chains lead to every record, and finds the user with a number on its way.
 ghost use mathlib.Core.Path.{_≡_};
 ghost use mathlib.Core.Bool.{true};
-ghost use Prim.Native.Nat.{_<_};
+ghost use Prim.Native.Nat.{_≤_, _<_};
+ghost use lib.ListN.{length};
 ghost use Rattle.units.specs.Units.{recordIndex};
 ghost use Rattle.layout.specs.Fields.{get, nextField};
 ghost use Rattle.book.specs.Book.{lengthFits, used, usedFits, goodHead};
-ghost use Rattle.pass.specs.Steps.{years, entryDue, yearDue, UserLeads, EntryLeads, StateAfter, firstMet, faultyAt, Tables, PassedOver};
+ghost use Rattle.pass.specs.Steps.{years, entryDue, yearDue, UserLeads, EntryLeads, StateAfter, firstMet, brokenAt, Tables, PassedOver, PassedThrough};
 use book::MOST_RECORDS;
 use layout::kind::USER;
 use layout::whole_record;
@@ -14,19 +15,19 @@ use numbers::PLACES;
 use units::RecordIndex;
 use units::UserNumber;
 
-// What the pass says of a book: a record that is faulty, 0 for none; whether the chains lead to all records; and the user that was
-// looked for, 0 for none.
+// What the pass says of a book: the smallest record that breaks a rule by itself, u for none; whether the chains lead to all
+// records; and the user that was looked for, 0 for none.
 pub struct Passed {
-    pub faulty: RecordIndex,
+    pub broken: RecordIndex,
     pub joined: bool,
     pub user: RecordIndex,
 }
 
-fn faulty_at(index: RecordIndex) -> Passed
-    ensures { λ p. ⌜ p ≡ faultyAt index ⌝ }
+fn broken_at(index: RecordIndex) -> Passed
+    ensures { λ p. ⌜ p ≡ brokenAt index ⌝ }
 {
     Passed {
-        faulty: index,
+        broken: index,
         joined: false,
         user: RecordIndex(0),
     }
@@ -105,25 +106,34 @@ fn first_met(found: u32, index: RecordIndex, number: UserNumber, wanted: UserNum
     }
 }
 
-// Of each user the pass keeps its state, and of all the numbers that it has seen.
-fn pass_over(book: &[u8], wanted: UserNumber, states: &mut [u32], seen: &mut [u32]) -> Passed
+// The records below an index, left at the first that breaks a rule by itself. Of each user the pass keeps its state, and of all the
+// numbers that it has seen. Only from u on it tells whether the chains lead to all records.
+fn pass_over(
+    book: &[u8],
+    wanted: UserNumber,
+    states: &mut [u32],
+    seen: &mut [u32],
+    below: u32,
+) -> Passed
     requires { ⌜ lengthFits (now book) ≡ true ⌝ }
     requires { ⌜ usedFits (now book) ≡ true ⌝ }
     requires { ⌜ goodHead (now book) ≡ true ⌝ }
-    requires { ⌜ Tables (used (now book)) (now states) (now seen) ⌝ }
-    ensures { λ p. ⌜ PassedOver (now (book .entry)) (wanted .0) p ⌝ }
+    requires { ⌜ (1 ≤ below) × (below ≤ used (now book)) ⌝ }
+    requires { ⌜ Tables (used (now book)) below (now states) (now seen) ⌝ }
+    ensures { λ p. ⌜ PassedOver (now (book .entry)) (wanted .0) below p ⌝ }
+    ensures { λ _. ⌜ (length (now (states .exit)) ≡ length (now (states .entry))) × (length (now (seen .exit)) ≡ length (now (seen .entry))) ⌝ }
 {
-    let mut joined = true;
+    let mut joined = below == view::used(book);
     let mut found: u32 = 0;
     let mut expected = view::first_user(book).0;
-    let mut left = view::used(book);
+    let mut left = below;
     while 1 < left {
         let last = left - 1;
         let index = RecordIndex(last);
         let r = whole_record(book, last as usize);
         if layout::kind_of(r) == USER {
             if !book::user_record_fits(r) {
-                return faulty_at(index);
+                return broken_at(index);
             }
             let number = layout::number_of(r);
             let new = numbers::insert(seen, number);
@@ -135,11 +145,11 @@ fn pass_over(book: &[u8], wanted: UserNumber, states: &mut [u32], seen: &mut [u3
         } else {
             let home = layout::owner_of(r);
             if (home.0 == 0) | (last <= home.0) {
-                return faulty_at(index);
+                return broken_at(index);
             }
             let owner = whole_record(book, home.0 as usize);
             if !book::entry_record_fits(r, owner) {
-                return faulty_at(index);
+                return broken_at(index);
             }
             let state = states[home.0 as usize];
             if entry_leads(r, owner, index, State(state)) {
@@ -151,9 +161,34 @@ fn pass_over(book: &[u8], wanted: UserNumber, states: &mut [u32], seen: &mut [u3
         left = last;
     }
     Passed {
-        faulty: RecordIndex(0),
+        broken: RecordIndex(below),
         joined: joined & (expected == 0),
         user: RecordIndex(found),
+    }
+}
+
+// All records: where one breaks a rule by itself, the pass is taken up again below it.
+fn pass_through(book: &[u8], wanted: UserNumber, states: &mut [u32], seen: &mut [u32]) -> Passed
+    requires { ⌜ lengthFits (now book) ≡ true ⌝ }
+    requires { ⌜ usedFits (now book) ≡ true ⌝ }
+    requires { ⌜ goodHead (now book) ≡ true ⌝ }
+    requires { ⌜ Tables (used (now book)) (used (now book)) (now states) (now seen) ⌝ }
+    ensures { λ p. ⌜ PassedThrough (now (book .entry)) (wanted .0) p ⌝ }
+{
+    let mut below = view::used(book);
+    let first = pass_over(book, wanted, states, seen, below);
+    let joined = first.joined;
+    let user = first.user;
+    let mut broken = first.broken.0;
+    while broken < below {
+        below = broken;
+        let again = pass_over(book, wanted, states, seen, below);
+        broken = again.broken.0;
+    }
+    Passed {
+        broken: RecordIndex(broken),
+        joined,
+        user,
     }
 }
 
@@ -162,15 +197,15 @@ pub fn find(book: &[u8], wanted: UserNumber) -> Passed
     requires { ⌜ lengthFits (now book) ≡ true ⌝ }
     requires { ⌜ usedFits (now book) ≡ true ⌝ }
     requires { ⌜ goodHead (now book) ≡ true ⌝ }
-    ensures { λ p. ⌜ PassedOver (now (book .entry)) (wanted .0) p ⌝ }
+    ensures { λ p. ⌜ PassedThrough (now (book .entry)) (wanted .0) p ⌝ }
 {
     if view::used(book) as usize <= FEW_RECORDS {
         let mut states = [0u32; FEW_RECORDS];
         let mut seen = [0u32; FEW_PLACES];
-        pass_over(book, wanted, &mut states, &mut seen)
+        pass_through(book, wanted, &mut states, &mut seen)
     } else {
         let mut states = [0u32; MOST_RECORDS];
         let mut seen = [0u32; PLACES];
-        pass_over(book, wanted, &mut states, &mut seen)
+        pass_through(book, wanted, &mut states, &mut seen)
     }
 }

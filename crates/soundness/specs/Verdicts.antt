@@ -6,28 +6,27 @@ use mathlib.Core.Bool.{true, false, cond}
 use mathlib.Core.List.{List}
 use lib.ListN.{length}
 use Rattle.units.specs.Units.{recordIndex}
-use Rattle.book.specs.Book.{lengthFits, freshBook, used, ownRulesFit, goodRecord, faulty, sound}
+use Rattle.book.specs.Book.{lengthFits, freshBook, used, goodRecord, sound, smallestFaulty}
 use Rattle.book.specs.Find.{findUser}
 use Rattle.soundness.specs.declared.Verdict.{Verdict}
 
--- all records but the head keep their own rules
-abbrev pub OwnRulesFit : List ℕ → Type 0
-OwnRulesFit b = (i : ℕ) → 1 ≤ i → i < used b → ownRulesFit b i ≡ true
-
--- the records but the head, where u fits: none is faulty, or this one is
+-- the records but the head, where u fits: this one is faulty, or it is u; and none before it is faulty
 pub record RecordsJudged (b : List ℕ) (bad : ℕ) : Type 0 where
-  pub none : bad ≡ 0 → (i : ℕ) → 1 ≤ i → i < used b → goodRecord b i ≡ true
-  pub some : (bad ≡ 0 → ⊥) → faulty b bad ≡ true
+  pub from : 1 ≤ bad
+  pub to : bad ≤ used b
+  pub is-bad : bad < used b → goodRecord b bad ≡ false
+  pub before : (i : ℕ) → 1 ≤ i → i < bad → goodRecord b i ≡ true
 
 -- a book that neither refusal 1 nor refusal 2 meets
 pub record Accepted (b : List ℕ) : Type 0 where
   pub fits : lengthFits b ≡ true
   pub isSound : sound b ≡ true
 
--- "2 not sound, with the index of some faulty record (any of them)"
+-- "2 not sound"; "the faulty record with the smallest index" (ticket 4)
 pub record Objected (b : List ℕ) (i : ℕ) : Type 0 where
   pub fits : lengthFits b ≡ true
-  pub isFaulty : faulty b i ≡ true
+  pub unsound : sound b ≡ false
+  pub smallest : i ≡ smallestFaulty b
 
 -- what each verdict says of a book and a user number: in a sound book it names the user with the number, 0 for none
 abbrev pub BookJudged : List ℕ → ℕ → Verdict → Type 0

@@ -3,7 +3,8 @@
 ghost use mathlib.Core.Path.{_≡_};
 ghost use mathlib.Core.Bool.{true, _&&_};
 ghost use Rattle.book.specs.Book.{lengthFits, usedFits, goodHead, isEntry, ownerFits, numberIsNew};
-ghost use Rattle.soundness.specs.Verdicts.{OwnRulesFit, RecordsJudged, BookJudged, freshAnswer, freshAfter};
+ghost use Rattle.pass.specs.Steps.{Broken};
+ghost use Rattle.soundness.specs.Verdicts.{RecordsJudged, BookJudged, freshAnswer, freshAfter};
 use numbers::PLACES;
 use units::RecordIndex;
 use units::UserNumber;
@@ -12,8 +13,8 @@ use view::is_user;
 use view::number_of;
 use view::used;
 
-// What is said of any bytes: refusal 1; no refusal, with the user that was looked for, 0 for none; refusal 2 with a faulty
-// record.
+// What is said of any bytes: refusal 1; no refusal, with the user that was looked for, 0 for none; refusal 2 with the faulty
+// record that has the smallest index.
 pub enum Verdict {
     Length,
     Sound(RecordIndex),
@@ -38,14 +39,16 @@ fn is_new(book: &[u8], user: RecordIndex, known: bool) -> bool
     }
 }
 
-// "A book is sound if no record is faulty": each user, then the entries that it owns. A record that is neither a user nor owned
-// by a user before it is faulty. Each record is looked at once: its own rules are known to hold, the entries of a user are linked
-// beforehand, and its number is new where a table of the numbers of all users before it takes it in. An entry has no number. The
-// answer is a faulty record, 0 for none.
-fn faulty_record(book: &[u8]) -> RecordIndex
+// "The faulty record with the smallest index" of the records but the head, or u where none is faulty: each user in rising order,
+// then the entries that it owns, in rising order too. A record that is neither a user nor owned by a user before it is faulty. `bad`
+// is the smallest faulty record so far, first the smallest that breaks a rule by itself. The entries of a user are left at the first
+// that is faulty, or not before `bad`; the users are left at one that is faulty, or at `bad`: whatever stands before it was looked
+// at, since the owner of an entry stands before the entry. Each record is looked at once: the entries of a user are linked
+// beforehand, and its number is new where a table of the numbers of all users before it takes it in. An entry has no number.
+fn faulty_record(book: &[u8], broken: u32) -> RecordIndex
     requires { ⌜ lengthFits (now book) ≡ true ⌝ }
     requires { ⌜ usedFits (now book) ≡ true ⌝ }
-    requires { ⌜ OwnRulesFit (now book) ⌝ }
+    requires { ⌜ Broken (now book) broken ⌝ }
     ensures { λ r. ⌜ RecordsJudged (now (book .entry)) (r .0) ⌝ }
 {
     let counts = pointers::counts(book);
@@ -53,8 +56,11 @@ fn faulty_record(book: &[u8]) -> RecordIndex
     let records = used(book);
     let mut seen = [0u32; PLACES];
     let mut all_seen = true;
-    let mut bad: u32 = 0;
+    let mut bad = broken;
     'users: for i in 1..records {
+        if i == bad {
+            break 'users;
+        }
         let home = RecordIndex(i);
         if is_user(book, home) {
             let number = number_of(book, home);
@@ -64,13 +70,13 @@ fn faulty_record(book: &[u8]) -> RecordIndex
                 bad = i;
                 break 'users;
             }
-            let mut e = entries.last[i as usize];
-            while e != 0 {
+            let mut e = entries.first[i as usize];
+            'entries: while (e != 0) & (e < bad) {
                 if !links::good_record(book, RecordIndex(e), counts[e as usize], true) {
                     bad = e;
-                    break 'users;
+                    break 'entries;
                 }
-                e = entries.earlier[e as usize];
+                e = entries.later[e as usize];
             }
         } else {
             if !owned(book, home) {
@@ -82,23 +88,24 @@ fn faulty_record(book: &[u8]) -> RecordIndex
     RecordIndex(bad)
 }
 
-// A book whose records keep their own rules is judged by their links.
-fn judge(book: &[u8], number: UserNumber) -> Verdict
+// A book whose chains do not lead to all records is judged record by record.
+fn judge(book: &[u8], number: UserNumber, broken: RecordIndex) -> Verdict
     requires { ⌜ lengthFits (now book) ≡ true ⌝ }
     requires { ⌜ usedFits (now book) ≡ true ⌝ }
     requires { ⌜ goodHead (now book) ≡ true ⌝ }
-    requires { ⌜ OwnRulesFit (now book) ⌝ }
+    requires { ⌜ Broken (now book) (broken .0) ⌝ }
     ensures { λ r. ⌜ BookJudged (now (book .entry)) (number .0) r ⌝ }
 {
-    let bad = faulty_record(book);
-    if bad.0 != 0 {
+    let bad = faulty_record(book, broken.0);
+    if bad.0 < used(book) {
         return Verdict::Faulty(bad);
     }
     Verdict::Sound(lookup::find_user(book, number))
 }
 
 // Refusals 1 and 2 of every call look at this, and the user that the call names is found with it. One pass over the records tells
-// whether a book is sound, and names a record that breaks a rule of its own. Where a chain is broken, the links are judged.
+// whether a book is sound, and the smallest record that breaks a rule by itself. Where it is not sound, the records are judged one
+// by one.
 pub fn find(book: &[u8], number: UserNumber) -> Verdict
     ensures { λ r. ⌜ BookJudged (now (book .entry)) (number .0) r ⌝ }
 {
@@ -116,11 +123,8 @@ pub fn find(book: &[u8], number: UserNumber) -> Verdict
         let user = passed.user;
         return Verdict::Sound(user);
     }
-    let bad = passed.faulty;
-    if bad.0 != 0 {
-        return Verdict::Faulty(bad);
-    }
-    judge(book, number)
+    let broken = passed.broken;
+    judge(book, number, broken)
 }
 
 // The check alone: no user has the number 0.

@@ -1,14 +1,14 @@
 -- Laws of sums and tests over the numbers below n.
 use Prim.Native.Nat.{ℕ, zero, suc, _+_, _*_, _≤_, _<_}
 use mathlib.Core.Path.{_≡_, refl, ap₂, _∙_, sym, subst}
-use mathlib.Core.Bool.{Bool, true, false, _&&_, _||_, true≢false}
+use mathlib.Core.Bool.{Bool, true, false, cond, _&&_, _||_, true≢false}
 use mathlib.Core.Logic.{_⊎_, inl, inr}
 use native.Mathlib.Nat.{mul-suc}
 use native.Mathlib.Decide.{decLt}
 use native.Mathlib.Numerals.{add-one}
 use native.Mathlib.Omega.{arith}
 use Rattle.units.proofs.Bools.{and-left, and-right, and-both, or-left, or-right, or-neither}
-use Rattle.units.specs.Folds.{sumBelow, allBelow, anyBelow}
+use Rattle.units.specs.Folds.{sumBelow, allBelow, anyBelow, firstBelow}
 
 pub sum-zero : (f : ℕ → ℕ) → sumBelow 0 f ≡ 0
 unfolding sumBelow
@@ -157,3 +157,16 @@ first-below (suc n) p = further (first-below n p) (p n) refl
     further (inl f) t e = inl (record { at = f .at; below = omega (arith, f .below); here = f .here; before = f .before })
     further (inr none) true e = inl (record { at = n; below = omega arith; here = e; before = none })
     further (inr none) false e = inr (below-suc (λ k. p k ≡ false) n none e)
+
+-- the number at which a test passes first
+pub first-is : (n : ℕ) (p : ℕ → Bool) (i : ℕ) → i < n → p i ≡ true → ((j : ℕ) → j < i → p j ≡ false) → i ≡ firstBelow n p
+unfolding firstBelow
+first-is zero p i l here before = let z : ⊥ = omega arith in absurd z
+first-is (suc n) p i l here before = by-place (decLt i n) (λ lower. first-is n p i lower here before)
+  where
+    by-place : Dec (i < n) → (i < n → i ≡ firstBelow n p) → i ≡ cond (anyBelow n p) (firstBelow n p) n
+    by-place (yes lower) rest = rw (any-of n p i lower here) (rest lower)
+    by-place (no high) rest =
+        let same : i ≡ n = omega (arith, high) in
+        let none : anyBelow n p ≡ false = none-of n p (λ j b. before j (omega arith)) in
+        rw none same

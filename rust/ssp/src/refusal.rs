@@ -13,7 +13,7 @@ pub enum Refusal {
     Length,
     /// 2: the book is damaged, and this record is faulty.
     Damaged {
-        /// The index of a faulty record; which one of several is not laid down.
+        /// The index of the faulty record; of several the smallest.
         record: u32,
     },
     /// 3: the call needs one more record.

@@ -5,13 +5,13 @@ mod common;
 use common::{Clerk, Dice};
 use ssp_book::{Book, Refusal};
 
-/// Refused with 2 and a record that the peer finds faulty, or sound for both; nothing is written.
+/// Refused with 2 and the smallest record that the peer finds faulty, or sound for both; nothing is written.
 fn judged(bytes: &mut [u8]) -> bool {
     let faulty = peer::all_faulty(bytes);
     match Book::over(bytes).statement(0) {
         Err(Refusal::Unknown) => assert!(faulty.is_empty(), "{faulty:?} are faulty"),
         Err(Refusal::Damaged { record }) => {
-            assert!(faulty.contains(&record), "{record} is named, {faulty:?} are faulty");
+            assert_eq!(Some(&record), faulty.iter().min(), "{faulty:?} are faulty");
         }
         answer => panic!("the statement of number 0: {answer:?}"),
     }

@@ -107,7 +107,7 @@ fn both(call: &Call, proved: &mut [u8], other: &mut [u8], count: &mut Count) -> 
             assert_eq!(in_document_01(refusal.number()), number, "{call:?}: {refusal}");
             match (refusal, call) {
                 (Refusal::Damaged { record }, _) => {
-                    assert!(faulty.contains(&record), "{record} is named, {faulty:?} are faulty");
+                    assert_eq!(Some(&record), faulty.iter().min(), "{faulty:?} are faulty");
                 }
                 (Refusal::AboveLimit { month, place } | Refusal::StrayBand { month, place }, Call::Close(sheet)) => {
                     assert_eq!(Some((refusal.number(), month, place)), earliest_fault(sheet), "{call:?}");

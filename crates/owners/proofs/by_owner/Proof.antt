@@ -1,8 +1,8 @@
 -- The entries passed so far are linked.
-use Prim.Native.Nat.{ℕ, _-_, _≤_, _<_}
-use mathlib.Core.Path.{_≡_, refl, sym, ap, _∙_}
+use Prim.Native.Nat.{ℕ, _+_, _-_, _≤_, _<_}
+use mathlib.Core.Path.{_≡_, refl, sym, ap, subst, _∙_}
 use mathlib.Core.Bool.{Bool, true, _&&_}
-use mathlib.Core.Logic.{⊎-elim}
+use mathlib.Core.List.{List}
 use denote.Ref.{now}
 use native.Mathlib.Omega.{arith}
 use borrow.Author.Tests.{ltb-true}
@@ -11,7 +11,7 @@ use lib.ListN.{length, length-set}
 use Rattle.units.proofs.Bools.{and-left, and-right}
 use Rattle.units.specs.declared.RecordIndex.{RecordIndex}
 use Rattle.units.specs.Limits.{mostRecords}
-use Rattle.owners.proofs.Lists.{LinkedBelow, linked-none, linked-entry, linked-other, linked-all}
+use Rattle.owners.proofs.Lists.{LinkedFrom, linked-none, linked-entry, linked-other, linked-all}
 use borrow.Author.Needs.{needs}
 use Rattle.owners.proofs.by_owner.Statement.{statement}
 use Rattle.owners.proofs.by_owner.Tie as tie
@@ -20,12 +20,16 @@ found : (entry : Bool) (owner records : ℕ) → (entry && ltb owner records) �
 found entry owner records told =
     (and-left entry (ltb owner records) told, ltb-true owner records (and-right entry (ltb owner records) told))
 
+-- the record before `left`
+one-down : (b : List ℕ) (left : ℕ) (firsts laters : List ℕ) → 0 < left → LinkedFrom b left firsts laters → LinkedFrom b (left - 1 + 1) firsts laters
+one-down b left firsts laters some linked = let same : left ≡ left - 1 + 1 = omega arith in subst (λ n. LinkedFrom b n firsts laters) same linked
+
 abbrev Inv-loop : tie.InvT-loop
-Inv-loop book last₀ earlier₀ records e₀ last earlier e =
-    (e ≤ records) × (((length last ≡ mostRecords) × (length earlier ≡ mostRecords)) × LinkedBelow book e last earlier)
+Inv-loop book first₀ later₀ records left₀ first later left =
+    (left ≤ records) × (((length first ≡ mostRecords) × (length later ≡ mostRecords)) × LinkedFrom book left first later)
 
 abbrev μ-loop : tie.MeasureT-loop
-μ-loop book last₀ earlier₀ records e₀ last earlier e = records - e
+μ-loop book first₀ later₀ records left₀ first later left = left
 
 found-here : (c : tie.Then1 Inv-loop μ-loop) → (c .before .is-entry .result ≡ true) × (c .before .before .owner-of .result .0 < c .before .before .before .before .before .used .result)
 found-here c = found (c .before .is-entry .result) (c .before .before .owner-of .result .0) (c .before .before .before .before .before .used .result) (c .if1 .taken)
@@ -34,7 +38,12 @@ used-requires : tie.Need-used-requires Inv-loop μ-loop
 used-requires c κs = search needs
 
 loop-holds : tie.Need-loop-holds Inv-loop μ-loop
-loop-holds c = (search needs, ((refl, refl), linked-none (now (c .before .before .args .book)) _ (c .before .before .pre)))
+loop-holds c =
+    let s = c .before .before in
+    (search needs, ((refl, refl), linked-none (now (s .args .book)) _ _ (c .used .ensures) (s .pre)))
+
+sub-e : tie.Need-sub-e Inv-loop μ-loop
+sub-e c = search needs
 
 owner-of-requires : tie.Need-owner-of-requires Inv-loop μ-loop
 owner-of-requires c κs = search needs
@@ -42,63 +51,63 @@ owner-of-requires c κs = search needs
 is-entry-requires : tie.Need-is-entry-requires Inv-loop μ-loop
 is-entry-requires c κs = search needs
 
-cast-earlier : tie.Need-cast-earlier Inv-loop μ-loop
-cast-earlier c = search needs
+cast-later : tie.Need-cast-later Inv-loop μ-loop
+cast-later c = search needs
 
-mul-earlier : tie.Need-mul-earlier Inv-loop μ-loop
-mul-earlier c = search needs
+mul-later : tie.Need-mul-later Inv-loop μ-loop
+mul-later c = let f = found-here c in omega arith
 
-array-read-earlier : tie.Need-array-read-earlier Inv-loop μ-loop
-array-read-earlier c = let f = found-here c in omega arith
+array-read-later : tie.Need-array-read-later Inv-loop μ-loop
+array-read-later c = let f = found-here c in omega arith
 
-cast-earlier-2 : tie.Need-cast-earlier-2 Inv-loop μ-loop
-cast-earlier-2 c = search needs
+cast-later-2 : tie.Need-cast-later-2 Inv-loop μ-loop
+cast-later-2 c = search needs
 
-mul-earlier-2 : tie.Need-mul-earlier-2 Inv-loop μ-loop
-mul-earlier-2 c = search needs
+mul-later-2 : tie.Need-mul-later-2 Inv-loop μ-loop
+mul-later-2 c = search needs
 
-array-write-earlier : tie.Need-array-write-earlier Inv-loop μ-loop
-array-write-earlier c = omega arith
+array-write-later : tie.Need-array-write-later Inv-loop μ-loop
+array-write-later c = omega arith
 
-cast-last : tie.Need-cast-last Inv-loop μ-loop
-cast-last c = search needs
+cast-first : tie.Need-cast-first Inv-loop μ-loop
+cast-first c = search needs
 
-mul-last : tie.Need-mul-last Inv-loop μ-loop
-mul-last c = let f = found-here c in omega arith
+mul-first : tie.Need-mul-first Inv-loop μ-loop
+mul-first c = let f = found-here c in omega arith
 
-array-write-last : tie.Need-array-write-last Inv-loop μ-loop
-array-write-last c = let f = found-here c in omega arith
-
-add-e : tie.Need-add-e Inv-loop μ-loop
-add-e c = search needs
+array-write-first : tie.Need-array-write-first Inv-loop μ-loop
+array-write-first c = let f = found-here c in omega arith
 
 loop-less : tie.Need-loop-less Inv-loop μ-loop
 loop-less c = search needs
 
 loop-again : tie.Need-loop-again Inv-loop μ-loop
 loop-again c =
-    let l = c .before .before .before .before in
+    let o = c .before .before in
+    let l = o .before .before in
     let b = now (l .before .before .before .args .book) in
+    let f = found-here c in
     let sizes = l .loop .inv .1 .0 in
-    let linked = l .loop .inv .1 .1 in
-    let owner = ap (λ (i : RecordIndex). i .0) (c .before .before .owner-of .ensures) in
-    let entry = c .before .is-entry .ensures in (
-      search needs,
-      ⊎-elim
-          (λ w.
-          let f = found (c .before .is-entry .result) (c .before .before .owner-of .result .0) (l .before .used .result) (w .0 .taken) in
-          rw (w .1, w .2) (
-            (simp length-set (sizes .0), simp length-set (sizes .1)),
-            linked-entry b (l .loop .e) linked (sym entry ∙ f .0) owner (omega arith) (omega arith),
-          ))
-          (λ w. rw (w .1, w .2) (sizes, linked-other b (l .loop .e) linked entry owner (l .before .used .ensures) (w .0 .left)))
-          (c .if1 .came),
-    )
+    let owner = ap (λ (i : RecordIndex). i .0) (o .owner-of .ensures) in
+    let linked = one-down b (l .loop .left) _ _ (o .before .loop-test .taken) (l .loop .inv .1 .1) in
+    (search needs, ((simp length-set (sizes .0), simp length-set (sizes .1)), linked-entry b (l .loop .left - 1) linked (sym (c .before .is-entry .ensures) ∙ f .0) owner (omega arith) (omega arith)))
+
+loop-less-2 : tie.Need-loop-less-2 Inv-loop μ-loop
+loop-less-2 c = search needs
+
+loop-again-2 : tie.Need-loop-again-2 Inv-loop μ-loop
+loop-again-2 c =
+    let o = c .before .before in
+    let l = o .before .before in
+    let b = now (l .before .before .before .args .book) in
+    let owner = ap (λ (i : RecordIndex). i .0) (o .owner-of .ensures) in
+    let linked = one-down b (l .loop .left) _ _ (o .before .loop-test .taken) (l .loop .inv .1 .1) in
+    (search needs, (l .loop .inv .1 .0, linked-other b (l .loop .left - 1) linked (c .before .is-entry .ensures) owner (l .before .used .ensures) (c .if1 .left)))
 
 returns : tie.Need-returns Inv-loop μ-loop
 returns c =
     let l = c .before in
-    linked-all (now (l .before .before .before .args .book)) (l .loop .e) _ (omega arith) (l .loop .inv .1 .1)
+    linked-all (now (l .before .before .before .args .book)) (l .loop .left) _ (omega (arith, c .loop-test .left)) (l .loop .inv .1 .1)
 
 pub by-owner-spec : {M : Type 1} → statement M
 by-owner-spec =
@@ -108,18 +117,20 @@ by-owner-spec =
     μ-loop
     used-requires
     loop-holds
+    sub-e
     owner-of-requires
     is-entry-requires
-    cast-earlier
-    mul-earlier
-    array-read-earlier
-    cast-earlier-2
-    mul-earlier-2
-    array-write-earlier
-    cast-last
-    mul-last
-    array-write-last
-    add-e
+    cast-later
+    mul-later
+    array-read-later
+    cast-later-2
+    mul-later-2
+    array-write-later
+    cast-first
+    mul-first
+    array-write-first
     loop-less
     loop-again
+    loop-less-2
+    loop-again-2
     returns)

@@ -26,11 +26,11 @@ below home index e =
     (omega (arith, some), leb-false index home (or-right (eqb home 0) (leb index home) e))
 
 abbrev Inv-loop : tie.InvT-loop
-Inv-loop book wanted states₀ seen₀ joined₀ found₀ expected₀ left₀ states seen joined found expected left =
-    Passing book (wanted .0) (length states₀) (length seen₀) left expected found joined states seen
+Inv-loop book wanted states₀ seen₀ below joined₀ found₀ expected₀ left₀ states seen joined found expected left =
+    Passing book (wanted .0) (length states₀) (length seen₀) below left expected found joined states seen
 
 abbrev μ-loop : tie.MeasureT-loop
-μ-loop book wanted states₀ seen₀ joined₀ found₀ expected₀ left₀ states seen joined found expected left = left
+μ-loop book wanted states₀ seen₀ below joined₀ found₀ expected₀ left₀ states seen joined found expected left = left
 
 first-user-requires : tie.Need-first-user-requires Inv-loop μ-loop
 first-user-requires c κs = search needs
@@ -41,7 +41,8 @@ used-requires c κs = search needs
 loop-holds : tie.Need-loop-holds Inv-loop μ-loop
 loop-holds c =
     let s = c .before .before .before .before .before in
-    first (now (s .args .book)) (s .args .wanted .0) (s .pre .1 .0) (s .pre .1 .1 .1) (c .used .ensures) (ap (λ (i : RecordIndex). i .0) (c .before .first-user .ensures))
+    let p = s .pre .1 .1 .1 in
+    first (now (s .args .book)) (s .args .wanted .0) (s .pre .1 .0) (p .0 .0) (p .0 .1) (p .1) (c .before .used .ensures) (ap (λ (i : RecordIndex). i .0) (c .first-user .ensures))
 
 -- the record below `left` is a record, and has its place in the states
 at : (c : tie.In-loop Inv-loop μ-loop) → (c .before .loop .left ≡ (c .before .loop .left - 1) + 1) × (1 ≤ c .before .loop .left - 1)
@@ -50,7 +51,13 @@ at c = (omega (arith, c .loop-test .taken), omega (arith, c .loop-test .taken))
 stated : (c : tie.In-loop Inv-loop μ-loop) → c .before .loop .left - 1 < length (c .before .loop .states)
 stated c =
     let s = c .before .before .before .before .before .before .before in
-    counted (now (s .args .book)) (c .before .loop .inv) (c .before .loop .left - 1) (at c .0) (at c .1) (s .pre .1 .1 .1 .room)
+    counted (now (s .args .book)) (c .before .loop .inv) (c .before .loop .left - 1) (at c .0) (at c .1) (s .pre .1 .1 .1 .1 .room)
+
+-- the tables keep their sizes
+kept : (c : tie.In-loop Inv-loop μ-loop)
+    → (length (c .before .loop .states) ≡ length (now (c .before .before .before .before .before .before .before .args .states)))
+    × (length (c .before .loop .seen) ≡ length (now (c .before .before .before .before .before .before .before .args .seen)))
+kept c = (c .before .loop .inv .states-size, c .before .loop .inv .seen-size)
 
 sub-last : tie.Need-sub-last Inv-loop μ-loop
 sub-last c = search needs
@@ -77,8 +84,8 @@ user-record-fits-requires c κs =
     let i = t .before .loop .left - 1 in
     whole b (t .before .loop .inv) i (at t .0) (at t .1) (s .pre .1 .0) (c .before .before .whole-record .ensures)
 
-faulty-at-requires : tie.Need-faulty-at-requires Inv-loop μ-loop
-faulty-at-requires c κs = search needs
+broken-at-requires : tie.Need-broken-at-requires Inv-loop μ-loop
+broken-at-requires c κs = search needs
 
 -- the rules of a user, as tested
 user-rules : (c : tie.After-user-record-fits Inv-loop μ-loop) → ownRulesFit (now (c .before .before .before .before .before .before .before .before .before .before .before .args .book)) (c .before .before .before .before .before .loop .left - 1) ≡ c .user-record-fits .result
@@ -98,7 +105,7 @@ returns c =
     let s = t .before .before .before .before .before .before .before in
     let b = now (s .args .book) in
     let i = t .before .loop .left - 1 in
-    at-fault b (s .args .wanted .0) i (at t .1) (rules-bad b (s .pre .1 .0) i (at t .1) (inside b (t .before .loop .inv) i (at t .0) (at t .1)) (user-rules (c .before .before)) (c .before .if2 .taken)) (c .faulty-at .ensures)
+    (at-fault b (s .args .wanted .0) (s .args .below) i (at t .1) (omega (arith, at t .0, t .before .loop .inv .within)) (rules-bad b i (user-rules (c .before .before)) (c .before .if2 .taken)) (c .broken-at .ensures), kept t)
 
 number-of-requires : tie.Need-number-of-requires Inv-loop μ-loop
 number-of-requires c κs = search needs
@@ -109,7 +116,7 @@ insert-requires c κs =
     let own = sym (u .user-record-fits .ensures) ∙ not-false (u .user-record-fits .result) (c .before .before .if2 .left) in
     let some = number-some (now (c .before .before .before .before .before .before .whole-record .result)) own in
     let size = c .before .before .before .before .before .before .before .before .loop .inv .seen-size in
-    let room = c .before .before .before .before .before .before .before .before .before .before .before .before .before .before .pre .1 .1 .1 .places in
+    let room = c .before .before .before .before .before .before .before .before .before .before .before .before .before .before .pre .1 .1 .1 .1 .places in
     (omega arith, omega (arith, ap (λ (i : UserNumber). i .0) (c .before .number-of .ensures)))
 
 cast-state : tie.Need-cast-state Inv-loop μ-loop
@@ -135,8 +142,8 @@ next-of-requires c κs = search needs
 owner-of-requires : tie.Need-owner-of-requires Inv-loop μ-loop
 owner-of-requires c κs = search needs
 
-faulty-at-requires-2 : tie.Need-faulty-at-requires-2 Inv-loop μ-loop
-faulty-at-requires-2 c κs = search needs
+broken-at-requires-2 : tie.Need-broken-at-requires-2 Inv-loop μ-loop
+broken-at-requires-2 c κs = search needs
 
 same-length-3 : tie.Need-same-length-3 Inv-loop μ-loop
 same-length-3 c = c .before .before .before .before .before .before .before .before .before .loop .inv .states-size
@@ -150,10 +157,11 @@ returns-2 c =
     let s = t .before .before .before .before .before .before .before in
     let b = now (s .args .book) in
     let i = t .before .loop .left - 1 in
-    let home = ap (λ (k : RecordIndex). k .0) (c .before .before .before .before .owner-of .ensures) in
-    at-fault b (s .args .wanted .0) i (at t .1)
-    (owner-bad b i (c .before .before .before .before .before .before .before .whole-record .ensures) (c .before .before .before .before .before .before .kind-of .ensures) (c .before .before .before .before .before .if1 .left) home (s .pre .1 .0) (at t .1)
-    (inside b (t .before .loop .inv) i (at t .0) (at t .1)) (c .before .if3 .taken)) (c .faulty-at2 .ensures)
+    let home = ap (λ (k : RecordIndex). k .0) (c .before .before .before .before .owner-of .ensures) in (
+      at-fault b (s .args .wanted .0) (s .args .below) i (at t .1) (omega (arith, at t .0, t .before .loop .inv .within))
+          (owner-bad b i (c .before .before .before .before .before .before .before .whole-record .ensures) (c .before .before .before .before .before .before .kind-of .ensures) (c .before .before .before .before .before .if1 .left) home (c .before .if3 .taken)) (c .broken-at2 .ensures),
+      kept t,
+    )
 
 cast-whole-record-2 : tie.Need-cast-whole-record-2 Inv-loop μ-loop
 cast-whole-record-2 c = search needs
@@ -186,8 +194,8 @@ entry-record-fits-requires c κs =
     let i = t .before .loop .left - 1 in
     whole b (t .before .loop .inv) i (at t .0) (at t .1) (s .pre .1 .0) (c .before .before .before .before .before .before .before .before .whole-record .ensures)
 
-faulty-at-requires-3 : tie.Need-faulty-at-requires-3 Inv-loop μ-loop
-faulty-at-requires-3 c κs = search needs
+broken-at-requires-3 : tie.Need-broken-at-requires-3 Inv-loop μ-loop
+broken-at-requires-3 c κs = search needs
 
 -- the rules of an entry, as tested
 entry-rules : (c : tie.After-entry-record-fits Inv-loop μ-loop) → ownRulesFit (now (c .before .before .before .before .before .before .before .before .before .before .before .before .before .before .before .before .before .args .book)) (c .before .before .before .before .before .before .before .before .before .before .before .loop .left - 1) ≡ c .entry-record-fits .result
@@ -208,7 +216,7 @@ returns-3 c =
     let s = t .before .before .before .before .before .before .before in
     let b = now (s .args .book) in
     let i = t .before .loop .left - 1 in
-    at-fault b (s .args .wanted .0) i (at t .1) (rules-bad b (s .pre .1 .0) i (at t .1) (inside b (t .before .loop .inv) i (at t .0) (at t .1)) (entry-rules (c .before .before)) (c .before .if4 .taken)) (c .faulty-at3 .ensures)
+    (at-fault b (s .args .wanted .0) (s .args .below) i (at t .1) (omega (arith, at t .0, t .before .loop .inv .within)) (rules-bad b i (entry-rules (c .before .before)) (c .before .if4 .taken)) (c .broken-at3 .ensures), kept t)
 
 cast-state-2 : tie.Need-cast-state-2 Inv-loop μ-loop
 cast-state-2 c = search needs
@@ -273,7 +281,7 @@ loop-again-2 c =
     let r = c .before .before .before .before .before .before .before .before .before .before .before .before .before .before .before .before .whole-record in
     let owner = c .before .before .before .before .before .before .before .before .whole-record2 in
     let h = home-place (c .before .before .before .before .before .before .before .before .before .before) in
-    entry-passed b (t .before .loop .inv) i (at t .0) (at t .1) own (s .pre .0) (s .pre .1 .0) (now (r .result)) (r .ensures) (s .pre .1 .1 .1 .room) (c .before .before .before .before .before .before .before .before .before .before .before .before .before .before .before .kind-of .ensures)
+    entry-passed b (t .before .loop .inv) i (at t .0) (at t .1) own (s .pre .0) (s .pre .1 .0) (now (r .result)) (r .ensures) (s .pre .1 .1 .1 .1 .room) (c .before .before .before .before .before .before .before .before .before .before .before .before .before .before .before .kind-of .ensures)
     (c .before .before .before .before .before .before .before .before .before .before .before .before .before .before .if1 .left) (ap (λ (k : RecordIndex). k .0) (c .before .before .before .before .before .before .before .before .before .before .before .before .before .owner-of .ensures)) (h .0) (h .1) (now (owner .result)) (owner .ensures)
     (c .before .before .before .entry-leads .ensures (c .before .before .if5 .taken)) (c .before .state-after .ensures)
 
@@ -299,7 +307,7 @@ same-length-8 c = c .before .loop .inv .seen-size
 returns-4 : tie.Need-returns-4 Inv-loop μ-loop
 returns-4 c =
     let s = c .before .before .before .before .before .before .before in
-    passed (now (s .args .book)) (c .before .loop .inv) (omega arith) (s .pre .1 .0) (s .pre .1 .1 .0)
+    (passed (now (s .args .book)) (c .before .loop .inv) (omega arith) (s .pre .1 .0) (s .pre .1 .1 .0), (c .before .loop .inv .states-size, c .before .loop .inv .seen-size))
 
 pub pass-over-spec : {M : Type 1} → statement M
 pass-over-spec =
@@ -307,15 +315,15 @@ pass-over-spec =
     (tie.spec
     Inv-loop
     μ-loop
-    first-user-requires
     used-requires
+    first-user-requires
     loop-holds
     sub-last
     cast-whole-record
     whole-record-requires
     kind-of-requires
     user-record-fits-requires
-    faulty-at-requires
+    broken-at-requires
     same-length
     same-length-2
     returns
@@ -328,14 +336,14 @@ pass-over-spec =
     first-met-requires
     next-of-requires
     owner-of-requires
-    faulty-at-requires-2
+    broken-at-requires-2
     same-length-3
     same-length-4
     returns-2
     cast-whole-record-2
     whole-record-requires-2
     entry-record-fits-requires
-    faulty-at-requires-3
+    broken-at-requires-3
     same-length-5
     same-length-6
     returns-3

@@ -5,8 +5,9 @@ use mathlib.Core.Bool.{Bool, true, false, not}
 use mathlib.Core.List.{List}
 use borrow.Author.Tests.{not-true, not-false}
 use denote.Ref.{now}
-use Rattle.book.specs.Book.{lengthFits, usedFits, goodHead}
-use Rattle.book.proofs.Faults.{faulty-unfit, faulty-head}
+use Rattle.book.specs.Book.{lengthFits, usedFits, goodHead, faulty}
+use Rattle.book.proofs.Faults.{faulty-unfit, faulty-head, faulty-not-sound, smallest-head}
+use Rattle.soundness.specs.Verdicts.{Objected}
 use borrow.Author.Needs.{needs}
 use Rattle.soundness.proofs.find.Statement.{statement}
 use Rattle.soundness.proofs.find.Tie as tie
@@ -14,6 +15,10 @@ use Rattle.soundness.proofs.find.Tie as tie
 -- a test that is passed
 holds : {t u : Bool} → t ≡ u → not t ≡ false → u ≡ true
 holds {t} e h = sym e ∙ not-false t h
+
+-- nothing stands before the head
+head-faulty : (b : List ℕ) → lengthFits b ≡ true → faulty b 0 ≡ true → Objected b 0
+head-faulty b fits f = record { fits = fits; unsound = faulty-not-sound b fits 0 f; smallest = smallest-head b fits f }
 
 length-fits-requires : tie.Need-length-fits-requires
 length-fits-requires c κs = search needs
@@ -28,7 +33,7 @@ returns-2 : tie.Need-returns-2
 returns-2 c =
     let s = c .before .before .before in
     let b = now (s .before .before .args .book) in
-    record { fits = holds (s .length-fits .ensures) (c .before .before .if1 .left); isFaulty = faulty-unfit b 0 (sym (c .before .used-fits .ensures) ∙ not-true _ (c .if2 .taken)) }
+    head-faulty b (holds (s .length-fits .ensures) (c .before .before .if1 .left)) (faulty-unfit b 0 (sym (c .before .used-fits .ensures) ∙ not-true _ (c .if2 .taken)))
 
 good-head-requires : tie.Need-good-head-requires
 good-head-requires c κs = search needs
@@ -38,10 +43,8 @@ returns-3 c =
     let u = c .before .before .before in
     let s = u .before .before in
     let b = now (s .before .before .args .book) in
-    record {
-      fits = holds (s .length-fits .ensures) (u .before .if1 .left);
-      isFaulty = faulty-head b (holds (u .used-fits .ensures) (c .before .before .if2 .left)) ∙ sym (ap not (c .before .good-head .ensures)) ∙ c .if3 .taken;
-    }
+    head-faulty b (holds (s .length-fits .ensures) (u .before .if1 .left))
+    (faulty-head b (holds (u .used-fits .ensures) (c .before .before .if2 .left)) ∙ sym (ap not (c .before .good-head .ensures)) ∙ c .if3 .taken)
 
 -- what is known of a book that is passed over
 known : (c : tie.Else3)
@@ -60,19 +63,14 @@ returns-4 c =
     let said = f .find .ensures .whole (c .before .if4 .taken) in
     (record { fits = known (f .before) .0; isSound = said .0 }, said .1)
 
-returns-5 : tie.Need-returns-5
-returns-5 c =
-    let f = c .before .before .before .before in
-    record { fits = known (f .before) .0; isFaulty = f .find .ensures .named (c .if5 .taken) }
-
 judge-requires : tie.Need-judge-requires
 judge-requires c κs =
-    let f = c .before .before .before .before in
+    let f = c .before .before in
     let k = known (f .before) in
-    (k .0, (k .1 .0, (k .1 .1, f .find .ensures .own (c .if5 .left))))
+    (k .0, (k .1 .0, (k .1 .1, f .find .ensures .broken)))
 
-returns-6 : tie.Need-returns-6
-returns-6 c = c .judge .ensures
+returns-5 : tie.Need-returns-5
+returns-5 c = c .judge .ensures
 
 pub find-spec : {M : Type 1} → statement M
 find-spec =
@@ -86,6 +84,5 @@ find-spec =
     returns-3
     find-requires
     returns-4
-    returns-5
     judge-requires
-    returns-6)
+    returns-5)
