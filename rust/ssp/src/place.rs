@@ -59,11 +59,10 @@ mod tests {
     fn names() {
         let name = |place| Place(place).to_string();
         assert_eq!([name(1), name(5), name(10)], ["withdrawn F1", "injected F2", "PUN mean"]);
-        assert_eq!([name(15), name(19), name(20)], [
-            "zone mean of hours 8–20",
-            "net rate of tier 4",
-            "system rate of tier 1"
-        ]);
+        assert_eq!(
+            [name(15), name(19), name(20)],
+            ["zone mean of hours 8–20", "net rate of tier 4", "system rate of tier 1"]
+        );
         assert_eq!([name(24), name(0), name(25)], ["zero word", "place 0", "place 25"]);
     }
 

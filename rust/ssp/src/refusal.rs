@@ -164,9 +164,7 @@ mod tests {
 
     #[test]
     fn a_sheet_names_its_number() {
-        let words = |number, month, place| {
-            Refusal::check_sheet(number, 0, month, place).expect_err("not 0").to_string()
-        };
+        let words = |number, month, place| Refusal::check_sheet(number, 0, month, place).expect_err("not 0").to_string();
         assert_eq!(words(19, 3, 5), "month 3: injected F2 is filled, but the reading is single");
         assert_eq!(words(13, 12, 1), "month 12: withdrawn F1 is above 20,000,000 kWh");
         assert_eq!(words(13, 1, 23), "month 1: system rate of tier 4 is above 500,000");
