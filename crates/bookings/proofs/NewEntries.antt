@@ -29,7 +29,7 @@ use Rattle.bookings.proofs.Entries.{NewEntry, Entered, entered-user, en
 use Rattle.bookings.proofs.Grown.{new-kind}
 
 -- where an entry of the user i stands: before its first entry, in its open year
-record InFront (b : List ℕ) (i next owner year : ℕ) : Type 0 where
+pub record InFront (b : List ℕ) (i next owner year : ℕ) : Type 0 where
   pub next-is : next ≡ firstEntryOf b i
   pub owner-is : owner ≡ i
   pub year-is : year ≡ openYearOf b i

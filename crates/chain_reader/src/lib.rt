@@ -11,7 +11,7 @@ struct Chain<'a> {
 }
 
 // A link of a chain: the index that follows, and the kind of the record.
-struct Link {
+pub struct Link {
     pub next: RecordIndex,
     pub kind: u8,
 }
