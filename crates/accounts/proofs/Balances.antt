@@ -4,9 +4,8 @@ use mathlib.Core.Path.{_≡_, refl, ap, sym, _∙_, subst}
 use mathlib.Core.Logic.{_⊎_, inl, inr}
 use native.Mathlib.Decide.{decLt}
 use native.Mathlib.Omega.{arith}
-use lib.Dec.{le→leb}
-use lib.IntN.{ℤ, pos, negsuc, negℤ, subℕ, _-ℤ_}
-use lib.Signed.{mag, _≤ℤ_, leZ-yes}
+use lib.IntN.{ℤ, pos, negsuc, subℕ, _-ℤ_}
+use lib.Signed.{mag}
 use mir.Syntax.{w64}
 use mir.Val.{ofZ, toZ, SFits}
 use mir.Facts.{toZ-ofZ, sfits-toZ, toZ-pos, toZ-neg}
@@ -19,11 +18,11 @@ difference : (x a : ℕ) → pos x -ℤ pos a ≡ subℕ x a
 difference x zero = rw (le-ltb x 0 (omega arith)) (ap pos (omega arith))
 difference x (suc a) = refl
 
-pub balance-above : (x a : ℕ) → a ≤ x → balanceOf x a ≡ pos (x - a)
+balance-above : (x a : ℕ) → a ≤ x → balanceOf x a ≡ pos (x - a)
 unfolding balanceOf
 balance-above x a h = difference x a ∙ rw (le-ltb x a h) refl
 
-pub balance-below : (x a : ℕ) → x < a → balanceOf x a ≡ negsuc (a - suc x)
+balance-below : (x a : ℕ) → x < a → balanceOf x a ≡ negsuc (a - suc x)
 unfolding balanceOf
 balance-below x a h = difference x a ∙ rw (lt-ltb x a h) refl
 
@@ -42,16 +41,6 @@ by-sign P x a above below = either (decLt x a)
     either : Dec (x < a) → P (balanceOf x a)
     either (yes h) = rw (balance-below x a h) (below (a - suc x) (omega arith))
     either (no h) = rw (balance-above x a (omega arith)) (above (x - a) (omega arith))
-
--- "balance from −3.6·10^14 ..
-pub balance-least : (x a : ℕ) → a ≤ maxYearTicks → negℤ (pos maxYearTicks) ≤ℤ balanceOf x a
-balance-least x a ha =
-    by-sign (λ z. negℤ (pos maxYearTicks) ≤ℤ z) x a (λ n h. leZ-yes tt) (λ n h. leZ-yes (le→leb n (maxYearTicks - 1) (omega arith)))
-
--- .. to 1.08·10^15"
-pub balance-most : (x a : ℕ) → x ≤ maxContribution → balanceOf x a ≤ℤ pos maxContribution
-balance-most x a hx =
-    by-sign (λ z. z ≤ℤ pos maxContribution) x a (λ n h. leZ-yes (le→leb n maxContribution (omega arith))) (λ n h. leZ-yes tt)
 
 -- the same of its bits
 pub balance-bits-in-range : (x a : ℕ) → x ≤ maxContribution → a ≤ maxYearTicks

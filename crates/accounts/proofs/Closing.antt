@@ -23,7 +23,7 @@ pub one-year : (option k c o f : ℕ)
 unfolding contributionOf liquidationOf lapsedOf creditAfter
 one-year option k c o f = one-year-by (liquidates option) k c o f
 
-pub contribution-at-most : (option k c o f : ℕ) → contributionOf option k c o f ≤ o + f
+contribution-at-most : (option k c o f : ℕ) → contributionOf option k c o f ≤ o + f
 unfolding contributionOf
 contribution-at-most option k c o f = cond-capped (liquidates option) (omega arith) (omega arith)
 
@@ -40,7 +40,7 @@ pub lapsed-at-most : (option k : ℕ) → lapsedOf option k ≤ k
 unfolding lapsedOf
 lapsed-at-most option k = cond-capped (liquidates option) (omega arith) (omega arith)
 
-pub credit-at-most : (option k c o : ℕ) → creditAfter option k c o ≤ k + c
+credit-at-most : (option k c o : ℕ) → creditAfter option k c o ≤ k + c
 unfolding creditAfter
 credit-at-most option k c o = cond-capped (liquidates option) (omega arith) (omega arith)
 

@@ -1,7 +1,7 @@
 -- "Closing" of document 01. In ticks: k the credit before, a the advances of the year, c the value C, o the purchase cost
 -- O, f the flat-rate part F. `x - y` is document 01's max(0, x − y), so max(0, min(K, O − C)) is `min k (o - c)`.
 use Prim.Native.Nat.{ℕ, _+_, _-_, min}
-use mathlib.Core.Bool.{Bool, true, false, cond}
+use mathlib.Core.Bool.{Bool, cond}
 use lib.Dec.{eqb}
 use lib.IntN.{ℤ, pos, _-ℤ_}
 

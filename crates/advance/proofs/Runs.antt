@@ -1,6 +1,6 @@
 -- A run's amount, and its entry in the book.
 use Prim.Native.Nat.{ℕ, _≤_}
-use mathlib.Core.Path.{_≡_, sym}
+use mathlib.Core.Path.{_≡_}
 use mathlib.Core.Bool.{true, cond}
 use mathlib.Core.List.{List}
 use borrow.Author.Tests.{leb-true, eq-eqb, ne-eqb}
@@ -15,7 +15,7 @@ use Rattle.calendar.specs.ElectionAndAdvances.{amountOf}
 use Rattle.accounts.specs.declared.Account.{Account}
 use Rattle.accounts.specs.Account.{accountAdvanced}
 use Rattle.records.specs.Records.{advanceImage}
-use Rattle.book.specs.Book.{halvesFit, halvesOf, firstEntryOf, accountAt}
+use Rattle.book.specs.Book.{halvesFit, halvesOf, firstEntryOf}
 use Rattle.records.specs.Entries.{advanceEntry, entryImage}
 use Rattle.calls.specs.Changes.{enters, withEntry, applied, runAmount}
 use Rattle.calls.specs.Refusals.{orderFits}

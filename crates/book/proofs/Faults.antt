@@ -41,7 +41,7 @@ module _ (b : List ℕ) (u : usedFits b ≡ true) where
   unfolding faulty
   faulty-record i p h = rw (u, lt-ltb i (used b) h, ne-eqb i 0 (omega arith))
 
-  pub faulty-past : (i : ℕ) → used b ≤ i → faulty b i ≡ false
+  faulty-past : (i : ℕ) → used b ≤ i → faulty b i ≡ false
   unfolding faulty
   faulty-past i h = rw (u, le-ltb i (used b) h)
 

@@ -18,11 +18,11 @@ unfolding yearsEnded
 ended-small kind = cond-capped (eqb kind closingKind) (omega arith) (omega arith)
 
 module _ (b : List ℕ) (e : ℕ) where
-  pub kept-level : keepsYear b e ≡ true → levelOf b e + yearsEnded (kindAt b e) ≡ levelOf b e
+  kept-level : keepsYear b e ≡ true → levelOf b e + yearsEnded (kindAt b e) ≡ levelOf b e
   unfolding yearsEnded
   kept-level a = rw (kind-is b advanceKind e a, add-zero (levelOf b e))
 
-  pub ended-level : isClosing b e ≡ true → levelOf b e + yearsEnded (kindAt b e) ≡ levelOf b e + 1
+  ended-level : isClosing b e ≡ true → levelOf b e + yearsEnded (kindAt b e) ≡ levelOf b e + 1
   unfolding yearsEnded
   ended-level c = rw (kind-is b closingKind e c)
 

@@ -1,13 +1,13 @@
 -- What it means that a record is a user or an entry: an index from 1 to u, and the kind.
 use Prim.Native.Nat.{ℕ, _≤_, _<_}
 use mathlib.Core.Path.{_≡_, refl, sym, _∙_}
-use mathlib.Core.Bool.{Bool, true, false, _&&_, or-true}
+use mathlib.Core.Bool.{Bool, true, false, _&&_}
 use mathlib.Core.Logic.{_⊎_, inl, inr, ⊎-elim}
 use mathlib.Core.List.{List}
 use native.Mathlib.Omega.{arith}
 use borrow.Author.Tests.{ltb-true, lt-ltb, eq-eqb, eqb-true, eqb-false}
 use lib.Dec.{ltb, eqb}
-use Rattle.units.proofs.Bools.{and-left, and-right, or-left, or-right, or-cases}
+use Rattle.units.proofs.Bools.{and-left, and-right, or-cases}
 use Rattle.layout.specs.Fields.{userKind, advanceKind, closingKind}
 use Rattle.book.specs.Book.{used, kindAt, hasKind, isUser, isAdvance, isClosing, entryKind, isEntry, keepsYear}
 

@@ -1,7 +1,7 @@
 -- "Book" of document 01: which records of a book are faulty, sentence by sentence, and when a book is sound. Every string
 -- of bytes has an answer: a record past the end has zeros in all its fields.
 use Prim.Native.Nat.{ℕ, _+_, _-_, _*_, _/_, _%_, _^_}
-use mathlib.Core.Bool.{Bool, true, false, cond, not, _&&_, _||_}
+use mathlib.Core.Bool.{Bool, false, cond, not, _&&_, _||_}
 use mathlib.Core.List.{List, [], _∷_}
 use lib.Dec.{leb, ltb, eqb}
 use lib.ListN.{length, replicate}

@@ -5,9 +5,9 @@ ghost use Prim.Native.Nat.{_-_, _*_, _≤_, _<_};
 ghost use lib.Dec.{leb};
 ghost use Rattle.units.specs.Limits.{maxYearTicks};
 ghost use Rattle.book.specs.Book.{lengthFits, detailsFit, openYearFits, halvesOf, runMade, dueIfMade, runsFit, halvesMade, advancesFit, creditFits, halvesFit, accountFits, isRun, advanceFits, balanceFits, closingFits, entryRanges, unnamedOf, entryKind, levelIn, yearsEnded, within};
-ghost use Rattle.layout.specs.Fields.{recordLength, get, kindField, allZero, unnamedOfUser, unnamedOfAdvance, unnamedOfClosing};
+ghost use Rattle.layout.specs.Fields.{recordLength, get, kindField, allZero, unnamedOfUser};
 ghost use lib.ListN.{length};
-ghost use Rattle.records.specs.Records.{accountIn, advanceIn, closingIn};
+ghost use Rattle.records.specs.Records.{accountIn};
 use accounts::Account;
 use accounts::Balance;
 use calendar::Halves;
@@ -165,7 +165,7 @@ fn halves_fit(a: Account) -> bool
 }
 
 // What is paid is looked at last, where all else fits.
-pub fn account_fits(a: Account) -> bool
+fn account_fits(a: Account) -> bool
     ensures { λ r. ⌜ r ≡ accountFits a ⌝ }
 {
     let details = !(a.number.0 == 0) & (details_fit(a.details, a.option) & open_year_fits(a));

@@ -1,10 +1,7 @@
 -- Laws of the tests that the rules of a link are made of: "0 or ..", and a test that stays.
-use Prim.Native.Nat.{ℕ}
-use mathlib.Core.Path.{_≡_, refl, sym, ap, _∙_}
+use mathlib.Core.Path.{_≡_, refl}
 use mathlib.Core.Bool.{Bool, true, false, _&&_, _||_, cond}
 use mathlib.Core.Logic.{⊎-elim}
-use borrow.Author.Tests.{eqb-true, eq-eqb}
-use lib.Dec.{eqb}
 use Rattle.units.proofs.Bools.{and-left, and-right, and-both, or-cases}
 
 pub or-first : {s : Bool} (t : Bool) → s ≡ true → (s || t) ≡ true

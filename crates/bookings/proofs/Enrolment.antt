@@ -1,27 +1,27 @@
 -- A user enrolled: the new record is a good user, at the front of the chain of users, and the book stays good.
-use Prim.Native.Nat.{ℕ, _+_, _^_, _≤_, _<_}
-use mathlib.Core.Path.{_≡_, refl, sym, ap, subst, _∙_}
-use mathlib.Core.Bool.{Bool, true, false, cond, _&&_, _||_}
+use Prim.Native.Nat.{ℕ, _+_, _^_, _<_}
+use mathlib.Core.Path.{_≡_, refl, sym, _∙_}
+use mathlib.Core.Bool.{true}
 use mathlib.Core.List.{List}
 use native.Mathlib.Omega.{arith}
-use borrow.Author.Tests.{lt-ltb, eqb-true, eq-eqb}
-use lib.Dec.{eqb, ltb, lit<}
+use borrow.Author.Tests.{lt-ltb, eq-eqb}
+use lib.Dec.{eqb, lit<}
 use Rattle.units.proofs.Bools.{and-both}
 use Rattle.accounts.specs.declared.Account.{Account}
-use Rattle.layout.specs.Fields.{recordAt, capacity, userKind}
-use Rattle.book.specs.Book.{used, firstUser, accountFits, accountAt, isUser, nextOf, firstEntryOf, numberOf, userNextFits, numberIsNew, firstEntryFits, firstInOrder, inOrder}
+use Rattle.layout.specs.Fields.{capacity, userKind}
+use Rattle.book.specs.Book.{used, firstUser, accountFits, isUser, numberOf, userNextFits, numberIsNew, firstEntryFits, firstInOrder, inOrder}
 use Rattle.book.proofs.RecordKinds.{kind-index}
-use Rattle.book.proofs.Faultless.{Faultless, UserGood}
+use Rattle.book.proofs.Faultless.{UserGood}
 use Rattle.bookings.proofs.Bools.{or-stays, or-second}
 use Rattle.bookings.proofs.Widths.{user-fits}
 use Rattle.bookings.proofs.Records.{UserAt, user-at}
-use Rattle.bookings.proofs.Good.{Good, Sizes, sizes}
+use Rattle.bookings.proofs.Good.{Good}
 use Rattle.bookings.proofs.Written.{HeadAt, newUser, UserEnrolled, first-below}
 use Rattle.bookings.proofs.Frame.{Frame, frame-of-old}
 use Rattle.bookings.proofs.KindsKept.{kind-same, kind-stays}
 use Rattle.bookings.proofs.Numbers.{apart-new}
 use Rattle.bookings.proofs.PointersKept.{OneMore, old-pointers, new-pointed, enrolled-pointers}
-use Rattle.bookings.proofs.RecordsKept.{GoodAt, a-user, old-good}
+use Rattle.bookings.proofs.RecordsKept.{a-user, old-good}
 use Rattle.bookings.proofs.Grown.{first-user-fits, new-kind, grown-good}
 
 -- the account of a new user: it fits, no year is closed, and no user has its number

@@ -1,21 +1,21 @@
 -- An entry added at the front of its user's chain: its links and those of its user are good. What differs between an
 -- advance and a closing is the kind, the year that follows, and the entry's own ranges.
-use Prim.Native.Nat.{ℕ, _+_, _^_, _≤_, _<_}
-use mathlib.Core.Path.{_≡_, refl, sym, ap, subst, _∙_}
-use mathlib.Core.Bool.{Bool, true, false, cond, _&&_, _||_}
+use Prim.Native.Nat.{ℕ, _+_, _<_}
+use mathlib.Core.Path.{_≡_, refl, ap, _∙_}
+use mathlib.Core.Bool.{true, _&&_}
 use mathlib.Core.List.{List}
 use native.Mathlib.Omega.{arith}
-use borrow.Author.Tests.{lt-ltb, eqb-true, eq-eqb, ne-eqb}
-use lib.Dec.{eqb, ltb, lit<}
+use borrow.Author.Tests.{lt-ltb, eq-eqb}
+use lib.Dec.{eqb, ltb}
 use Rattle.units.proofs.Bools.{and-left, and-right, and-both}
 use Rattle.accounts.specs.declared.Account.{Account}
-use Rattle.layout.specs.Fields.{recordAt, capacity, userKind, advanceKind, closingKind}
-use Rattle.book.specs.Book.{used, firstUser, accountFits, accountAt, isUser, isAdvance, isClosing, isEntry, nextOf, firstEntryOf, ownerOf, levelOf, activationOf, openYearOf, firstEntryFits, firstInOrder, inOrder, nextInOrder, ownerFits, entryNextFits, hits, pointersFrom}
+use Rattle.layout.specs.Fields.{capacity, userKind}
+use Rattle.book.specs.Book.{used, firstUser, accountFits, accountAt, isUser, isEntry, firstEntryOf, ownerOf, activationOf, openYearOf, firstEntryFits, firstInOrder, inOrder, nextInOrder, ownerFits, entryNextFits, hits, pointersFrom}
 use Rattle.book.proofs.RecordKinds.{kind-index, entry-index}
-use Rattle.book.proofs.Faultless.{Faultless, UserGood, EntryLinks}
-use Rattle.bookings.proofs.Bools.{or-stays, or-first, or-second}
+use Rattle.book.proofs.Faultless.{UserGood, EntryLinks}
+use Rattle.bookings.proofs.Bools.{or-stays, or-second}
 use Rattle.bookings.proofs.Records.{UserAt, user-at, EntryAt}
-use Rattle.bookings.proofs.Good.{Good, Sizes, sizes}
+use Rattle.bookings.proofs.Good.{Good, sizes}
 use Rattle.bookings.proofs.Written.{HeadAt, userWith, EntryAdded}
 use Rattle.bookings.proofs.Frame.{Frame, SameUser, frame-of-user}
 use Rattle.bookings.proofs.KindsKept.{kind-stays, entry-stays, owner-same, activation-same}
@@ -46,7 +46,7 @@ module _ (b b′ : List ℕ) (i : ℕ) (a : Account) (entry : List ℕ) (g : Goo
       let s = sizes b g in
       user-at b′ i (userWith b i (used b) a) (e .user) (user-with-fits b i (used b) a g (omega (arith, s .to, s .most)) same fits)
 
-  pub entered-frame : Frame b b′ i
+  entered-frame : Frame b b′ i
   entered-frame =
       frame-of-user b b′ i (userWith b i (used b) a) h entered-user refl same (λ j lo hi n. e .others j lo n (omega arith)) (e .length-same)
       (omega (arith, e .head .used-is))

@@ -5,7 +5,6 @@ use mathlib.Core.Bool.{Bool, true, false, cond}
 use mathlib.Core.List.{List}
 use borrow.Author.Tests.{eq-eqb, eqb-true}
 use lib.Dec.{eqb}
-use Rattle.book.specs.Book.{sound}
 use Rattle.book.specs.Find.{findUser}
 use Rattle.calls.specs.Refusals.{userAt}
 use Rattle.calls.specs.Calls.{Call, namedBy, refusalOf, changeOf, booked, bookAfter}

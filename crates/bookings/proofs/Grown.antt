@@ -1,21 +1,20 @@
 -- A book with one record more: its head, its size, and that it is good when the old records and the new one are.
-use Prim.Native.Nat.{ℕ, _+_, _/_, _≤_, _<_}
-use mathlib.Core.Path.{_≡_, refl, sym, ap, subst, _∙_}
-use mathlib.Core.Bool.{Bool, true, false, _&&_, _||_}
+use Prim.Native.Nat.{ℕ, _+_, _≤_, _<_}
+use mathlib.Core.Path.{_≡_, subst}
+use mathlib.Core.Bool.{true, _||_}
 use mathlib.Core.List.{List}
 use native.Mathlib.Decide.{decLt}
 use native.Mathlib.Omega.{arith}
-use borrow.Author.Tests.{le-leb, eqb-true, eq-eqb}
-use lib.Dec.{eqb, leb}
+use borrow.Author.Tests.{le-leb}
+use lib.Dec.{eqb}
 use lib.ListN.{length}
 use Rattle.units.proofs.Bools.{and-left, and-right, and-both}
 use Rattle.layout.specs.Fields.{recordAt, allZero, unnamedOfHead, capacity, userKind}
 use Rattle.layout.proofs.ByteRanges.{Bytes}
 use Rattle.book.specs.Book.{lengthFits, used, usedFits, firstUser, goodHead, isUser, hasKind, kindAt}
 use Rattle.book.proofs.RecordKinds.{has-kind}
-use Rattle.book.proofs.Faultless.{Faultless}
 use Rattle.bookings.proofs.Bools.{or-stays}
-use Rattle.bookings.proofs.Good.{Good, Sizes, sizes}
+use Rattle.bookings.proofs.Good.{Good, sizes}
 use Rattle.bookings.proofs.Written.{HeadAt}
 use Rattle.bookings.proofs.Frame.{Frame}
 use Rattle.bookings.proofs.KindsKept.{kind-stays}

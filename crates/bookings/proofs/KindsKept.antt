@@ -1,13 +1,13 @@
 -- Kinds under a frame: at an old index every kind stays, and none is lost.
 use Prim.Native.Nat.{ℕ, _<_}
-use mathlib.Core.Path.{_≡_, ap, ap₂, _∙_}
-use mathlib.Core.Bool.{true, _&&_, _||_, Bool}
+use mathlib.Core.Path.{_≡_, ap, _∙_}
+use mathlib.Core.Bool.{true, _&&_, Bool}
 use mathlib.Core.List.{List}
 use native.Mathlib.Decide.{decLt}
 use native.Mathlib.Omega.{arith}
 use borrow.Author.Tests.{lt-ltb, le-ltb}
 use lib.Dec.{ltb, eqb}
-use Rattle.layout.specs.Fields.{get, ownerField, yearField, advanceKind, closingKind}
+use Rattle.layout.specs.Fields.{get, ownerField}
 use Rattle.records.specs.Records.{accountIn}
 use Rattle.values.specs.declared.Details.{Details}
 use Rattle.book.specs.Book.{used, kindAt, hasKind, isUser, isEntry, ownerOf, levelOf, activationOf, levelIn, entryKind}
@@ -29,7 +29,7 @@ module _ (b b′ : List ℕ) (i : ℕ) (f : Frame b b′ i) where
   unfolding hasKind
   kind-same k j hi = test-same (λ n. eqb n k) j hi
 
-  pub entry-same : (j : ℕ) → j < used b → isEntry b′ j ≡ isEntry b j
+  entry-same : (j : ℕ) → j < used b → isEntry b′ j ≡ isEntry b j
   unfolding isEntry
   entry-same j hi = test-same entryKind j hi
 

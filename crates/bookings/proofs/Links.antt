@@ -1,17 +1,17 @@
 -- Each pointer of a good record is 0 or an index below u, so that nothing points to u or above it.
-use Prim.Native.Nat.{ℕ, _+_, _≤_, _<_}
-use mathlib.Core.Path.{_≡_, refl, sym, ap, _∙_}
-use mathlib.Core.Bool.{Bool, true, false, _&&_, _||_}
+use Prim.Native.Nat.{ℕ, _≤_, _<_}
+use mathlib.Core.Path.{_≡_, _∙_}
+use mathlib.Core.Bool.{Bool, true, _&&_, _||_}
 use mathlib.Core.List.{List}
 use mathlib.Core.Logic.{⊎-elim}
 use native.Mathlib.Decide.{decLt}
 use native.Mathlib.Omega.{arith}
-use borrow.Author.Tests.{eqb-true, ltb-true}
+use borrow.Author.Tests.{eqb-true}
 use lib.Dec.{eqb, ltb}
-use Rattle.layout.specs.Fields.{recordAt, allZero, unnamedOfHead, userKind, advanceKind, closingKind}
-use Rattle.units.proofs.Bools.{and-left, and-right, or-cases}
+use Rattle.layout.specs.Fields.{recordAt, allZero, unnamedOfHead, userKind}
+use Rattle.units.proofs.Bools.{and-left, or-cases}
 use Rattle.units.proofs.Folds.{sum-none}
-use Rattle.book.specs.Book.{used, firstUser, kindAt, isUser, isAdvance, isClosing, isEntry, nextOf, firstEntryOf, ownerOf, goodHead, userNextFits, firstEntryFits, entryNextFits, pointersFrom, pointersTo}
+use Rattle.book.specs.Book.{used, firstUser, isUser, isEntry, nextOf, firstEntryOf, ownerOf, goodHead, userNextFits, firstEntryFits, entryNextFits, pointersFrom, pointersTo}
 use Rattle.book.proofs.Faults.{used-within}
 use Rattle.book.proofs.Hits.{hits-other}
 use Rattle.book.proofs.RecordKinds.{kind-index, entry-index}
@@ -26,19 +26,19 @@ module _ (b : List ℕ) (g : Faultless b) where
   link-below : (p : ℕ) (t : Bool) → (eqb p 0 || t) ≡ true → (t ≡ true → p < used b) → p < used b
   link-below p t h below = ⊎-elim (λ e. omega (arith, eqb-true p 0 e, some-used)) below (or-cases (eqb p 0) t h)
 
-  pub first-user-below : firstUser b < used b
+  first-user-below : firstUser b < used b
   unfolding goodHead
   first-user-below =
       link-below (firstUser b) (isUser b (firstUser b)) (and-left (eqb (firstUser b) 0 || isUser b (firstUser b)) (allZero unnamedOfHead (recordAt b 0)) (g .head))
       (λ e. kind-index b userKind (firstUser b) e .1 .0)
 
-  pub user-next-below : (j : ℕ) → isUser b j ≡ true → nextOf b j < used b
+  user-next-below : (j : ℕ) → isUser b j ≡ true → nextOf b j < used b
   unfolding userNextFits
   user-next-below j h =
       link-below (nextOf b j) (isUser b (nextOf b j) && ltb (nextOf b j) j) (g .user j h .next)
       (λ e. kind-index b userKind (nextOf b j) (and-left (isUser b (nextOf b j)) (ltb (nextOf b j) j) e) .1 .0)
 
-  pub first-entry-below : (j : ℕ) → isUser b j ≡ true → firstEntryOf b j < used b
+  first-entry-below : (j : ℕ) → isUser b j ≡ true → firstEntryOf b j < used b
   unfolding firstEntryFits
   first-entry-below j h =
       link-below (firstEntryOf b j) (isEntry b (firstEntryOf b j) && eqb (ownerOf b (firstEntryOf b j)) j) (g .user j h .first)

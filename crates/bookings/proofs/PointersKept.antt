@@ -1,7 +1,7 @@
 -- The pointers to each record after the three ways of writing: one more to the new record, and no other change.
 use Prim.Native.Nat.{ℕ, _+_, _≤_, _<_}
-use mathlib.Core.Path.{_≡_, refl, sym, ap, _∙_}
-use mathlib.Core.Bool.{Bool, true}
+use mathlib.Core.Path.{_≡_, refl, ap, _∙_}
+use mathlib.Core.Bool.{true}
 use mathlib.Core.List.{List}
 use native.Mathlib.Decide.{decLt, ℕ-discrete}
 use native.Mathlib.Omega.{arith}
@@ -9,15 +9,14 @@ use borrow.Author.Tests.{eq-eqb}
 use Rattle.accounts.specs.declared.Account.{Account}
 use Rattle.layout.specs.Fields.{get, recordAt, userKind, usedField, firstUserField}
 use Rattle.records.specs.declared.UserRecord.{UserRecord}
-use Rattle.units.specs.Folds.{sumBelow}
 use Rattle.units.proofs.Folds.{sum-cong, sum-moved}
-use Rattle.book.specs.Book.{used, firstUser, kindAt, isUser, nextOf, firstEntryOf, hits, pointersFrom, pointersTo, pointedOnce}
+use Rattle.book.specs.Book.{used, firstUser, isUser, firstEntryOf, hits, pointersFrom, pointersTo, pointedOnce}
 use Rattle.book.proofs.Faults.{used-within}
 use Rattle.book.proofs.Hits.{hits-same, hits-other}
 use Rattle.book.proofs.RecordKinds.{kind-index}
 use Rattle.book.proofs.Faultless.{Faultless}
 use Rattle.bookings.proofs.Records.{UserAt}
-use Rattle.bookings.proofs.Written.{HeadAt, UserEnrolled, AccountSet, EntryAdded, userWith}
+use Rattle.bookings.proofs.Written.{UserEnrolled, AccountSet, EntryAdded, userWith}
 use Rattle.bookings.proofs.Pointers.{from-head, from-user, from-same}
 use Rattle.bookings.proofs.Links.{none-points}
 

@@ -1,12 +1,11 @@
 -- The ranges of an account taken apart and put together, and the widths of bytes that they stay within.
-use Prim.Native.Nat.{ℕ, _+_, _-_, _*_, _^_, _≤_, _<_}
-use mathlib.Core.Path.{_≡_, refl, sym, ap, _∙_}
-use mathlib.Core.Bool.{Bool, true, false, cond, not, _&&_, _||_}
-use native.Mathlib.Omega.{arith}
-use borrow.Author.Tests.{leb-true, ltb-true, eqb-false, not-true}
-use lib.Dec.{leb, ltb, eqb}
+use Prim.Native.Nat.{ℕ, _≤_}
+use mathlib.Core.Path.{_≡_}
+use mathlib.Core.Bool.{true, not}
+use borrow.Author.Tests.{leb-true}
+use lib.Dec.{eqb}
 use Rattle.units.proofs.Bools.{and-left, and-right, and-both}
-use Rattle.units.specs.Limits.{maxPower, maxHalfKwh, maxYearTicks, firstActivation, lastActivation, lastOpenYear}
+use Rattle.units.specs.Limits.{maxPower, firstActivation, lastActivation}
 use Rattle.values.specs.declared.Details.{Details}
 use Rattle.accounts.specs.declared.Account.{Account}
 use Rattle.book.specs.Book.{detailsFit, openYearFits, runsFit, advancesFit, creditFits, halvesFit, accountFits}

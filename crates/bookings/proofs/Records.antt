@@ -1,15 +1,14 @@
 -- What the record at an index of a book reads where the image of a user, an advance or a closing stands there.
 use Prim.Native.Nat.{ℕ}
 use mathlib.Core.Path.{_≡_, ap, _∙_}
-use mathlib.Core.Bool.{Bool, true}
+use mathlib.Core.Bool.{true}
 use mathlib.Core.List.{List}
-use Rattle.accounts.specs.declared.Account.{Account}
 use Rattle.layout.specs.Fields.{get, allZero, unnamedOfUser, unnamedOfAdvance, unnamedOfClosing, recordAt, userKind, advanceKind, closingKind, nextField, kindField, numberField, firstEntryField, activationYearField, openYearField, yearField, ownerField}
 use Rattle.records.specs.declared.UserRecord.{UserRecord}
 use Rattle.records.specs.declared.AdvanceRecord.{AdvanceRecord}
 use Rattle.records.specs.declared.ClosingRecord.{ClosingRecord}
 use Rattle.records.specs.Records.{userImage, advanceImage, closingImage, accountIn, userIn, advanceIn, closingIn}
-use Rattle.records.proofs.Users.{UserFits, UserReads, user-reads, user-back, user-unnamed}
+use Rattle.records.proofs.Users.{UserFits, user-reads, user-back, user-unnamed}
 use Rattle.records.proofs.Advances.{AdvanceFits, advance-reads, advance-back, advance-unnamed}
 use Rattle.records.proofs.Closings.{ClosingFits, closing-reads, closing-back, closing-unnamed}
 use Rattle.book.specs.Book.{kindAt, nextOf, firstEntryOf, numberOf, activationOf, openYearOf, accountAt, ownerOf, levelIn, levelOf}

@@ -1,12 +1,10 @@
 -- A record that stood in the book stays good, and the good records of the book after it make it faultless.
 use Prim.Native.Nat.{ℕ, _≤_, _<_}
-use mathlib.Core.Path.{_≡_, refl, sym, ap, subst, _∙_}
-use mathlib.Core.Bool.{true, false, _&&_, _||_}
+use mathlib.Core.Path.{_≡_, sym, ap, subst}
+use mathlib.Core.Bool.{true, _&&_, _||_}
 use Rattle.units.proofs.Bools.{and-left, and-right, and-both}
 use mathlib.Core.List.{List}
 use native.Mathlib.Decide.{ℕ-discrete}
-use borrow.Author.Tests.{eqb-false}
-use lib.Dec.{eqb}
 use Rattle.layout.specs.Fields.{get, allZero, unnamedOfUser, recordAt, userKind, firstEntryField, openYearField}
 use Rattle.book.specs.Book.{used, usedFits, goodHead, kindAt, ownerFits, rangesFit, zeroBytesFit, isUser, isEntry, accountAt, accountFits, firstEntryOf, openYearOf}
 use Rattle.book.proofs.RecordKinds.{kind-index, user-index, entry-index, not-both}

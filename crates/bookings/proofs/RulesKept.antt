@@ -50,7 +50,7 @@ closing-later o p c same later h =
     (and-stays (yearFits o (c .year)) (leb (c .option) 1) (year-later o p (c .year) same later) (λ e. e))
     (subst (λ y. sumsFit y c ≡ true) (sym same)) h
 
-pub ranges-later : (o p : Account) (r : List ℕ) → p .details .year ≡ o .details .year → o .«open_year» ≤ p .«open_year» → entryRanges o r ≡ true → entryRanges p r ≡ true
+ranges-later : (o p : Account) (r : List ℕ) → p .details .year ≡ o .details .year → o .«open_year» ≤ p .«open_year» → entryRanges o r ≡ true → entryRanges p r ≡ true
 unfolding entryRanges
 ranges-later o p r same later =
     cond-stays (eqb (get kindField r) advanceKind) (advance-later o p (advanceIn r) same later)

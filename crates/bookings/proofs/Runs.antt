@@ -1,13 +1,12 @@
 -- The runs of a year by their bits: no year pays more than two halves, and a run that is made joins those made before it.
-use Prim.Native.Nat.{ℕ, _+_, _*_, _/_, _%_, _≤_, _<_}
-use mathlib.Core.Path.{_≡_, refl, sym, ap, subst, _∙_}
-use mathlib.Core.Bool.{Bool, true, false, cond, not, _&&_, _||_, true≢false}
+use Prim.Native.Nat.{ℕ, _+_, _/_, _%_, _≤_, _<_}
+use mathlib.Core.Path.{_≡_, refl, sym, ap, subst}
+use mathlib.Core.Bool.{Bool, true, false, cond, _&&_, true≢false}
 use native.Mathlib.Omega.{arith}
 use borrow.Author.Tests.{eqb-true, eqb-false, eq-eqb}
-use lib.Dec.{leb, ltb, eqb}
-use Rattle.units.specs.Limits.{maxHalfTicks, maxYearTicks}
+use lib.Dec.{leb, eqb}
 use Rattle.units.proofs.Bools.{cond-capped}
-use Rattle.calendar.specs.ElectionAndAdvances.{june, october, january, halves, halvesPaid, due, halvesCount}
+use Rattle.calendar.specs.ElectionAndAdvances.{june, october, january, halves, halvesPaid, halvesCount}
 use Rattle.accounts.specs.declared.Account.{Account}
 use Rattle.book.specs.Book.{halvesOf, runMade, halvesMade, isRun}
 
@@ -23,7 +22,7 @@ two-halves-by false true none = omega arith
 two-halves-by false false true = omega arith
 two-halves-by false false false = omega arith
 
-pub two-halves : (activation month year : ℕ)
+two-halves : (activation month year : ℕ)
     → halvesCount (halvesPaid activation month year june) + halvesCount (halvesPaid activation month year october)
     + halvesCount (halvesPaid activation month year january)
     ≤ 2

@@ -7,15 +7,14 @@ use borrow.Author.Tests.{leb-true, ltb-true}
 use Rattle.units.specs.Units.{recordIndex}
 use Rattle.units.specs.Limits.{maxYearTicks, maxFlatRate, maxContribution, maxHalfTicks, maxHalfKwh, lastOpenYear}
 use Rattle.accounts.specs.declared.Account.{Account}
-use Rattle.records.specs.declared.UserRecord.{UserRecord}
 use Rattle.records.specs.declared.AdvanceRecord.{AdvanceRecord}
 use Rattle.records.specs.declared.ClosingRecord.{ClosingRecord}
 use Rattle.records.proofs.Users.{UserFits}
 use Rattle.records.proofs.Advances.{AdvanceFits}
 use Rattle.records.proofs.Closings.{ClosingFits}
 use Rattle.calendar.specs.ElectionAndAdvances.{june, october, january}
-use Rattle.book.specs.Book.{detailsFit, openYearFits, runsFit, advancesFit, creditFits, halvesFit, accountFits, halvesMade, yearFits, isRun, advanceFits, closingFits}
-use Rattle.bookings.proofs.Ranges.{conjuncts, AccountGood, account-good, DetailsWithin, details-within}
+use Rattle.book.specs.Book.{openYearFits, runsFit, advancesFit, creditFits, halvesFit, accountFits, halvesMade, yearFits, isRun, advanceFits, closingFits}
+use Rattle.bookings.proofs.Ranges.{conjuncts, account-good, DetailsWithin, details-within}
 use Rattle.bookings.proofs.Runs.{made-two-halves, is-run, Run, June, October, January}
 
 -- the numbers of an account that fits

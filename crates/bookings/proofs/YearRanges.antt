@@ -13,7 +13,7 @@ use Rattle.units.specs.Limits.{maxKwh, maxPrice, maxTierRate, maxYearTicks, max
 use Rattle.units.specs.Folds.{sumBelow}
 use Rattle.units.proofs.Folds.{sum-capped}
 use Rattle.units.proofs.Products.{product-capped}
-use Rattle.tariff.specs.Tariff.{domestic, tiers, annualTiers, monthlyTiers, monthlyMethod, tierSum, flatRateOf, maxYearKwh}
+use Rattle.tariff.specs.Tariff.{domestic, tiers, annualTiers, monthlyTiers, monthlyMethod, tierSum, flatRateOf}
 use Rattle.tariff.proofs.Tiers.{tiers-sum, first-tier-sum}
 use Rattle.sheet.specs.YearSheet.{Passed, withdrawnReading, injectedReading, byBands, word, monthWithdrawn}
 use Rattle.sheet.proofs.Limits.{passed-energy, passed-price}
@@ -54,11 +54,11 @@ value-month s h island photovoltaic m l =
     (λ b k. amount-fits (passed-energy s (h .past13) m (3 + b) l (omega arith)) (band-price-fits s h island m b l k))
     (amount-fits (passed-energy s (h .past13) m 3 l (lit< tt)) (single-price-fits s h island photovoltaic m l))
 
-pub cost-capped : (s : List ℕ) → Passed s → costOf s ≤ maxYearTicks
+cost-capped : (s : List ℕ) → Passed s → costOf s ≤ maxYearTicks
 unfolding costOf
 cost-capped s h = sum-capped 12 maxMonthTicks (costIn s) (cost-month s h)
 
-pub value-capped : (s : List ℕ) → Passed s → (island photovoltaic : Bool) → valueOf s island photovoltaic ≤ maxYearTicks
+value-capped : (s : List ℕ) → Passed s → (island photovoltaic : Bool) → valueOf s island photovoltaic ≤ maxYearTicks
 unfolding valueOf
 value-capped s h island photovoltaic =
     sum-capped 12 maxMonthTicks (valueIn s island photovoltaic) (value-month s h island photovoltaic)
@@ -105,7 +105,7 @@ month-flat-capped s h plant power m l =
     let rates = tiers-capped parts (monthRate s plant power m) (λ t k. month-rate-capped s h plant power m t l k) in
     omega (arith, sum, rates, exchanged-capped s h m l)
 
-pub flat-rate-capped : (s : List ℕ) → Passed s → (class plant power : ℕ) → flatRateOver s 0 12 class plant power ≤ maxFlatRate
+flat-rate-capped : (s : List ℕ) → Passed s → (class plant power : ℕ) → flatRateOver s 0 12 class plant power ≤ maxFlatRate
 unfolding flatRateOver
 flat-rate-capped s h class plant power =
     cond-capped (monthlyMethod class (someMonthAbove s 0 12))
@@ -114,7 +114,7 @@ flat-rate-capped s h class plant power =
     (annual-flat-capped s h class plant power)
 
 -- the halves: six months each
-pub half-capped : (s : List ℕ) → Passed s → (half : ℕ) → half < 2 → halfOf s half ≤ maxHalfKwh
+half-capped : (s : List ℕ) → Passed s → (half : ℕ) → half < 2 → halfOf s half ≤ maxHalfKwh
 unfolding halfOf
 half-capped s h half l =
     sum-capped 6 (3 * maxKwh) (λ i. monthExchanged s (6 * half + i)) (λ i k. exchanged-capped s h (6 * half + i) (omega arith))

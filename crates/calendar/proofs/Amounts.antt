@@ -20,7 +20,7 @@ pub paid-whole : {amount : ℕ} → threshold < amount → paidOf amount ≡ amo
 unfolding paidOf
 paid-whole {amount} h = rw (lt-leb amount threshold h)
 
-pub paid-at-most : (amount : ℕ) → paidOf amount ≤ amount
+paid-at-most : (amount : ℕ) → paidOf amount ≤ amount
 paid-at-most amount = either (decLe amount threshold)
   where
     either : Dec (amount ≤ threshold) → paidOf amount ≤ amount

@@ -12,7 +12,7 @@ use lib.Dec.{leb, ltb, eqb, leb·suc-suc}
 use Rattle.units.proofs.Bools.{and-left, and-right, cond-capped}
 use Rattle.calendar.specs.ElectionAndAdvances.{leap, daysIn, isDay, notAfter, inWindow}
 
-pub days-at-most : (y m : ℕ) → daysIn y m ≤ 31
+days-at-most : (y m : ℕ) → daysIn y m ≤ 31
 unfolding daysIn
 days-at-most y m =
     cond-capped (eqb m 2) (cond-capped (leap y) (omega arith) (omega arith))
@@ -23,7 +23,7 @@ pub record Day (y m d : ℕ) : Type 0 where
   pub month : (1 ≤ m) × (m ≤ 12)
   pub day : (1 ≤ d) × (d ≤ daysIn y m)
 
-pub day-of : (y m d : ℕ) → isDay y m d ≡ true → Day y m d
+day-of : (y m d : ℕ) → isDay y m d ≡ true → Day y m d
 unfolding isDay
 day-of y m d e =
     let front = and-left ((leb 1 m && leb m 12) && leb 1 d) (leb d (daysIn y m)) e in

@@ -17,14 +17,14 @@ fn choose(test: bool, a: u32, b: u32) -> u32
 }
 
 // The leap rule, "for every year number".
-pub fn leap(year: u32) -> bool
+fn leap(year: u32) -> bool
     ensures { λ r. ⌜ r ≡ leap year ⌝ }
 {
     (year % 4 == 0) & !(year % 100 == 0) | (year % 400 == 0)
 }
 
 // The days of a month; a number that names no month counts 31.
-pub fn days_in(year: u32, month: u32) -> u32
+fn days_in(year: u32, month: u32) -> u32
     ensures { λ r. ⌜ r ≡ daysIn year month ⌝ }
 {
     let short = (month == 4) | (month == 6) | (month == 9) | (month == 11);
@@ -42,7 +42,7 @@ pub fn is_day(year: u32, month: u32, day: u32) -> bool
 }
 
 // The first day is not after the second.
-pub fn not_after(year: u32, month: u32, day: u32, year2: u32, month2: u32, day2: u32) -> bool
+fn not_after(year: u32, month: u32, day: u32, year2: u32, month2: u32, day2: u32) -> bool
     ensures { λ r. ⌜ r ≡ notAfter year month day year2 month2 day2 ⌝ }
 {
     (year < year2) | (year == year2) & ((month < month2) | (month == month2) & (day <= day2))

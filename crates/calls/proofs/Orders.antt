@@ -6,7 +6,7 @@ use mathlib.Core.Path.{_≡_, refl}
 use mathlib.Core.Bool.{true}
 use mathlib.Core.List.{List, [], _∷_}
 use Rattle.values.specs.declared.Details.{Details}
-use Rattle.book.specs.Book.{lengthFits, sound}
+use Rattle.book.specs.Book.{lengthFits}
 use Rattle.calls.specs.Rules.{Rule, numbersOf, testOf, without}
 use Rattle.calls.specs.Refusals.{Look, lookAt}
 use Rattle.calls.specs.Calls.{Call, enrol, elect, advance, close, statement, namedBy, rulesOf, orderOf, refusalOf}
@@ -55,7 +55,3 @@ module _ (b : List ℕ) (c : Call) (h : refusalOf b c ≡ 0) where
   pub length-fact : lengthFits b ≡ true
   unfolding testOf
   length-fact = fact 1
-
-  pub sound-fact : sound b ≡ true
-  unfolding testOf
-  sound-fact = fact 2

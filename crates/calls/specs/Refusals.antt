@@ -1,11 +1,10 @@
 -- "Who brings which number" of document 01: what each refusal looks at.
 use Prim.Native.Nat.{ℕ}
-use mathlib.Core.Bool.{Bool, true, false, cond, not, _&&_}
+use mathlib.Core.Bool.{Bool, not, _&&_}
 use mathlib.Core.List.{List}
-use lib.Dec.{leb, ltb, eqb}
+use lib.Dec.{leb, eqb}
 use Rattle.units.specs.Limits.{maxPrice, maxHalfKwh, lastActivation, lastOpenYear}
 use Rattle.calendar.specs.ElectionAndAdvances.{isDay, inWindow, due, halvesPaid}
-use Rattle.values.specs.declared.Details.{Details}
 use Rattle.accounts.specs.declared.Account.{Account}
 use Rattle.layout.specs.Fields.{capacity}
 use Rattle.book.specs.Book.{used, isRun, runMade, accountAt}

@@ -5,7 +5,7 @@ ghost use Rattle.chain_reader.specs.Link.{linkIn, linkAt};
 use units::RecordIndex;
 
 // A place on a chain of a book.
-pub struct Chain<'a> {
+struct Chain<'a> {
     book: &'a [u8],
     at: RecordIndex,
 }
@@ -35,13 +35,13 @@ fn link_at(book: &[u8], at: RecordIndex) -> Link
     }
 }
 
-pub fn chain_at<'a>(book: &'a [u8], at: RecordIndex) -> Chain<'a>
+fn chain_at<'a>(book: &'a [u8], at: RecordIndex) -> Chain<'a>
     ensures { λ r. ⌜ (r .book ≡ book .entry) × (r .at ≡ at) ⌝ }
 {
     Chain { book, at }
 }
 
-pub fn following<'a>(chain: Chain<'a>) -> Link
+fn following<'a>(chain: Chain<'a>) -> Link
     ensures { λ r. ⌜ r ≡ linkAt (now (chain .entry .book)) (chain .entry .at .0) ⌝ }
 {
     link_at(chain.book, chain.at)

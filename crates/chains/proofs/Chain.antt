@@ -3,13 +3,13 @@
 use Prim.Native.Nat.{ℕ, zero, suc, _+_, _≤_, _<_}
 use mathlib.Core.Path.{_≡_, refl, sym, ap, _∙_, subst}
 use mathlib.Core.Logic.{_⊎_, inl, inr, ⊎-elim}
-use mathlib.Core.List.{List, [], _∷_, map, List·Memᴰ·head, List·Memᴰ·tail, List·Memᴰ·not-nil, List·Memᴰ·cases-cons, Memᴰ·cast}
+use mathlib.Core.List.{List, [], _∷_, List·Memᴰ·head, List·Memᴰ·tail, List·Memᴰ·not-nil, List·Memᴰ·cases-cons, Memᴰ·cast}
 use native.Mathlib.Decide.{decLt}
 use native.Mathlib.Omega.{arith}
 use lib.ListN.{length}
 use borrow.Author.Tests.{eq-eqb, ne-eqb}
 use Rattle.book.specs.Chains.{chain, chainFrom}
-use Rattle.chains.proofs.Lists.{_∈_, All, Falling, all-map, map-same}
+use Rattle.chains.proofs.Lists.{_∈_, All, Falling, all-map}
 
 -- zero, which ends a chain, or an index of the set
 abbrev pub On : (ℕ → Type 0) → ℕ → Type 0
@@ -91,11 +91,6 @@ module _ (P : ℕ → Type 0) (next : ℕ → ℕ) (closed : Closed P next) wher
     pub chain-same : (i : ℕ) → On P i → chainFrom next′ i ≡ chainFrom next i
     chain-same i p = same i i p
 
-    pub chain-same-contents : {A : Type 0} (f f′ : ℕ → A) → ((i : ℕ) → P i → f′ i ≡ f i) → (i : ℕ) → On P i
-        → map f′ (chainFrom next′ i) ≡ map f (chainFrom next i)
-    chain-same-contents f f′ equal i p =
-        ap (map f′) (chain-same i p) ∙ map-same P f f′ equal (chainFrom next i) (chain-holds-only i p)
-
 -- A SET IN WHICH NEXT FALLS
 module _ (P : ℕ → Type 0) (next : ℕ → ℕ) (falls : Falls P next) where
   pub on-next : (i : ℕ) → 1 ≤ i → On P i → On P (next i)
@@ -119,7 +114,7 @@ module _ (P : ℕ → Type 0) (next : ℕ → ℕ) (falls : Falls P next) where
       (λ h. let l = less i h p in
       chain-link next f i h ∙ ap (λ es. i ∷ es) (tail (on-next i h p) (omega arith) (omega arith)))
 
-  pub chain-enough : (fuel i : ℕ) → On P i → i ≤ fuel → chain next fuel i ≡ chainFrom next i
+  chain-enough : (fuel i : ℕ) → On P i → i ≤ fuel → chain next fuel i ≡ chainFrom next i
   chain-enough fuel i p l = fuelled fuel i i p l (omega arith)
 
   pub chain-cons : (i : ℕ) → 1 ≤ i → P i → chainFrom next i ≡ i ∷ chainFrom next (next i)

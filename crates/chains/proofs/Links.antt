@@ -2,14 +2,13 @@
 use Prim.Native.Nat.{ℕ, _<_}
 use mathlib.Core.Path.{_≡_, _∙_}
 use mathlib.Core.Bool.{true, _&&_, _||_}
-use mathlib.Core.Logic.{_⊎_, ⊎-elim, ⊎-map}
+use mathlib.Core.Logic.{_⊎_, ⊎-map}
 use mathlib.Core.List.{List}
 use lib.Dec.{eqb, ltb}
 use borrow.Author.Tests.{eqb-true, ltb-true}
 use Rattle.units.proofs.Bools.{and-left, and-right, or-cases}
 use Rattle.layout.specs.Fields.{allZero, unnamedOfHead, recordAt}
-use Rattle.book.specs.Book.{firstUser, isUser, isAdvance, isClosing, isEntry, ownerOf, nextOf, firstEntryOf, userNextFits, firstEntryFits, entryNextFits, goodHead}
-use Rattle.book.proofs.RecordKinds.{entry-cases}
+use Rattle.book.specs.Book.{firstUser, isUser, isEntry, ownerOf, nextOf, firstEntryOf, userNextFits, firstEntryFits, entryNextFits, goodHead}
 use Rattle.book.proofs.Faultless.{Faultless, EntryLinks, owner-before}
 use Rattle.chains.proofs.Chain.{Falls}
 

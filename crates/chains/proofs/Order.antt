@@ -1,7 +1,7 @@
 -- The order of years along a chain: advances of a year, then the closing of the year before it, down to the activation year.
 use Prim.Native.Nat.{ℕ, _+_, _≤_, _<_}
-use mathlib.Core.Path.{_≡_, sym, _∙_, subst}
-use mathlib.Core.Bool.{true, cond, _&&_, _||_, true≢false}
+use mathlib.Core.Path.{_≡_, subst}
+use mathlib.Core.Bool.{true, cond, _&&_, _||_}
 use mathlib.Core.Logic.{_⊎_, inl, inr, ⊎-elim}
 use mathlib.Core.List.{List, [], _∷_}
 use native.Mathlib.Omega.{arith}
@@ -25,7 +25,7 @@ pub data Ordered (b : List ℕ) (activation : ℕ) : ℕ → List ℕ → Type 0
   closing : {y e : ℕ} {es : List ℕ} → isClosing b e ≡ true → levelOf b e + 1 ≡ y → Ordered b activation (levelOf b e) es → Ordered b activation y (e ∷ es)
 
 -- an entry from the activation year to y, and a closing of a year before y
-pub record InYears (b : List ℕ) (activation y e : ℕ) : Type 0 where
+record InYears (b : List ℕ) (activation y e : ℕ) : Type 0 where
   pub since : activation ≤ levelOf b e
   pub until : levelOf b e ≤ y
   pub before : isClosing b e ≡ true → levelOf b e < y
@@ -75,26 +75,10 @@ module _ (b : List ℕ) (f : Faultless b) (i : ℕ) where
       (firstEntryOf b i) (first-entry b f i u) (openYearOf b i) (f .user i u .order)
 
 module _ (b : List ℕ) (activation : ℕ) where
-  pub activation-first : {y : ℕ} {es : List ℕ} → Ordered b activation y es → activation ≤ y
-  activation-first (nothing e) = omega arith
-  activation-first (advance a e o) = let t = activation-first o in omega arith
-  activation-first (closing c e o) = let t = activation-first o in omega arith
-
   later : (r y : ℕ) (es : List ℕ) → r ≤ y → All (InYears b activation r) es → All (InYears b activation y) es
   later r y es l a =
       all-map (InYears b activation r) (InYears b activation y) es
       (λ e t. record { since = t .since; until = omega arith; before = λ c. let p = t .before c in omega arith }) a
-
-  -- so the years of closings fall along a chain
-  pub years-within : {y : ℕ} {es : List ℕ} → Ordered b activation y es → All (InYears b activation y) es
-  years-within (nothing e) = tt
-  years-within {y} (advance {e = k} {es = es} a e o) =
-      let first = activation-first o in
-      let none = kinds-apart b advanceKind closingKind k (λ p. omega arith) a in
-      (record { since = omega arith; until = omega arith; before = λ c. absurd (true≢false (sym c ∙ none)) }, later (levelOf b k) y es (omega arith) (years-within o))
-  years-within {y} (closing {e = k} {es = es} c e o) =
-      let first = activation-first o in
-      (record { since = omega arith; until = omega arith; before = λ p. omega arith }, later (levelOf b k) y es (omega arith) (years-within o))
 
   -- a closing for every closed year
   pub closings-counted : {y : ℕ} {es : List ℕ} → Ordered b activation y es → activation + sumOver (closingCount b) es ≡ y

@@ -2,7 +2,7 @@
 -- entry is its owner's first or the next of an entry of the same owner.
 use Prim.Native.Nat.{ℕ, zero, suc, _+_, _≤_, _<_}
 use mathlib.Core.Path.{_≡_, refl, sym, subst, _∙_, ap}
-use mathlib.Core.Bool.{Bool, true, false, cond, _||_}
+use mathlib.Core.Bool.{Bool, true, false, cond}
 use mathlib.Core.Logic.{_⊎_, inl, inr, ⊎-elim, ⊎-map}
 use mathlib.Core.List.{List}
 use native.Mathlib.Decide.{decLt}
@@ -10,7 +10,6 @@ use native.Mathlib.Omega.{arith}
 use lib.Dec.{eqb}
 use borrow.Author.Tests.{eqb-true, eqb-false}
 use Rattle.units.specs.Folds.{sumBelow}
-use Rattle.units.proofs.Bools.{or-cases}
 use Rattle.layout.specs.Fields.{userKind}
 use Rattle.book.specs.Book.{used, firstUser, kindAt, entryKind, isUser, isEntry, ownerOf, nextOf, firstEntryOf, hits, pointersFrom, pointersTo, pointedOnce}
 use Rattle.book.proofs.RecordKinds.{has-kind, user-index, entry-of-kind, entry-index, not-both}
@@ -36,7 +35,7 @@ hit-is pointer i h = by-test (eqb pointer i) refl
     by-test false e = let z : 1 ≤ 0 = rw e at h in let n : ⊥ = omega arith in absurd n
 
 -- the ways in which record j points to record i
-pub data Points (b : List ℕ) (i j : ℕ) : Type 0 where
+data Points (b : List ℕ) (i j : ℕ) : Type 0 where
   by-head : firstUser b ≡ i → Points b i j
   by-user : isUser b j ≡ true → nextOf b j ≡ i → Points b i j
   by-first : isUser b j ≡ true → firstEntryOf b j ≡ i → Points b i j

@@ -50,7 +50,7 @@ details-year a h =
     let year = and-left (within firstActivation lastActivation (d .year)) (within 1 12 (d .month)) (and-left dates flags (and-right near (dates && flags) h)) in
     within-true firstActivation lastActivation (d .year) year .0
 
-pub years-fit : (a : Account) → accountFits a ≡ true → YearsFit a
+years-fit : (a : Account) → accountFits a ≡ true → YearsFit a
 unfolding accountFits openYearFits
 years-fit a h =
     let named = not (eqb (a .number .0) 0) in

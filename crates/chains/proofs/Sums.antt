@@ -1,6 +1,6 @@
 -- Sums over the entries of a chain: equal terms, and bounds from a bound on each term.
 use Prim.Native.Nat.{ℕ, zero, suc, _+_, _*_, _≤_}
-use mathlib.Core.Path.{_≡_, refl, sym, ap, ap₂, _∙_}
+use mathlib.Core.Path.{_≡_, refl, sym, ap, _∙_}
 use mathlib.Core.Bool.{Bool, true, false}
 use mathlib.Core.List.{List, [], _∷_}
 use native.Mathlib.Nat.{mul-suc}
@@ -14,17 +14,6 @@ use Rattle.book.specs.Book.{isAdvance, isClosing, levelOf}
 use Rattle.chains.specs.Statements.{sumOver, sumOverℤ}
 use Rattle.chains.proofs.Lists.{All}
 use Rattle.chains.proofs.Order.{Ordered, nothing, advance, closing}
-
--- terms that agree on the members have equal sums
-pub sum-same : (P : ℕ → Type 0) (f g : ℕ → ℕ) → ((e : ℕ) → P e → f e ≡ g e) → (es : List ℕ) → All P es → sumOver f es ≡ sumOver g es
-unfolding sumOver
-sum-same P f g equal [] a = refl
-sum-same P f g equal (e ∷ es) a = ap₂ _+_ (equal e (a .0)) (sum-same P f g equal es (a .1))
-
-pub sumℤ-same : (P : ℕ → Type 0) (f g : ℕ → ℤ) → ((e : ℕ) → P e → f e ≡ g e) → (es : List ℕ) → All P es → sumOverℤ f es ≡ sumOverℤ g es
-unfolding sumOverℤ
-sumℤ-same P f g equal [] a = refl
-sumℤ-same P f g equal (e ∷ es) a = ap₂ _+ℤ_ (equal e (a .0)) (sumℤ-same P f g equal es (a .1))
 
 -- terms of at most `cap` each
 pub sum-at-most : (P : ℕ → Type 0) (f : ℕ → ℕ) (cap : ℕ) → ((e : ℕ) → P e → f e ≤ cap) → (es : List ℕ) → All P es → sumOver f es ≤ cap * length es

@@ -13,8 +13,8 @@ use Rattle.units.proofs.Folds.{none-at}
 use Rattle.book.specs.Book.{used, firstUser, isUser, nextOf, numberOf, numberIsNew}
 use Rattle.book.proofs.Faultless.{Faultless}
 use Rattle.book.specs.Chains.{usersOf}
-use Rattle.chains.proofs.Lists.{_∈_, All, Falling}
-use Rattle.chains.proofs.Chain.{chain-holds-only, chain-falling, chain-complete, falls-closed}
+use Rattle.chains.proofs.Lists.{_∈_, Falling}
+use Rattle.chains.proofs.Chain.{chain-falling, chain-complete}
 use Rattle.book.proofs.RecordKinds.{user-index}
 use Rattle.chains.proofs.Links.{first-user, users-fall}
 use Rattle.chains.proofs.Pointers.{user-pointed}
@@ -22,10 +22,6 @@ use Rattle.chains.proofs.Pointers.{user-pointed}
 module _ (b : List ℕ) (f : Faultless b) where
   abbrev User : ℕ → Type 0
   User i = isUser b i ≡ true
-
-  pub users-only : All (λ i. isUser b i ≡ true) (usersOf b)
-  unfolding usersOf
-  users-only = chain-holds-only User (nextOf b) (falls-closed User (nextOf b) (users-fall b f)) (firstUser b) (first-user b f)
 
   pub users-falling : Falling (usersOf b)
   unfolding usersOf

@@ -1,7 +1,7 @@
 -- "Statement: open year, credit, and the sums over the chain of C, O, F, contribution, liquidation, lapsed, balance, all
 -- advances, advances of closed years." (document 01, "Election and advances")
 use Prim.Native.Nat.{ℕ, _+_}
-use mathlib.Core.Bool.{Bool, true, false, cond, _&&_}
+use mathlib.Core.Bool.{Bool, true, cond, _&&_}
 use mathlib.Core.List.{List, [], _∷_}
 use lib.Dec.{ltb}
 use lib.IntN.{ℤ, pos, _+ℤ_}
@@ -9,7 +9,6 @@ use mir.Syntax.{w64}
 use mir.Val.{toZ}
 use Rattle.layout.specs.Fields.{recordAt}
 use Rattle.accounts.specs.declared.ClosingSums.{ClosingSums}
-use Rattle.records.specs.declared.AdvanceRecord.{AdvanceRecord}
 use Rattle.records.specs.Records.{advanceIn, closingIn}
 use Rattle.book.specs.Book.{isAdvance, isClosing, accountAt}
 use Rattle.ledger.specs.Ledger.{Statement}

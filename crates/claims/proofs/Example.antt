@@ -1,6 +1,6 @@
 -- One list: an enrolment, an election, two closings and a call that is refused. It is one of those that the third demand is
 -- about.
-use Prim.Native.Nat.{ℕ, zero, suc, _+_}
+use Prim.Native.Nat.{ℕ, zero, suc}
 use mathlib.Core.Path.{_≡_, refl, subst}
 use mathlib.Core.Bool.{Bool, true, _&&_}
 use mathlib.Core.List.{List, [], _∷_, _++_}
@@ -108,10 +108,6 @@ after = bookAfterAll (freshBook 480) calls
 -- each call is answered, and the book as the last one left it goes to the next
 pub run : Runs Calls (freshBook 480) (made (enrol 7 details 0) 0 ∷ others) after
 run = subst (λ ms. Runs Calls (freshBook 480) ms after) answered (possible (freshBook 480) calls typed)
-
-freshened : freshAfter buffer ≡ freshBook 480
-unfolding freshAfter lengthFits
-freshened = refl
 
 -- the third demand of this list, for user 7
 pub user-7-right : Claim (made (enrol 7 details 0) 0 ∷ others) after 7

@@ -6,7 +6,6 @@ use mathlib.Core.List.{List, [], _∷_}
 use mathlib.Core.Option.{Option, none, some}
 use native.Mathlib.Omega.{arith}
 use borrow.Author.Tests.{eq-eqb}
-use lib.Dec.{eqb}
 use lib.IntN.{natAbs}
 use lib.ListN.{length}
 use denote.Ref.{now}
@@ -77,7 +76,7 @@ module _ (b : List ℕ) (number : ℕ) (known : refusalOf b (statement number) �
       let t = statementAt b (findUser b number) in
       rw (signed-back (t .balance) (omega (arith, mag-size (t .balance), balance-small)))
 
-  pub statement-answers : (κs : _) (a : _) (r : _) (s : _) → statement-of.Post κs a r s → now (a .0) ≡ b → a .1 .0 .0 ≡ number
+  statement-answers : (κs : _) (a : _) (r : _) (s : _) → statement-of.Post κs a r s → now (a .0) ≡ b → a .1 .0 .0 ≡ number
       → (r .reply .refusal ≡ 0) × (r .reply .«record» .0 ≡ 0) × (statementIn (r .sums) ≡ statementAt b (findUser b number))
   unfolding sumsStated recordNamed
   statement-answers κs a r s p is-book is-number =

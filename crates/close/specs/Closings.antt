@@ -11,7 +11,6 @@ use Rattle.accounts.specs.declared.Account.{Account}
 use Rattle.accounts.specs.Account.{balanceBits, settled, InRange}
 use Rattle.values.specs.YearsValues.{yearValues}
 use Rattle.calls.specs.Refusals.{userAt}
-use Rattle.book.specs.Find.{findUser}
 use Rattle.answers.specs.Rooms.{EntryFits}
 use Rattle.accounts.specs.declared.ClosingSums.{ClosingSums}
 use Rattle.answers.specs.declared.Reply.{Reply}

@@ -48,19 +48,19 @@ module _ (s : Sums) (h : Small s) where
   lapsed-size : natAbs lapsed < 2 ^ 61 + 2 ^ 59 + 2 ^ 62
   lapsed-size = omega (arith, size-sum liquidated (pos (s .lapsed .0)), liquidated-size, h .lapsed)
 
-  pub paid-fits : mag paid < 2 ^ 63
+  paid-fits : mag paid < 2 ^ 63
   paid-fits = omega (arith, mag-size paid, paid-size)
 
-  pub kept-fits : mag kept < 2 ^ 63
+  kept-fits : mag kept < 2 ^ 63
   kept-fits = omega (arith, mag-size kept, kept-size)
 
-  pub liquidated-fits : mag liquidated < 2 ^ 63
+  liquidated-fits : mag liquidated < 2 ^ 63
   liquidated-fits = omega (arith, mag-size liquidated, liquidated-size)
 
-  pub lapsed-fits : mag lapsed < 2 ^ 63
+  lapsed-fits : mag lapsed < 2 ^ 63
   lapsed-fits = omega (arith, mag-size lapsed, lapsed-size)
 
-  pub sum-fits : mag sum < 2 ^ 63
+  sum-fits : mag sum < 2 ^ 63
   sum-fits = omega (arith, mag-size sum, size-sum lapsed (pos (s .credit .0)), lapsed-size, h .credit)
 
 -- THE STEPS

@@ -8,15 +8,14 @@ use mathlib.Core.List.{List, [], _∷_}
 use mathlib.Core.Option.{Option, none, some}
 use native.Mathlib.Nat.{le-refl}
 use native.Mathlib.Omega.{arith}
-use borrow.Author.Tests.{eqb-true, eqb-false, ne-eqb, not-true}
+use borrow.Author.Tests.{eqb-true, eqb-false, ne-eqb}
 use lib.Dec.{eqb}
 use lib.ListN.{length}
 use Rattle.sheet.specs.YearSheet.{sheetYear, refused11, refused13, refused14, refused19}
 use Rattle.accounts.specs.declared.Account.{Account}
 use Rattle.layout.specs.Fields.{capacity}
-use Rattle.book.specs.Book.{lengthFits, freshBook, used, detailsFit, accountAt}
+use Rattle.book.specs.Book.{freshBook, used, detailsFit, accountAt}
 use Rattle.book.specs.Find.{findUser}
-use Rattle.chains.specs.Statements.{statementAt}
 use Rattle.calls.specs.Rules.{refusedBy, testOf}
 use Rattle.calls.specs.Refusals.{Look, lookAt, hasRoom, dayAndOption, electionOpen, runOpen, orderFits, yearOpen}
 use Rattle.calls.specs.Calls.{Call, enrol, elect, advance, close, statement, namedBy, rulesOf, refusalOf, bookAfter}

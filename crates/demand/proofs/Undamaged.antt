@@ -15,7 +15,7 @@ use Rattle.demand.specs.Fed.{NoneDamaged}
 use Rattle.bookings.proofs.Good.{Good, good-sound}
 
 -- neither 1 nor 2
-pub record Undamaged (n : ℕ) : Type 0 where
+record Undamaged (n : ℕ) : Type 0 where
   pub notLength : n ≡ 1 → ⊥
   pub notFaulty : n ≡ 2 → ⊥
 

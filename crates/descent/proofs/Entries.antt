@@ -2,23 +2,23 @@
 -- end, in the activation year; once the user is met it leads nowhere.
 use Prim.Native.Nat.{ℕ, zero, suc, _+_, _≤_, _<_}
 use mathlib.Core.Path.{_≡_, sym, ap, _∙_, subst}
-use mathlib.Core.Bool.{true, false, _&&_, _||_, or-true}
+use mathlib.Core.Bool.{true, _&&_, _||_, or-true}
 use mathlib.Core.Logic.{_⊎_, inl, inr}
 use mathlib.Core.List.{List}
 use native.Mathlib.Decide.{decLt, ℕ-discrete}
 use native.Mathlib.Omega.{arith}
-use borrow.Author.Tests.{eq-eqb, ne-eqb, lt-ltb}
+use borrow.Author.Tests.{eq-eqb, lt-ltb}
 use lib.Dec.{eqb, ltb}
 use Rattle.layout.specs.Fields.{userKind}
 use Rattle.book.specs.Book.{used, kindAt, isUser, isEntry, ownerOf, nextOf, firstEntryOf, levelOf, yearsEnded, inOrder, activationOf, openYearOf, firstEntryFits, firstInOrder, ownerFits, entryNextFits, nextInOrder}
-use Rattle.book.proofs.RecordKinds.{kind-from-one, kind-below, not-both, entry-index}
+use Rattle.book.proofs.RecordKinds.{kind-from-one, kind-below, not-both}
 use Rattle.book.proofs.Levels.{entry-in-order}
 use Rattle.descent.specs.Descent.{met, dueEntry, dueYear, MetUser, MetEntry, Passed}
 use Rattle.descent.proofs.Steps.{met-at, user-keeps-entry, user-keeps-year, entry-moves, entry-moves-year, entry-keeps-other, entry-keeps-year}
 use Rattle.descent.proofs.Users.{user-met}
 
 -- what the chain of the user o may lead to from the year y: its end, or an entry of o below n
-pub data Leads (b : List ℕ) (o n y e : ℕ) : Type 0 where
+data Leads (b : List ℕ) (o n y e : ℕ) : Type 0 where
   ended : e ≡ 0 → y ≡ activationOf b o → Leads b o n y e
   owned : isEntry b e ≡ true → ownerOf b e ≡ o → e < n → levelOf b e + yearsEnded (kindAt b e) ≡ y → Leads b o n y e
 
@@ -48,7 +48,7 @@ module _ (b : List ℕ) (p : Passed b) (o : ℕ) (user : isUser b o ≡ true) wh
   not-met-as-entry : (d : ℕ) → MetEntry b d → met b d ≡ o → ⊥
   not-met-as-entry d m e = not-both b (met b d) (rw e user) (m .entry)
 
-  pub entry-due : (n d : ℕ) → n + d ≡ used b → o < n → Due b o n d
+  entry-due : (n d : ℕ) → n + d ≡ used b → o < n → Due b o n d
   entry-due zero d e l = let z : ⊥ = omega arith in absurd z
   entry-due (suc n) d e l =
       let lo = kind-from-one b userKind o user in

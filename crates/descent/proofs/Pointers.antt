@@ -8,7 +8,7 @@ use mathlib.Core.List.{List}
 use native.Mathlib.Decide.{decLt}
 use native.Mathlib.Omega.{arith}
 use borrow.Author.Tests.{eq-eqb, ne-eqb, lt-ltb}
-use lib.Dec.{eqb, ltb}
+use lib.Dec.{ltb}
 use Rattle.units.specs.Folds.{sumBelow}
 use Rattle.units.proofs.Folds.{sum-cong, sum-none, sum-plus, sum-changed}
 use Rattle.layout.specs.Fields.{userKind}

@@ -18,7 +18,7 @@ use Rattle.descent.specs.Descent.{met, dueUser, MetUser, MetEntry, Passe
 use Rattle.descent.proofs.Steps.{met-at, fails, user-moves, entry-keeps-user}
 
 -- the end of the users' chain, or a user below n
-abbrev pub UserBelow : List ℕ → ℕ → ℕ → Type 0
+abbrev UserBelow : List ℕ → ℕ → ℕ → Type 0
 UserBelow b n i = (i ≡ 0) ⊎ ((isUser b i ≡ true) × (i < n))
 
 user-below-more : (b : List ℕ) (n i : ℕ) → UserBelow b n i → UserBelow b (suc n) i
@@ -35,7 +35,7 @@ module _ (b : List ℕ) (p : Passed b) where
       by-kind (inr m) = absurd (not-both b (met b d) u (m .entry))
 
   -- the user that is due once all records from n on are met
-  pub user-due : (n d : ℕ) → n + d ≡ used b → 1 ≤ n → UserBelow b n (dueUser b d)
+  user-due : (n d : ℕ) → n + d ≡ used b → 1 ≤ n → UserBelow b n (dueUser b d)
   user-due zero d e lo = let z : ⊥ = omega arith in absurd z
   user-due (suc n) d e lo = by-place (decLt 0 n) (user-due n (suc d))
     where

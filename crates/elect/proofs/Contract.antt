@@ -1,5 +1,4 @@
 -- What the contract of `elect` says, of every call.
-use mathlib.Core.Path.{_≡_}
 use denote.Ref.{now}
 use Rattle.calls.specs.Calls.{elect}
 use Rattle.answers.specs.Answers.{Answered}

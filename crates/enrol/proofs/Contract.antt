@@ -1,5 +1,4 @@
 -- What the contract of `enrol` says, of every call.
-use mathlib.Core.Path.{_≡_}
 use denote.Ref.{now}
 use Rattle.book.specs.Book.{used}
 use Rattle.calls.specs.Calls.{enrol}

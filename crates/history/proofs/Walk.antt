@@ -21,29 +21,29 @@ use Rattle.chains.proofs.Walks.{Ahead, begins, ahead-next, chain-here}
 use Rattle.history.specs.History.{isClosingOf, closingAmong, closingOf, advancesOf}
 
 module _ (b : List ℕ) (at : ℕ) (w : Ahead b at) (more : at ≡ 0 → ⊥) where
-  pub sum-here : (f : ℕ → ℕ) → sumOver f (chainFrom (nextOf b) at) ≡ f at + sumOver f (chainFrom (nextOf b) (nextOf b at))
+  sum-here : (f : ℕ → ℕ) → sumOver f (chainFrom (nextOf b) at) ≡ f at + sumOver f (chainFrom (nextOf b) (nextOf b at))
   unfolding sumOver
   sum-here f = ap (sumOver f) (chain-here b at w more)
 
-  pub closing-here : (year : ℕ) → isClosingOf b year at ≡ true → closingAmong b year (chainFrom (nextOf b) at) ≡ at
+  closing-here : (year : ℕ) → isClosingOf b year at ≡ true → closingAmong b year (chainFrom (nextOf b) at) ≡ at
   unfolding closingAmong
   closing-here year h = ap (closingAmong b year) (chain-here b at w more) ∙ rw h
 
-  pub closing-later : (year : ℕ) → isClosingOf b year at ≡ false
+  closing-later : (year : ℕ) → isClosingOf b year at ≡ false
       → closingAmong b year (chainFrom (nextOf b) at) ≡ closingAmong b year (chainFrom (nextOf b) (nextOf b at))
   unfolding closingAmong
   closing-later year h = ap (closingAmong b year) (chain-here b at w more) ∙ rw h
 
-pub no-sum : (b : List ℕ) (f : ℕ → ℕ) → sumOver f (chainFrom (nextOf b) 0) ≡ 0
+no-sum : (b : List ℕ) (f : ℕ → ℕ) → sumOver f (chainFrom (nextOf b) 0) ≡ 0
 unfolding sumOver
 no-sum b f = ap (sumOver f) (chain-none (nextOf b))
 
-pub no-closing : (b : List ℕ) (year : ℕ) → closingAmong b year (chainFrom (nextOf b) 0) ≡ 0
+no-closing : (b : List ℕ) (year : ℕ) → closingAmong b year (chainFrom (nextOf b) 0) ≡ 0
 unfolding closingAmong
 no-closing b year = ap (closingAmong b year) (chain-none (nextOf b))
 
 -- the advances of a year stay below 2^64, whatever the year
-pub advances-small : (b : List ℕ) (i year : ℕ) → lengthFits b ≡ true → sound b ≡ true → isUser b i ≡ true → advancesOf b i year < 2 ^ 64
+advances-small : (b : List ℕ) (i year : ℕ) → lengthFits b ≡ true → sound b ≡ true → isUser b i ≡ true → advancesOf b i year < 2 ^ 64
 unfolding advancesOf
 advances-small b i year long good user =
     let f = sound-faultless b long good in

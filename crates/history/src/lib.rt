@@ -66,7 +66,7 @@ fn advance_part(book: &[u8], entry: RecordIndex, year: u16) -> Ticks
 }
 
 // The advances of a year.
-pub fn advances_of(book: &[u8], user: RecordIndex, year: u16) -> Ticks
+fn advances_of(book: &[u8], user: RecordIndex, year: u16) -> Ticks
     requires { ⌜ lengthFits (now book) ≡ true ⌝ }
     requires { ⌜ sound (now book) ≡ true ⌝ }
     requires { ⌜ isUser (now book) (user .0) ≡ true ⌝ }
@@ -120,7 +120,7 @@ fn next_credit(book: &[u8], entry: RecordIndex, credit: Ticks) -> Ticks
 }
 
 // The credit after the first years: the rule of "Closing", from zero.
-pub fn credit_after_years(book: &[u8], user: RecordIndex, years: u16) -> Ticks
+fn credit_after_years(book: &[u8], user: RecordIndex, years: u16) -> Ticks
     requires { ⌜ lengthFits (now book) ≡ true ⌝ }
     requires { ⌜ sound (now book) ≡ true ⌝ }
     requires { ⌜ (isUser (now book) (user .0) ≡ true) × (years ≤ mostYears) ⌝ }

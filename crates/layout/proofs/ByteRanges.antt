@@ -11,7 +11,7 @@ pub bytes-put : (i : ℕ) (r b : List ℕ) → Bytes r → Bytes b → Bytes (pu
 unfolding putRecord
 bytes-put i r b hr hb = of-stored (recordLength * i) r b hr hb
 
-pub bytes-record : (b : List ℕ) (i : ℕ) → Bytes b → Bytes (recordAt b i)
+bytes-record : (b : List ℕ) (i : ℕ) → Bytes b → Bytes (recordAt b i)
 unfolding recordAt
 bytes-record b i h = of-part recordLength (recordLength * i) b h
 
@@ -25,7 +25,7 @@ bytes-written (c ∷ cs) r h =
 pub bytes-image : (cs : List Cell) → Bytes (image cs)
 bytes-image cs = bytes-written cs (replicate recordLength 0) (of-zeros recordLength)
 
-pub get-below : (f : Field) (r : List ℕ) → Bytes r → get f r < 256 ^ f .size
+get-below : (f : Field) (r : List ℕ) → Bytes r → get f r < 256 ^ f .size
 unfolding get
 get-below f r h = number-below (f .size) (f .from) r h
 

@@ -23,7 +23,7 @@ within f = leb (f .from + f .size) recordLength
 abbrev pub apart : Field → Field → Bool
 apart f g = leb (f .from + f .size) (g .from) || leb (g .from + g .size) (f .from)
 
-abbrev pub allWithin : List Cell → Bool
+abbrev allWithin : List Cell → Bool
 allWithin [] = true
 allWithin (c ∷ cs) = within (c .field) && allWithin cs
 
@@ -66,7 +66,7 @@ module _ (c : Cell) (r : List ℕ) (l : length r ≡ recordLength) (w : within (
   unfolding get
   read-put h = number-stored (c .field .size) (c .field .from) (c .value) r h (omega (arith, end))
 
-pub length-written : (cs : List Cell) (r : List ℕ) → length r ≡ recordLength → allWithin cs ≡ true
+length-written : (cs : List Cell) (r : List ℕ) → length r ≡ recordLength → allWithin cs ≡ true
     → length (written cs r) ≡ recordLength
 unfolding written
 length-written [] r l w = l
@@ -74,7 +74,7 @@ length-written (c ∷ cs) r l w =
     length-written cs (put c r) (length-cell c r l (and-left (within (c .field)) (allWithin cs) w)) (and-right (within (c .field)) (allWithin cs) w)
 
 -- a part that no cell touches stays
-pub part-kept : (f : Field) (cs : List Cell) (r : List ℕ) → length r ≡ recordLength → allWithin cs ≡ true → apartFrom f cs ≡ true
+part-kept : (f : Field) (cs : List Cell) (r : List ℕ) → length r ≡ recordLength → allWithin cs ≡ true → apartFrom f cs ≡ true
     → part (f .size) (f .from) (written cs r) ≡ part (f .size) (f .from) r
 unfolding written
 part-kept f [] r l w a = refl
@@ -132,7 +132,7 @@ module _ (cs : List Cell) (w : allWithin cs ≡ true) where
   read-image a k h = read-written cs k blank blank-length w a h
 
   -- bytes that no cell names are zero
-  pub zeros-image : (from n : ℕ) → apartFrom (bytes from n) cs ≡ true → zeros from n (image cs) ≡ true
+  zeros-image : (from n : ℕ) → apartFrom (bytes from n) cs ≡ true → zeros from n (image cs) ≡ true
   unfolding zeros
   zeros-image from n a = all-of n (λ i. eqb (getD (image cs) (from + i) 0) 0) (λ i h. eq-eqb (getD (image cs) (from + i) 0) 0 (byte i h))
     where

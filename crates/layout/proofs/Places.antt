@@ -1,16 +1,16 @@
 -- Laws of a record's place in the book: a record that is put is read back, and every other record stays. A record is a
 -- part of the book, and a put is a store of 80 bytes, so each is a law of parts and stores.
-use Prim.Native.Nat.{ℕ, _+_, _-_, _*_, _/_, _%_, _≤_, _<_, min}
-use mathlib.Core.Path.{_≡_, sym, ap, subst, _∙_}
-use mathlib.Core.List.{List, []}
+use Prim.Native.Nat.{ℕ, _+_, _-_, _*_, _≤_, _<_, min}
+use mathlib.Core.Path.{_≡_, sym, ap, _∙_}
+use mathlib.Core.List.{List}
 use native.Mathlib.Decide.{decLe, decLt}
 use native.Mathlib.Omega.{arith}
 use lib.ListN.{length, getD, take, drop, length-take, length-drop, drop-of-length-le}
-use lib.Seq.{take-all, take-nil, drop-nil, getD-take, getD-drop, ext-getD}
-use Rattle.codec.specs.Bytes.{littleEndian, part, number, stored}
+use lib.Seq.{take-all, getD-take, getD-drop}
+use Rattle.codec.specs.Bytes.{part, number, stored}
 use Rattle.codec.proofs.Numbers.{number-part}
 use Rattle.codec.proofs.Stores.{length-stored, part-stored, part-before, part-after}
-use Rattle.layout.specs.Fields.{recordLength, Field, get, recordAt, putRecord, capacity}
+use Rattle.layout.specs.Fields.{recordLength, Field, get, recordAt, putRecord}
 
 -- a part that is cut at the end of the string
 drop-clipped : (at : ℕ) (s : List ℕ) → drop (min at (length s)) s ≡ drop at s
@@ -66,18 +66,6 @@ record-put-other i j r b n l h = by-order (decLt j i)
     by-order (yes p) = part-before recordLength (recordLength * j) (recordLength * i) r b (omega arith) (omega arith)
     by-order (no p) = part-after recordLength (recordLength * j) (recordLength * i) r b (omega (arith, p)) (omega arith)
 
--- past the end a record is empty, and every field of it is 0
-pub record-past : (b : List ℕ) (i : ℕ) → length b ≤ recordLength * i → recordAt b i ≡ []
-unfolding recordAt part
-record-past b i h = ap (take recordLength) (drop-of-length-le b h)
-
-pub get-past : (f : Field) (b : List ℕ) (i : ℕ) → length b ≤ recordLength * i → get f (recordAt b i) ≡ 0
-unfolding get number part littleEndian
-get-past f b i h =
-    ap (get f) (record-past b i h)
-    ∙ ap (λ (s : List ℕ). littleEndian (take (f .size) s)) (drop-nil (f .from))
-    ∙ ap littleEndian (take-nil (f .size))
-
 -- a field of a record, as a number of the book
 pub get-record : (f : Field) (b : List ℕ) (i : ℕ) → f .from + f .size ≤ recordLength
     → get f (recordAt b i) ≡ number (f .size) (recordLength * i + f .from) b
@@ -92,16 +80,3 @@ part-byte at w k s h = getD-take w (drop at s) k 0 h ∙ getD-drop at s k 0
 pub byte-record : (b : List ℕ) (i k : ℕ) → k < recordLength → getD (recordAt b i) k 0 ≡ getD b (recordLength * i + k) 0
 unfolding recordAt
 byte-record b i k h = part-byte (recordLength * i) recordLength k b h
-
--- books of one length that agree in every record are one book
-pub records-equal : (b d : List ℕ) → length b ≡ length d → length b % recordLength ≡ 0
-    → ((i : ℕ) → i < capacity b → recordAt b i ≡ recordAt d i) → b ≡ d
-records-equal b d l m h =
-    ext-getD 0 b d l
-    (λ k p.
-    let i : ℕ = k / recordLength in
-    let o : ℕ = k % recordLength in
-    let split : recordLength * i + o ≡ k = omega arith in
-    let below : o < recordLength = omega arith in
-    subst (λ (n : ℕ). getD b n 0 ≡ getD d n 0) split
-    (sym (byte-record b i o below) ∙ ap (λ (r : List ℕ). getD r o 0) (h i (omega arith)) ∙ byte-record d i o below))

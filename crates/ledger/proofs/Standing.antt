@@ -1,7 +1,7 @@
 -- The standing credit of document 01's sentence, "the largest total ..", is given by the credit of a closing, year by
 -- year: it exists, is the only one, and the lapsed credit goes by it.
 use Prim.Native.Nat.{ℕ, zero, suc, _+_, _-_, _≤_}
-use mathlib.Core.Path.{_≡_, refl, sym, _∙_, ap, fun-ext}
+use mathlib.Core.Path.{_≡_, refl, sym, _∙_}
 use mathlib.Core.Bool.{Bool, true, false, cond, true≢false}
 use mathlib.Core.List.{List, [], _∷_}
 use mathlib.Core.Logic.{_⊎_, inl, inr, ⊎-elim}
@@ -11,7 +11,7 @@ use lib.ListN.{take}
 use Rattle.units.proofs.Bools.{or-left, or-right, or-neither}
 use Rattle.accounts.specs.Closing.{liquidates, creditAfter}
 use Rattle.ledger.specs.Ledger.{Item, sumItems}
-use Rattle.ledger.specs.Accounting.{Run, Standing, holdsLiquidation, valueOver, costOver, lapsedOver}
+use Rattle.ledger.specs.Accounting.{Run, Standing, holdsLiquidation, valueOver, costOver}
 
 -- the credit of the closings, one after another from zero on
 unfoldable pub figure : List Item → ℕ
@@ -107,7 +107,3 @@ standing-at-most is k k′ s s′ = ⊎-elim from-zero from-run (s .reached)
 -- .. and there is no other
 pub standing-unique : {is : List Item} {k k′ : ℕ} → Standing is k → Standing is k′ → k ≡ k′
 standing-unique {is} {k} {k′} s s′ = omega (arith, standing-at-most is k k′ s s′, standing-at-most is k′ k s′ s)
-
--- so the lapsed credit is the same by whichever function gives the figure
-pub lapsed-same : (g h : List Item → ℕ) → ((is : List Item) → g is ≡ h is) → (is : List Item) → lapsedOver g is ≡ lapsedOver h is
-lapsed-same g h e is = ap (λ f. lapsedOver f is) (fun-ext e)

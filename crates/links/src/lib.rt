@@ -24,7 +24,7 @@ use view::owner_of;
 
 // LINKS OF A USER
 
-pub fn user_next_fits(book: &[u8], index: RecordIndex) -> bool
+fn user_next_fits(book: &[u8], index: RecordIndex) -> bool
     ensures { λ r. ⌜ r ≡ userNextFits (now (book .entry)) (index .0) ⌝ }
 {
     let next = next_of(book, index);
@@ -55,7 +55,7 @@ pub fn number_is_new(book: &[u8], index: RecordIndex) -> bool
     !taken
 }
 
-pub fn first_entry_fits(book: &[u8], index: RecordIndex) -> bool
+fn first_entry_fits(book: &[u8], index: RecordIndex) -> bool
     ensures { λ r. ⌜ r ≡ firstEntryFits (now (book .entry)) (index .0) ⌝ }
 {
     let first = first_entry_of(book, index);
@@ -64,7 +64,7 @@ pub fn first_entry_fits(book: &[u8], index: RecordIndex) -> bool
 
 // LINKS OF AN ENTRY
 
-pub fn entry_next_fits(book: &[u8], index: RecordIndex) -> bool
+fn entry_next_fits(book: &[u8], index: RecordIndex) -> bool
     ensures { λ r. ⌜ r ≡ entryNextFits (now (book .entry)) (index .0) ⌝ }
 {
     let next = next_of(book, index);
@@ -83,7 +83,7 @@ pub fn owner_fits(book: &[u8], index: RecordIndex) -> bool
 
 // What stands where entries of a year may follow: nothing in the activation year, an advance of that year, or the closing of
 // the year before.
-pub fn in_order(book: &[u8], activation: u16, year: u16, entry: RecordIndex) -> bool
+fn in_order(book: &[u8], activation: u16, year: u16, entry: RecordIndex) -> bool
     ensures { λ r. ⌜ r ≡ inOrder (now (book .entry)) activation year (entry .0) ⌝ }
 {
     if entry.0 == 0 {
@@ -96,7 +96,7 @@ pub fn in_order(book: &[u8], activation: u16, year: u16, entry: RecordIndex) -> 
     }
 }
 
-pub fn first_in_order(book: &[u8], index: RecordIndex) -> bool
+fn first_in_order(book: &[u8], index: RecordIndex) -> bool
     ensures { λ r. ⌜ r ≡ firstInOrder (now (book .entry)) (index .0) ⌝ }
 {
     in_order(
@@ -107,7 +107,7 @@ pub fn first_in_order(book: &[u8], index: RecordIndex) -> bool
     )
 }
 
-pub fn next_in_order(book: &[u8], index: RecordIndex) -> bool
+fn next_in_order(book: &[u8], index: RecordIndex) -> bool
     ensures { λ r. ⌜ r ≡ nextInOrder (now (book .entry)) (index .0) ⌝ }
 {
     let activation = activation_of(book, owner_of(book, index));
@@ -122,7 +122,7 @@ pub fn next_in_order(book: &[u8], index: RecordIndex) -> bool
 // FAULTS
 
 // Whether a user's number is new comes from the caller, who knows it of all users.
-pub fn links_fit(book: &[u8], index: RecordIndex, new: bool) -> bool
+fn links_fit(book: &[u8], index: RecordIndex, new: bool) -> bool
     requires { ⌜ (kindAt (now book) (index .0) ≡ userKind → new ≡ numberIsNew (now book) (index .0)) ⌝ }
     ensures { λ r. ⌜ r ≡ linksFit (now (book .entry)) (index .0) ⌝ }
 {

@@ -1,12 +1,11 @@
 -- The search from the last record down: what is left behind does not bear the number.
-use Prim.Native.Nat.{ℕ, suc, _+_, _-_, _≤_, _<_}
+use Prim.Native.Nat.{ℕ, suc, _-_, _≤_, _<_}
 use mathlib.Core.Path.{_≡_, sym, ap, _∙_}
 use mathlib.Core.Bool.{Bool, true, false, cond, _&&_}
 use mathlib.Core.List.{List}
 use native.Mathlib.Omega.{arith}
 use borrow.Author.Tests.{lt-ltb}
-use lib.Dec.{eqb, ltb}
-use Rattle.units.specs.declared.RecordIndex.{RecordIndex}
+use lib.Dec.{eqb}
 use Rattle.units.specs.declared.UserNumber.{UserNumber}
 use Rattle.units.specs.Units.{recordIndex, userNumber}
 use Rattle.layout.specs.Fields.{recordAt, get, kindField, numberField, userKind}

@@ -7,7 +7,7 @@ use native.Mathlib.Omega.{arith}
 use borrow.Author.Count.{below-more}
 use lib.ListN.{length, getD, set, length-set}
 use lib.Seq.{getD-set-same, getD-set-other}
-use Rattle.numbers.specs.Held.{probe, HeldAt, Held, stands, Inserted}
+use Rattle.numbers.specs.Held.{probe, Held, stands, Inserted}
 
 -- what was seen at the first k places that are tried: none is empty, and none has the number
 pub record Passed (t : List ℕ) (n k : ℕ) : Type 0 where

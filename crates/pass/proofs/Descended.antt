@@ -31,7 +31,7 @@ pub record Sought (b : List ℕ) (n left found : ℕ) : Type 0 where
   pub small : found ≤ mostRecords
   pub same : cond (eqb found 0) (findBelow b n left) found ≡ findUser b n
 
-pub sought-first : (b : List ℕ) (n : ℕ) {left : ℕ} → left ≡ used b → Sought b n left 0
+sought-first : (b : List ℕ) (n : ℕ) {left : ℕ} → left ≡ used b → Sought b n left 0
 unfolding findUser
 sought-first b n l = record { small = omega arith; same = ap (findBelow b n) l }
 

@@ -9,7 +9,7 @@ use lib.ListN.{length}
 use Rattle.units.specs.Units.{ticks, recordIndex}
 use Rattle.layout.specs.Fields.{recordLength, get, allZero, unnamedOfAdvance, image, advanceKind, kindField, nextField, ownerField, runField, ticksField, yearField}
 use Rattle.layout.proofs.Cells.{cellAt, length-image, read-image, unnamed-image}
-use Rattle.layout.proofs.ByteRanges.{Bytes, bytes-image, get-below}
+use Rattle.layout.proofs.ByteRanges.{Bytes, bytes-image}
 use Rattle.records.specs.declared.AdvanceRecord.{AdvanceRecord}
 use Rattle.records.specs.Records.{advanceCells, advanceImage, advanceIn}
 
@@ -62,7 +62,7 @@ module _ (a : AdvanceRecord) where
       }
 
 -- a record whose fields read so holds the value
-pub advance-decoded : (a : AdvanceRecord) (r : List ℕ) → AdvanceReads a r → advanceIn r ≡ a
+advance-decoded : (a : AdvanceRecord) (r : List ℕ) → AdvanceReads a r → advanceIn r ≡ a
 unfolding advanceIn
 advance-decoded a r h =
     λ i.
@@ -77,15 +77,3 @@ advance-decoded a r h =
 -- reading gives back what was written
 pub advance-back : (a : AdvanceRecord) → AdvanceFits a → advanceIn (advanceImage a) ≡ a
 advance-back a h = advance-decoded a (advanceImage a) (advance-reads a h)
-
--- what is read from bytes fits
-pub advance-in-fits : (r : List ℕ) → Bytes r → AdvanceFits (advanceIn r)
-unfolding advanceIn
-advance-in-fits r h =
-    record {
-      next = get-below nextField r h;
-      run = get-below runField r h;
-      year = get-below yearField r h;
-      ticks = get-below ticksField r h;
-      owner = get-below ownerField r h;
-    }

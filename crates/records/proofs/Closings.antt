@@ -9,7 +9,7 @@ use lib.ListN.{length}
 use Rattle.units.specs.Units.{ticks, recordIndex}
 use Rattle.layout.specs.Fields.{recordLength, get, allZero, unnamedOfClosing, image, closingKind, balanceField, closingOptionField, contributionField, costField, flatRateField, kindField, lapsedField, liquidationField, nextField, ownerField, valueField, yearField}
 use Rattle.layout.proofs.Cells.{cellAt, length-image, read-image, unnamed-image}
-use Rattle.layout.proofs.ByteRanges.{Bytes, bytes-image, get-below}
+use Rattle.layout.proofs.ByteRanges.{Bytes, bytes-image}
 use Rattle.records.specs.declared.ClosingRecord.{ClosingRecord}
 use Rattle.records.specs.Records.{closingCells, closingImage, closingIn}
 
@@ -80,7 +80,7 @@ module _ (c : ClosingRecord) where
       }
 
 -- a record whose fields read so holds the value
-pub closing-decoded : (c : ClosingRecord) (r : List ℕ) → ClosingReads c r → closingIn r ≡ c
+closing-decoded : (c : ClosingRecord) (r : List ℕ) → ClosingReads c r → closingIn r ≡ c
 unfolding closingIn
 closing-decoded c r h =
     λ i.
@@ -104,21 +104,3 @@ closing-decoded c r h =
 -- reading gives back what was written
 pub closing-back : (c : ClosingRecord) → ClosingFits c → closingIn (closingImage c) ≡ c
 closing-back c h = closing-decoded c (closingImage c) (closing-reads c h)
-
--- what is read from bytes fits
-pub closing-in-fits : (r : List ℕ) → Bytes r → ClosingFits (closingIn r)
-unfolding closingIn
-closing-in-fits r h =
-    record {
-      next = get-below nextField r h;
-      option = get-below closingOptionField r h;
-      year = get-below yearField r h;
-      value = get-below valueField r h;
-      cost = get-below costField r h;
-      «flat_rate» = get-below flatRateField r h;
-      contribution = get-below contributionField r h;
-      liquidation = get-below liquidationField r h;
-      lapsed = get-below lapsedField r h;
-      balance = get-below balanceField r h;
-      owner = get-below ownerField r h;
-    }

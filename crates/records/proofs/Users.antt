@@ -9,7 +9,7 @@ use lib.ListN.{length}
 use Rattle.units.specs.Units.{kwh, ticks, userNumber, recordIndex}
 use Rattle.layout.specs.Fields.{recordLength, get, allZero, unnamedOfUser, image, userKind, activationMonthField, activationYearField, advancesField, classField, creditField, firstEntryField, half1Field, half2Field, islandField, kindField, nextField, numberField, openYearField, optionField, plantField, powerField, runsField}
 use Rattle.layout.proofs.Cells.{cellAt, length-image, read-image, unnamed-image}
-use Rattle.layout.proofs.ByteRanges.{Bytes, bytes-image, get-below}
+use Rattle.layout.proofs.ByteRanges.{Bytes, bytes-image}
 use Rattle.records.specs.declared.UserRecord.{UserRecord}
 use Rattle.records.specs.Records.{userCells, userImage, userIn, accountIn}
 
@@ -119,7 +119,7 @@ account-read r u h =
     }
 
 -- a record whose fields read so holds the value
-pub user-decoded : (u : UserRecord) (r : List ℕ) → UserReads u r → userIn r ≡ u
+user-decoded : (u : UserRecord) (r : List ℕ) → UserReads u r → userIn r ≡ u
 unfolding userIn
 user-decoded u r h =
     λ i.
@@ -132,26 +132,3 @@ user-decoded u r h =
 -- reading gives back what was written
 pub user-back : (u : UserRecord) → UserFits u → userIn (userImage u) ≡ u
 user-back u h = user-decoded u (userImage u) (user-reads u h)
-
--- what is read from bytes fits
-pub user-in-fits : (r : List ℕ) → Bytes r → UserFits (userIn r)
-unfolding userIn accountIn
-user-in-fits r h =
-    record {
-      next = get-below nextField r h;
-      class = get-below classField r h;
-      plant = get-below plantField r h;
-      option = get-below optionField r h;
-      number = get-below numberField r h;
-      first = get-below firstEntryField r h;
-      power = get-below powerField r h;
-      year = get-below activationYearField r h;
-      month = get-below activationMonthField r h;
-      island = get-below islandField r h;
-      «open_year» = get-below openYearField r h;
-      runs = get-below runsField r h;
-      credit = get-below creditField r h;
-      advances = get-below advancesField r h;
-      half1 = get-below half1Field r h;
-      half2 = get-below half2Field r h;
-    }

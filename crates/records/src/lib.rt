@@ -57,7 +57,7 @@ fn read_details(r: &[u8]) -> Details
     }
 }
 
-pub fn account_of(r: &[u8]) -> Account
+fn account_of(r: &[u8]) -> Account
     ensures { λ a. ⌜ a ≡ accountIn (now (r .entry)) ⌝ }
 {
     Account {

@@ -1,10 +1,10 @@
 -- Refusal 9, by its first tests: where they fail it is decided, where they hold the run is one of the open year.
 use Prim.Native.Nat.{ℕ, _<_}
-use mathlib.Core.Path.{_≡_, refl, sym, ap, _∙_}
+use mathlib.Core.Path.{_≡_, sym, _∙_}
 use mathlib.Core.Bool.{Bool, true, false, not, _&&_, _||_}
 use native.Mathlib.Decide.{decLt}
 use native.Mathlib.Omega.{arith}
-use borrow.Author.Tests.{eqb-true, eq-eqb, ne-eqb}
+use borrow.Author.Tests.{eqb-true}
 use lib.Dec.{eqb, leb}
 use Rattle.units.specs.Limits.{lastActivation}
 use Rattle.units.proofs.Bools.{and-left, and-right}

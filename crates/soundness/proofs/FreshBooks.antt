@@ -17,7 +17,7 @@ use Rattle.book.proofs.Lengths.{length-least}
 use Rattle.book.proofs.Faults.{good-sound}
 
 module _ (n : ℕ) (least : recordLength ≤ n) where
-  pub length-fresh : length (freshBook n) ≡ n
+  length-fresh : length (freshBook n) ≡ n
   unfolding freshBook
   length-fresh = let l : length {A = ℕ} (replicate (n - 1) 0) ≡ n - 1 = length-replicate (n - 1) 0 in omega arith
 
@@ -37,7 +37,7 @@ module _ (n : ℕ) (least : recordLength ≤ n) where
       ∙ number-four 0 (freshBook n)
       ∙ omega (arith, byte-one, byte-zero 1 (omega arith) (omega arith), byte-zero 2 (omega arith) (omega arith), byte-zero 3 (omega arith) (omega arith))
 
-  pub first-user-fresh : firstUser (freshBook n) ≡ 0
+  first-user-fresh : firstUser (freshBook n) ≡ 0
   unfolding firstUser
   first-user-fresh =
       get-record firstUserField (freshBook n) 0 (omega arith)
@@ -60,7 +60,7 @@ module _ (n : ℕ) (least : recordLength ≤ n) where
   unfolding goodHead
   head-fresh = rw (first-user-fresh, rest-fresh)
 
-  pub fresh-sound : sound (freshBook n) ≡ true
+  fresh-sound : sound (freshBook n) ≡ true
   fresh-sound = good-sound (freshBook n) used-fits-fresh head-fresh (λ i p h. let z : ⊥ = omega (arith, used-fresh) in absurd z)
 
 fits-fresh : (b : List ℕ) → lengthFits b ≡ true → lengthFits (freshBook (length b)) ≡ true

@@ -2,7 +2,7 @@
 -- smaller index. A record that has neither is faulty by itself. So where every index before `bad` has had its turn, every record
 -- before `bad` was judged.
 use Prim.Native.Nat.{ℕ, _+_, _-_, _≤_, _<_}
-use mathlib.Core.Path.{_≡_, refl, sym, ap, _∙_}
+use mathlib.Core.Path.{_≡_, refl, sym, _∙_}
 use mathlib.Core.Bool.{Bool, true, false, cond, not, _&&_, true≢false, false≢true}
 use mathlib.Core.Logic.{_⊎_, inl, inr}
 use mathlib.Core.List.{List}
@@ -13,7 +13,7 @@ use borrow.Author.Tests.{eq-eqb, ne-eqb, ltb-false}
 use lib.Dec.{eqb, ltb}
 use Rattle.units.proofs.Bools.{and-left, and-right}
 use Rattle.layout.specs.Fields.{userKind}
-use Rattle.book.specs.Book.{used, kindAt, isUser, isEntry, ownerOf, ownerFits, goodRecord}
+use Rattle.book.specs.Book.{used, isUser, isEntry, ownerOf, ownerFits, goodRecord}
 use Rattle.book.proofs.Faults.{ownerless-bad}
 use Rattle.soundness.specs.Verdicts.{RecordsJudged}
 use Rattle.book.proofs.Faultless.{owner-before, good-known}
@@ -40,7 +40,7 @@ home-other b bad j n o =
     record { user = λ u. absurd (true≢false (sym u ∙ n)); entries = λ u. absurd (true≢false (sym u ∙ n)); owned = λ _. o }
 
 -- a smaller faulty record asks for less
-pub home-sooner : (b : List ℕ) (bad sooner j : ℕ) → sooner ≤ bad → Home b bad j → Home b sooner j
+home-sooner : (b : List ℕ) (bad sooner j : ℕ) → sooner ≤ bad → Home b bad j → Home b sooner j
 home-sooner b bad sooner j l h = record { user = h .user; entries = λ u e p q k. h .entries u e p q (omega arith); owned = h .owned }
 
 -- every index before i has had its turn
@@ -51,7 +51,7 @@ pub homes-sooner : (b : List ℕ) (bad sooner i : ℕ) → sooner ≤ bad → Ho
 homes-sooner b bad sooner i l homes j p h = home-sooner b bad sooner j l (homes j p h)
 
 -- so that every record before both i and `bad` is good
-pub homes-good : (b : List ℕ) (bad i : ℕ) → i ≤ used b → Homes b bad i → (k : ℕ) → 1 ≤ k → k < i → k < bad → goodRecord b k ≡ true
+homes-good : (b : List ℕ) (bad i : ℕ) → i ≤ used b → Homes b bad i → (k : ℕ) → 1 ≤ k → k < i → k < bad → goodRecord b k ≡ true
 homes-good b bad i within homes k p h m = by-user (isUser b k) refl
   where
     at-owner : isEntry b k ≡ true → isUser b (ownerOf b k) ≡ true → ownerOf b k < k → goodRecord b k ≡ true
@@ -138,7 +138,7 @@ module _ (b : List ℕ) (bad user e : ℕ) (met : EntriesMet b bad user e) (some
   entries-left sooner l m k p q under = met .fine k p q (inr (omega arith)) (omega arith)
 
 -- all entries are met
-pub entries-all : (b : List ℕ) (bad user e : ℕ) → EntriesMet b bad user e → e ≡ 0 → (k : ℕ) → user < k → owns b user k ≡ true → Fine b bad k
+entries-all : (b : List ℕ) (bad user e : ℕ) → EntriesMet b bad user e → e ≡ 0 → (k : ℕ) → user < k → owns b user k ≡ true → Fine b bad k
 entries-all b bad user e met end k p q = met .fine k p q (inl end)
 
 -- the entries are left at their end, or at one that is not before `bad`

@@ -1,5 +1,5 @@
 -- The walk over a user's chain in a sound book: how it begins, what each turn keeps, and what it ends with.
-use Prim.Native.Nat.{ℕ, _<_}
+use Prim.Native.Nat.{ℕ}
 use mathlib.Core.Path.{_≡_, refl, sym, ap, _∙_, subst}
 use mathlib.Core.Bool.{true}
 use mathlib.Core.Logic.{⊎-elim}

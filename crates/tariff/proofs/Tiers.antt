@@ -1,10 +1,9 @@
 -- The parts of a stretch that is cut at three rising bounds sum to it, since what lies between two bounds and what lies above
 -- the second make what lies above the first.
 use Prim.Native.Nat.{ℕ, zero-le, _+_, _-_, _≤_}
-use mathlib.Core.Path.{_≡_, refl, ap, _∙_}
+use mathlib.Core.Path.{_≡_, refl, ap}
 use mathlib.Core.List.{List, [], _∷_, map}
 use native.Mathlib.Omega.{arith}
-use Rattle.units.specs.declared.Kwh.{Kwh}
 use Rattle.units.specs.Units.{kwh}
 use Rattle.units.specs.Folds.{sumBelow}
 use Rattle.tariff.specs.Tariff.{between, above, tiers, numbers, tierSum}
@@ -32,10 +31,6 @@ first-tier-sum e = omega arith
 pub numbers-kwh : (parts : List ℕ) → numbers (map kwh parts) ≡ parts
 numbers-kwh [] = refl
 numbers-kwh (p ∷ parts) = ap (λ (ps : List ℕ). p ∷ ps) (numbers-kwh parts)
-
--- the energies that the program holds for some parts have the parts' sum
-pub sum-of-parts : {energies : List Kwh} (parts : List ℕ) → energies ≡ map kwh parts → tierSum (numbers energies) ≡ tierSum parts
-sum-of-parts parts q = ap (λ (es : List Kwh). tierSum (numbers es)) q ∙ ap tierSum (numbers-kwh parts)
 
 -- the program's four parts, each as the definition has it
 pub cut-parts :

@@ -70,7 +70,7 @@ fn above(low: Kwh, high: Kwh, a: Kwh) -> Kwh
 
 // The exchanged energy cut at three rising bounds: "Withdrawal beyond E fills the lowest tiers, so E lies from W − E to W
 // and is cut at the bounds."
-pub fn cut(withdrawn: Kwh, exchanged: Kwh, first: Kwh, second: Kwh, third: Kwh) -> [Kwh; 4]
+fn cut(withdrawn: Kwh, exchanged: Kwh, first: Kwh, second: Kwh, third: Kwh) -> [Kwh; 4]
     requires { ⌜ exchanged .0 ≤ withdrawn .0 ⌝ }
     requires { ⌜ (first .0 ≤ second .0) × (second .0 ≤ third .0) ⌝ }
     ensures { λ r. ⌜ r ≡ map kwh (tiers (first .0) (second .0) (third .0) (withdrawn .0) (exchanged .0)) ⌝ }

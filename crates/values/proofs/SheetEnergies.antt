@@ -27,7 +27,7 @@ pub months-capped : (f : ℕ → ℕ) (a : List Kwh) (cap : ℕ) → Months f a 
 months-capped f a cap h k m l = subst (λ (x : Kwh). x .0 ≤ cap) (sym (h m l)) (k m l)
 
 -- sums and tests over the arrays are those over the sheet
-pub sum-over : (f : ℕ → ℕ) (a : List Kwh) → Months f a → (from n : ℕ) → from + n ≤ 12
+sum-over : (f : ℕ → ℕ) (a : List Kwh) → Months f a → (from n : ℕ) → from + n ≤ 12
     → sumBelow n (λ i. energyAt (from + i) a) ≡ sumBelow n (λ i. f (from + i))
 sum-over f a h from n l =
     sum-cong n (λ i. energyAt (from + i) a) (λ i. f (from + i)) (λ i b. ap (λ (k : Kwh). k .0) (h (from + i) (omega arith)))

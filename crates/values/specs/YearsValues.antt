@@ -1,7 +1,7 @@
 -- "Year's values" of document 01: exchanged energy, F and the halves of a year sheet, and all its values by a user's
 -- details.
 use Prim.Native.Nat.{ℕ, _+_, _*_, _≤_, min}
-use mathlib.Core.Bool.{Bool, true, false, cond}
+use mathlib.Core.Bool.{Bool, cond}
 use mathlib.Core.List.{List}
 use lib.Dec.{ltb, eqb}
 use Rattle.units.specs.Units.{ticks, kwh}

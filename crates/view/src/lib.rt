@@ -44,7 +44,7 @@ pub fn kind_at(book: &[u8], index: RecordIndex) -> u8
     layout::kind_of(record(book, index))
 }
 
-pub fn has_kind(book: &[u8], kind: u8, index: RecordIndex) -> bool
+fn has_kind(book: &[u8], kind: u8, index: RecordIndex) -> bool
     ensures { λ r. ⌜ r ≡ hasKind (now (book .entry)) kind (index .0) ⌝ }
 {
     ((0 < index.0) & (index.0 < used(book))) & (kind_at(book, index) == kind)

@@ -1,25 +1,24 @@
 -- What a change makes of the user that it is for, by the way it writes; and that it leaves every other user.
-use Prim.Native.Nat.{ℕ, _+_, _≤_, _<_}
-use mathlib.Core.Path.{_≡_, refl, ap, ap₂, sym, _∙_, subst}
-use mathlib.Core.Bool.{Bool, true, false, cond, false≢true}
+use Prim.Native.Nat.{ℕ, _<_}
+use mathlib.Core.Path.{_≡_, refl, ap, sym, _∙_, subst}
+use mathlib.Core.Bool.{Bool, true, false}
 use mathlib.Core.Logic.{_⊎_, inl, inr, ⊎-elim}
 use mathlib.Core.List.{List, [], _∷_}
-use mathlib.Core.Option.{Option, none, some}
+use mathlib.Core.Option.{none, some}
 use native.Mathlib.Decide.{decLt}
 use native.Mathlib.Omega.{arith}
 use borrow.Author.Tests.{ne-eqb, eqb-true, eqb-false}
 use lib.Dec.{eqb}
 use Rattle.accounts.specs.declared.Account.{Account}
-use Rattle.layout.specs.Fields.{recordAt, userKind}
+use Rattle.layout.specs.Fields.{userKind}
 use Rattle.records.specs.Records.{accountIn}
-use Rattle.records.specs.Entries.{Entry, entryIn}
-use Rattle.book.specs.Book.{used, isUser, isEntry, numberOf, nextOf, firstEntryOf, accountAt}
+use Rattle.records.specs.Entries.{Entry}
+use Rattle.book.specs.Book.{used, isUser, numberOf, nextOf, firstEntryOf, accountAt}
 use Rattle.book.specs.Chains.{chainFrom, entriesOf}
 use Rattle.book.specs.Find.{findUser}
 use Rattle.book.proofs.RecordKinds.{has-kind, kind-index, not-both}
 use Rattle.book.proofs.Faultless.{Faultless}
 use Rattle.chains.proofs.Chain.{chain-none}
-use Rattle.chains.proofs.Links.{Owned}
 use Rattle.calls.specs.Changes.{Change, nothing, opens, sets, enters}
 use Rattle.bookings.proofs.Good.{Good, sizes}
 use Rattle.bookings.proofs.Frame.{Frame}
@@ -29,7 +28,7 @@ use Rattle.bookings.proofs.Enrolment.{NewAccount, Enrolled}
 use Rattle.bookings.proofs.Rewriting.{Rewritten}
 use Rattle.bookings.proofs.Entries.{Entered}
 use Rattle.bookings.proofs.Changes.{EntryIs, Changed, unchanged, opened, set, entered}
-use Rattle.views.specs.Views.{View, viewIs, entriesIn, viewAt, viewOf, viewAfter}
+use Rattle.views.specs.Views.{viewIs, entriesIn, viewAt, viewOf, viewAfter}
 use Rattle.views.proofs.Found.{found-is, nowhere}
 use Rattle.views.proofs.Histories.{entries-kept, first-kept, account-kept, entry-joins}
 

@@ -3,13 +3,12 @@ use Prim.Native.Nat.{ℕ, _+_}
 use mathlib.Core.Path.{_≡_, refl, ap, sym, _∙_, subst}
 use mathlib.Core.Bool.{Bool, true, false, cond, not}
 use mathlib.Core.List.{List}
-use mathlib.Core.Option.{Option}
-use borrow.Author.Tests.{eqb-true, eqb-false, not-true}
+use borrow.Author.Tests.{eqb-true, eqb-false}
 use lib.Dec.{eqb}
 use lib.ListN.{length}
 use Rattle.sheet.specs.YearSheet.{sheetUser}
 use Rattle.accounts.specs.declared.Account.{Account}
-use Rattle.book.specs.Book.{used, accountAt}
+use Rattle.book.specs.Book.{used}
 use Rattle.book.specs.Find.{findUser}
 use Rattle.calls.specs.Rules.{testOf}
 use Rattle.calls.specs.Refusals.{lookAt, userAt}
@@ -18,14 +17,14 @@ use Rattle.calls.specs.Calls.{Call, enrol, elect, advance, close, statement, na
 use Rattle.calls.specs.Typed.{Typed}
 use Rattle.calls.proofs.Orders.{fact}
 use Rattle.bookings.proofs.Good.{Good}
-use Rattle.bookings.proofs.Changes.{Changed, adds}
+use Rattle.bookings.proofs.Changes.{adds}
 use Rattle.bookings.proofs.CallsFit.{named-user}
 use Rattle.bookings.proofs.EveryCall.{call-made, call-keeps}
-use Rattle.views.specs.Views.{View, viewAt, viewOf, viewAfter, accountOf, stepOf}
+use Rattle.views.specs.Views.{viewOf, viewAfter, accountOf, stepOf}
 use Rattle.views.proofs.Kept.{view-is, For, for-another, own-view, other-view}
 
 -- the account of a number that is there
-pub held-account : (b : List ℕ) → Good b → (n : ℕ) → not (eqb (findUser b n) 0) ≡ true → accountOf (viewOf b n) ≡ userAt b n
+held-account : (b : List ℕ) → Good b → (n : ℕ) → not (eqb (findUser b n) 0) ≡ true → accountOf (viewOf b n) ≡ userAt b n
 unfolding accountOf
 held-account b g n there =
     let u = named-user b n there in

@@ -1,10 +1,5 @@
 -- The rule, over the halves made.
-use mathlib.Core.Path.{_≡_, ap}
-use native.Mathlib.Omega.{arith}
-use Prim.Native.Nat.{ℕ, _+_, _*_}
-use lib.Dec.{leb}
-use Rattle.units.specs.Limits.{maxHalfTicks}
-use Rattle.book.specs.Book.{advancesFit, halvesMade}
+use Rattle.book.specs.Book.{advancesFit}
 use borrow.Author.Needs.{needs}
 use Rattle.book.proofs.advances_fit.Statement.{statement}
 use Rattle.book.proofs.advances_fit.Tie as tie

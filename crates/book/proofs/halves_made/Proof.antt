@@ -1,6 +1,5 @@
 -- By whether the run is booked.
 use mathlib.Core.Path.{_∙_, ap, sym}
-use native.Mathlib.Omega.{arith}
 use Rattle.calendar.specs.ElectionAndAdvances.{halvesCount}
 use Rattle.calendar.proofs.Amounts.{halves-at-most}
 use Rattle.book.specs.Book.{halvesMade}

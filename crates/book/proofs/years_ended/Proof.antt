@@ -1,5 +1,5 @@
 -- By whether the kind is a closing's.
-use borrow.Author.Tests.{eq-eqb, ne-eqb}
+use borrow.Author.Tests.{ne-eqb}
 use Rattle.layout.specs.Fields.{closingKind}
 use Rattle.book.specs.Book.{yearsEnded}
 use Rattle.book.proofs.years_ended.Statement.{statement}

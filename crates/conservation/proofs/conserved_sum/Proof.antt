@@ -1,6 +1,5 @@
 -- Step by step.
 use Rattle.conservation.proofs.Sizes.{paid-room, kept-room, liquidated-room, lapsed-room, credit-room, summed}
-use borrow.Author.Needs.{needs}
 use Rattle.conservation.proofs.conserved_sum.Statement.{statement}
 use Rattle.conservation.proofs.conserved_sum.Tie as tie
 

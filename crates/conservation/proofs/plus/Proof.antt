@@ -2,7 +2,6 @@
 use mir.Syntax.{w64}
 use mir.Val.{toZ}
 use Rattle.conservation.proofs.Sizes.{plus-room, plus-is}
-use borrow.Author.Needs.{needs}
 use Rattle.conservation.proofs.plus.Statement.{statement}
 use Rattle.conservation.proofs.plus.Tie as tie
 

@@ -1,7 +1,6 @@
 -- By the entry.
 use denote.Ref.{now}
 use Rattle.history.proofs.Years.{without, with-closing}
-use borrow.Author.Needs.{needs}
 use Rattle.history.proofs.next_credit.Statement.{statement}
 use Rattle.history.proofs.next_credit.Tie as tie
 

@@ -1,5 +1,5 @@
 -- Each stretch of zeros of the list.
-use mathlib.Core.Path.{_≡_, sym, _∙_}
+use mathlib.Core.Path.{sym, _∙_}
 use mathlib.Core.Bool.{and-true}
 use Rattle.layout.specs.Fields.{allZero}
 use borrow.Author.Needs.{needs}

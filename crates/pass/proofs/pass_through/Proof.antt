@@ -1,12 +1,12 @@
 -- Taken up again below a record that is not good, until none is met.
 use Prim.Native.Nat.{ℕ, _≤_, _<_}
-use mathlib.Core.Path.{_≡_, refl, sym, ap, subst, _∙_}
+use mathlib.Core.Path.{_≡_, refl, sym, _∙_}
 use mathlib.Core.Bool.{true, false}
 use mathlib.Core.List.{List}
 use native.Mathlib.Omega.{arith}
 use denote.Ref.{now}
 use lib.ListN.{length}
-use Rattle.book.specs.Book.{used, usedFits, ownRulesFit, goodRecord}
+use Rattle.book.specs.Book.{used, ownRulesFit, goodRecord}
 use Rattle.book.proofs.Faults.{used-within}
 use Rattle.pass.specs.declared.Passed.{Passed}
 use Rattle.pass.specs.Steps.{PassedOver, Broken}
