@@ -1,3 +1,4 @@
 pub mod Months
 pub mod Years
 pub mod Writing
+pub mod Calls
