@@ -13,7 +13,7 @@ use Rattle.sheet.proofs.Limits.{form-length}
 use Rattle.sheet_losses.specs.declared.Raised.{Raised}
 use Rattle.sheet_losses.specs.declared.Bands.{Bands}
 use Rattle.sheet_losses.specs.declared.Worked.{Worked}
-use Rattle.sheet_losses.specs.Losses.{maxFactor, raisedReading, injectedPlace, threeReadings, withInjected, raisedSheet, monthAbove, someAbove, refusalOf, answerOf, sheetAfter}
+use Rattle.sheet_losses.specs.Losses.{maxFactor, raisedReading, injectedPlace, threeReadings, withInjected, raisedSheet, monthAbove, someAbove, refusalOf, decembersRests, answerOf, raisedAfter}
 use Rattle.sheet_losses.specs.Steps.{byBand, inBand, narrowedTo, raisedBands, noBands, readingsIn, WorkedOut}
 
 -- readings that are the same in each band make the same sheet
@@ -47,6 +47,15 @@ module _ (factor : ℕ) (s : List ℕ) (accepted : refusalOf factor s ≡ 0) whe
   pub accepted-within : someAbove factor s ≡ false
   accepted-within = passed .1
 
+  pub accepted-rests : answerOf factor s .rests ≡ decembersRests factor s
+  unfolding answerOf
+  accepted-rests = rw accepted
+
+-- a refused call leaves the sheet
+pub refused-leaves : (factor : ℕ) (s : List ℕ) → (refusalOf factor s ≡ 0 → ⊥) → raisedAfter factor s ≡ s
+unfolding raisedAfter
+refused-leaves factor s other = rw (ne-eqb (refusalOf factor s) 0 other)
+
 -- WHAT THE CALL ANSWERS AND LEAVES
 module _ (factor : ℕ) (s : List ℕ) {w : Worked} (out : WorkedOut factor s (refusalOf factor s) w) where
   refusal-is : w .answer .refusal ≡ refusalOf factor s
@@ -56,9 +65,8 @@ module _ (factor : ℕ) (s : List ℕ) {w : Worked} (out : WorkedOut factor s (r
   unfolding answerOf
   answered = out .answered
 
-  pub refused-call : (w .answer .refusal ≡ 0 → ⊥) → (w .answer ≡ answerOf factor s) × (s ≡ sheetAfter factor s)
-  unfolding sheetAfter
-  refused-call other = (answered, rw (ne-eqb (refusalOf factor s) 0 (λ e. other (refusal-is ∙ e))))
+  pub refused-call : (w .answer .refusal ≡ 0 → ⊥) → (w .answer ≡ answerOf factor s) × (s ≡ raisedAfter factor s)
+  refused-call other = (answered, sym (refused-leaves factor s (λ e. other (refusal-is ∙ e))))
 
   module _ (zero-answered : w .answer .refusal ≡ 0) where
     accepted : refusalOf factor s ≡ 0
@@ -73,7 +81,7 @@ module _ (factor : ℕ) (s : List ℕ) {w : Worked} (out : WorkedOut factor s (r
         let e = out .months accepted m l in
         three-cong (readingsIn (w .months) m) (raisedReading factor s m) (ap (λ (b : Bands). inBand b 0) e) (ap (λ (b : Bands). inBand b 1) e) (ap (λ (b : Bands). inBand b 2) e)
 
-    pub accepted-call : {t : List ℕ} → t ≡ withInjected (readingsIn (w .months)) s 12 → (w .answer ≡ answerOf factor s) × (t ≡ sheetAfter factor s)
-    unfolding sheetAfter raisedSheet
+    pub accepted-call : {t : List ℕ} → t ≡ withInjected (readingsIn (w .months)) s 12 → (w .answer ≡ answerOf factor s) × (t ≡ raisedAfter factor s)
+    unfolding raisedAfter raisedSheet
     accepted-call e =
         (answered, rw (eq-eqb (refusalOf factor s) 0 accepted) (e ∙ same-months (readingsIn (w .months)) (raisedReading factor s) s 12 same-readings))

@@ -18,7 +18,7 @@ use Rattle.codec.proofs.ByteRanges.{Bytes, bytes-back}
 use Rattle.codec.proofs.Parts.{part-first, part-second, part-add}
 use Rattle.codec.proofs.Stores.{length-stored, part-before, part-within, byte-before, byte-after, stored-same}
 use Rattle.sheet.specs.YearSheet.{sheetLength, word, injected}
-use Rattle.sheet_losses.specs.Losses.{restTo, raised, bandOf, raisedReading, decembersRest, injectedPlace, threeReadings, withInjected, raisedSheet, readingAbove, monthAbove, someAbove, refusalOf, sheetAfter}
+use Rattle.sheet_losses.specs.Losses.{restTo, raised, bandOf, raisedReading, decembersRest, injectedPlace, threeReadings, withInjected, raisedSheet, readingAbove, monthAbove, someAbove, refusalOf, raisedAfter}
 use Rattle.sheet_losses.specs.Laws.{YearKept, Elsewhere, RaisedWell, Accepted}
 use Rattle.sheet_losses.proofs.Writing.{length-three}
 use Rattle.sheet_losses.proofs.Calls.{accepted-length, accepted-within}
@@ -128,8 +128,8 @@ module _ (factor : ℕ) (s : List ℕ) (accepted : refusalOf factor s ≡ 0) whe
   long : length s ≡ sheetLength
   long = accepted-length factor s accepted
 
-  after : sheetAfter factor s ≡ raisedSheet factor s
-  unfolding sheetAfter
+  after : raisedAfter factor s ≡ raisedSheet factor s
+  unfolding raisedAfter
   after = rw (eq-eqb (refusalOf factor s) 0 accepted)
 
   fits : (m : ℕ) → m < 12 → (band : ℕ) → band < 3 → raisedReading factor s m band < 2 ^ 32
@@ -139,7 +139,7 @@ module _ (factor : ℕ) (s : List ℕ) (accepted : refusalOf factor s ≡ 0) whe
       let within = ltb-false maxKwh (raisedReading factor s m band) (none-at 3 (readingAbove factor s m) month band b) in
       omega arith
 
-  readings : (m : ℕ) → m < 12 → (band : ℕ) → band < 3 → injected (sheetAfter factor s) m band ≡ raised factor (bandOf s band) m
+  readings : (m : ℕ) → m < 12 → (band : ℕ) → band < 3 → injected (raisedAfter factor s) m band ≡ raised factor (bandOf s band) m
   unfolding raisedSheet raisedReading
   readings m l band b = rw after (written-reading (raisedReading factor s) s long m l band b (fits m l band b))
 
@@ -148,7 +148,7 @@ module _ (factor : ℕ) (s : List ℕ) (accepted : refusalOf factor s ≡ 0) whe
   raised-well =
       record {
         bands = λ band b.
-            rw (sum-cong 12 (λ m. injected (sheetAfter factor s) m band) (raised factor (bandOf s band)) (λ m l. readings m l band b))
+            rw (sum-cong 12 (λ m. injected (raisedAfter factor s) m band) (raised factor (bandOf s band)) (λ m l. readings m l band b))
             (year-kept factor (bandOf s band) 12);
         long = ap length after ∙ written-length (raisedReading factor s) s long 12 (omega arith);
         others = λ k e. ap (λ (t : List ℕ). getD t k 0) after ∙ written-elsewhere (raisedReading factor s) s long 12 (omega arith) k e;

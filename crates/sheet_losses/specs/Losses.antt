@@ -100,5 +100,5 @@ answerTo factor s refusal =
 unfoldable pub answerOf : ℕ → List ℕ → Raised
 answerOf factor s = answerTo factor s (refusalOf factor s)
 
-unfoldable pub sheetAfter : ℕ → List ℕ → List ℕ
-sheetAfter factor s = cond (eqb (refusalOf factor s) 0) (raisedSheet factor s) s
+unfoldable pub raisedAfter : ℕ → List ℕ → List ℕ
+raisedAfter factor s = cond (eqb (refusalOf factor s) 0) (raisedSheet factor s) s

@@ -6,12 +6,13 @@ ghost use Prim.Native.Nat.{_+_, _≤_, _<_};
 ghost use lib.Dec.{ltb};
 ghost use lib.ListN.{length};
 ghost use Rattle.units.specs.Limits.{maxKwh};
-ghost use Rattle.units.specs.Folds.{anyBelow, firstBelow};
+ghost use Rattle.units.specs.Folds.{firstBelow};
 ghost use Rattle.codec.specs.Bytes.{stored};
 ghost use Rattle.sheet.specs.YearSheet.{sheetLength};
-ghost use Rattle.sheet_losses.specs.Losses.{maxFactor, thousandths, injectedPlace, threeReadings, withInjected, placeIn, monthAbove, someAbove, noRests};
-ghost use Rattle.sheet_losses.specs.Losses.{refusalOf, answerOf, sheetAfter};
-ghost use Rattle.sheet_losses.specs.Steps.{dividedOf, inWide, inBand, restsTo, raisedBands, readingsIn, WithinLimit, narrowedTo, noMonths, answerWith, WorkedOut};
+ghost use Rattle.sheet_losses.specs.Losses.{maxFactor, thousandths, injectedPlace, threeReadings, withInjected};
+ghost use Rattle.sheet_losses.specs.Losses.{placeIn, monthAbove, someAbove, noRests, refusalOf, answerOf, raisedAfter};
+ghost use Rattle.sheet_losses.specs.Steps.{dividedOf, inWide, inBand, restsTo, raisedBands, readingsIn};
+ghost use Rattle.sheet_losses.specs.Steps.{WithinLimit, narrowedTo, answerWith, WorkedOut};
 use sheet::HEADER;
 use sheet::MONTHS;
 use sheet::NOWHERE;
@@ -250,7 +251,7 @@ fn write_year(sheet: &mut [u8], months: [Bands; 12])
 // Raises the injected readings of a sheet. A refusal leaves the sheet as it was.
 pub fn raise(sheet: &mut [u8], factor: u32) -> Raised
     ensures { λ r. ⌜ r ≡ answerOf factor (now (sheet .entry)) ⌝ }
-    ensures { λ _. ⌜ now (sheet .exit) ≡ sheetAfter factor (now (sheet .entry)) ⌝ }
+    ensures { λ _. ⌜ now (sheet .exit) ≡ raisedAfter factor (now (sheet .entry)) ⌝ }
 {
     let worked = work(sheet, factor);
     let answer = worked.answer;
