@@ -219,13 +219,20 @@ fn put_rests(row: Row, rests: Rests) -> Row {
     output::put_field(longer, rests.third as u64)
 }
 
+// How many bytes of a row stand in it.
+fn row_length(row: Row) -> usize
+    ensures { λ r. ⌜ r ≤ 256 ⌝ }
+{
+    if row.count < ROW { row.count } else { ROW }
+}
+
 // A row goes to the front of `out`; answers its length.
 fn put_front(row: Row, out: &mut [u8]) -> usize
     requires { ⌜ 256 ≤ length (now out) ⌝ }
     ensures { λ r. ⌜ r ≤ 256 ⌝ }
 {
     let bytes = row.bytes;
-    let count = if row.count < ROW { row.count } else { ROW };
+    let count = row_length(row);
     for k in 0..count {
         out[k] = bytes[k];
     }
