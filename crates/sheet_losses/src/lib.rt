@@ -255,7 +255,7 @@ pub fn raise(sheet: &mut [u8], factor: u32) -> Raised
 {
     let worked = work(sheet, factor);
     let answer = worked.answer;
-    if answer.refusal != 0 {
+    if 0 < answer.refusal {
         return answer;
     }
     let months = worked.months;

@@ -1,4 +1,7 @@
 -- The sheet is written where nothing is refused.
+use Prim.Native.Nat.{ℕ}
+use mathlib.Core.Path.{_≡_}
+use native.Mathlib.Omega.{arith}
 use borrow.Author.Needs.{needs}
 use denote.Ref.{now}
 use Rattle.sheet_losses.proofs.Calls.{refused-call, long-enough, accepted-call}
@@ -15,16 +18,8 @@ returns : tie.Need-returns
 returns c =
     let worked = c .before .before .before in
     let a = worked .before .before .before .args in
-    refused-call (a .factor) (now (a .sheet)) (worked .work .ensures) (c .if1 .taken)
-
-write-year-requires : tie.Need-write-year-requires
-write-year-requires c κs =
-    let worked = c .before .before .before .before .before in
-    let a = worked .before .before .before .args in
-    long-enough (a .factor) (now (a .sheet)) (worked .work .ensures) (c .before .before .if1 .left)
-
-same-length-2 : tie.Need-same-length-2
-same-length-2 c = search needs
+    let refused : worked .work .result .answer .refusal ≡ 0 → ⊥ = λ z. omega (arith, c .if1 .taken) in
+    refused-call (a .factor) (now (a .sheet)) (worked .work .ensures) refused
 
 returns-2 : tie.Need-returns-2
 returns-2 c =
@@ -32,7 +27,19 @@ returns-2 c =
     let else = written .before .before .before in
     let worked = else .before .before .before in
     let a = worked .before .before .before .args in
-    accepted-call (a .factor) (now (a .sheet)) (worked .work .ensures) (else .if1 .left) (written .write-year .ensures)
+    let accepted : worked .work .result .answer .refusal ≡ 0 = omega (arith, else .if1 .left) in
+    accepted-call (a .factor) (now (a .sheet)) (worked .work .ensures) accepted (written .write-year .ensures)
+
+write-year-requires : tie.Need-write-year-requires
+write-year-requires c κs =
+    let else = c .before .before in
+    let worked = else .before .before .before in
+    let a = worked .before .before .before .args in
+    let accepted : worked .work .result .answer .refusal ≡ 0 = omega (arith, else .if1 .left) in
+    long-enough (a .factor) (now (a .sheet)) (worked .work .ensures) accepted
+
+same-length-2 : tie.Need-same-length-2
+same-length-2 c = search needs
 
 pub raise-spec : {M : Type 1} → statement M
 raise-spec =
