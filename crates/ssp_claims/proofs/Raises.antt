@@ -1,10 +1,12 @@
 -- What the exported function says, and the laws of what it says.
 use Prim.Native.Nat.{ℕ, _<_}
-use mathlib.Core.Path.{_≡_, sym, ap, _∙_}
+use mathlib.Core.Path.{_≡_, refl, sym, ap, _∙_}
+use mathlib.Core.Bool.{Bool, true, false}
 use mathlib.Core.List.{List}
-use native.Mathlib.Decide.{decEq}
 use native.Mathlib.Omega.{arith}
+use borrow.Author.Tests.{eqb-true, eqb-false}
 use denote.Ref.{now}
+use lib.Dec.{eqb}
 use lib.ListN.{getD}
 use Rattle.sheet_losses.specs.declared.Rests.{Rests}
 use Rattle.sheet_losses.specs.Losses.{decembersRest, refusalOf, answerOf, raisedAfter}
@@ -54,18 +56,18 @@ module _ (factor : ℕ) (before after : List ℕ) (r : Raised) (said : (r ≡ fl
   left other = said .1 ∙ refused-leaves factor before (λ e. other (refusal-is ∙ e))
 
   pub other-bytes : (k : ℕ) → Elsewhere k → getD after k 0 ≡ getD before k 0
-  other-bytes k e = ap (λ (t : List ℕ). getD t k 0) (said .1) ∙ by-answer (decEq (refusalOf factor before) 0)
+  other-bytes k e = ap (λ (t : List ℕ). getD t k 0) (said .1) ∙ by-answer (eqb (refusalOf factor before) 0) refl
     where
-      by-answer : Dec (refusalOf factor before ≡ 0) → getD (raisedAfter factor before) k 0 ≡ getD before k 0
-      by-answer (yes z) = raised-well factor before z .others k e
-      by-answer (no z) = ap (λ (t : List ℕ). getD t k 0) (refused-leaves factor before z)
+      by-answer : (t : Bool) → eqb (refusalOf factor before) 0 ≡ t → getD (raisedAfter factor before) k 0 ≡ getD before k 0
+      by-answer true z = raised-well factor before (eqb-true (refusalOf factor before) 0 z) .others k e
+      by-answer false z = ap (λ (t : List ℕ). getD t k 0) (refused-leaves factor before (eqb-false (refusalOf factor before) 0 z))
 
   pub of-none : factor ≡ 0 → Bytes before → after ≡ before
-  of-none e bytes = said .1 ∙ by-answer (decEq (refusalOf factor before) 0)
+  of-none e bytes = said .1 ∙ by-answer (eqb (refusalOf factor before) 0) refl
     where
-      by-answer : Dec (refusalOf factor before ≡ 0) → raisedAfter factor before ≡ before
-      by-answer (yes z) = raised-well factor before z .unraised e bytes
-      by-answer (no z) = refused-leaves factor before z
+      by-answer : (t : Bool) → eqb (refusalOf factor before) 0 ≡ t → raisedAfter factor before ≡ before
+      by-answer true z = raised-well factor before (eqb-true (refusalOf factor before) 0 z) .unraised e bytes
+      by-answer false z = refused-leaves factor before (eqb-false (refusalOf factor before) 0 z)
 
 pub raises : Raises
 raises =

@@ -17,8 +17,8 @@ pub struct Rests {
 /// them before the loss factor becomes the one that [`Book::close`](crate::Book::close) expects. Raise a sheet once. The rest of
 /// each division by 1,000 passes to the same band of the next month; those of December are answered.
 ///
-/// Refused with [`Refusal::Sheet`] (whatever bytes 8 and 12–15 of the header hold), then [`Refusal::Factor`], then
-/// [`Refusal::AboveLimit`] with the earliest raised reading above its limit; then the sheet is left as it was.
+/// Refusals in the order 11 26 13: [`Refusal::Sheet`], which passes any bytes 8 and 12–15 of the header, [`Refusal::Factor`], and
+/// [`Refusal::AboveLimit`] with the earliest raised reading above its limit. A refusal leaves the sheet as it was.
 ///
 /// ```
 /// use ssp_book::{Book, Refusal, Rests, raise_injected};
