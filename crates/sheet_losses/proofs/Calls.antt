@@ -1,20 +1,20 @@
 -- The call: what it answers and leaves, refused and accepted.
-use Prim.Native.Nat.{ℕ, zero, suc, _≤_, _<_}
+use Prim.Native.Nat.{ℕ, zero, suc, _<_}
 use mathlib.Core.Path.{_≡_, refl, sym, ap, ap₂, _∙_}
 use mathlib.Core.Bool.{Bool, true, false, cond, not}
 use mathlib.Core.List.{List, _++_}
 use native.Mathlib.Omega.{arith}
 use borrow.Author.Tests.{eq-eqb, ne-eqb}
 use lib.Dec.{ltb}
-use lib.ListN.{length, getD}
+use lib.ListN.{length}
 use Rattle.codec.specs.Bytes.{bytesOf, stored}
 use Rattle.sheet.specs.YearSheet.{sheetLength, formFits}
 use Rattle.sheet.proofs.Limits.{form-length}
 use Rattle.sheet_losses.specs.declared.Raised.{Raised}
 use Rattle.sheet_losses.specs.declared.Bands.{Bands}
 use Rattle.sheet_losses.specs.declared.Worked.{Worked}
-use Rattle.sheet_losses.specs.Losses.{maxFactor, raisedReading, injectedPlace, threeReadings, withInjected, raisedSheet, monthAbove, someAbove, refusalOf, decembersRests, answerOf, raisedAfter}
-use Rattle.sheet_losses.specs.Steps.{byBand, inBand, narrowedTo, raisedBands, noBands, readingsIn, WorkedOut}
+use Rattle.sheet_losses.specs.Losses.{maxFactor, raisedReading, injectedPlace, threeReadings, withInjected, raisedSheet, someAbove, refusalOf, decembersRests, answerOf, raisedAfter}
+use Rattle.sheet_losses.specs.Steps.{byBand, inBand, readingsIn, WorkedOut}
 
 -- readings that are the same in each band make the same sheet
 three-cong : (f g : ℕ → ℕ) → f 0 ≡ g 0 → f 1 ≡ g 1 → f 2 ≡ g 2 → threeReadings f ≡ threeReadings g

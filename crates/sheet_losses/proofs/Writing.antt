@@ -1,18 +1,14 @@
 -- The readings of a month are written one after the other, and the months one after the other.
-use Prim.Native.Nat.{ℕ, zero, suc, _+_, _≤_, _<_}
-use mathlib.Core.Path.{_≡_, refl, sym, ap, ap₂, _∙_}
+use Prim.Native.Nat.{ℕ, _+_, _≤_}
+use mathlib.Core.Path.{_≡_, refl, ap, ap₂, _∙_}
 use mathlib.Core.List.{List, _++_, append-assoc}
 use native.Mathlib.Numerals.{add-one}
 use native.Mathlib.Omega.{arith}
-use lib.ListN.{length, getD, length-append}
+use lib.ListN.{length, length-append}
 use Rattle.codec.specs.Bytes.{bytesOf, stored}
 use Rattle.codec.proofs.Numbers.{length-bytes}
-use Rattle.codec.proofs.Stores.{length-stored}
 use Rattle.codec.proofs.Pieces.{stored-then}
-use Rattle.sheet.specs.YearSheet.{sheetLength}
-use Rattle.sheet_losses.specs.declared.Bands.{Bands}
 use Rattle.sheet_losses.specs.Losses.{injectedPlace, threeReadings, withInjected}
-use Rattle.sheet_losses.specs.Steps.{byBand, inBand, noBands, readingsIn}
 
 pub length-three : (f : ℕ → ℕ) → length (threeReadings f) ≡ 12
 unfolding threeReadings

@@ -1,14 +1,14 @@
 -- The year month by month: what stands after the months worked, and the answer at its end or at the first month above the limit.
 use Prim.Native.Nat.{ℕ, _+_, _≤_, _<_}
-use mathlib.Core.Path.{_≡_, refl, sym, ap, ap₂, _∙_}
+use mathlib.Core.Path.{_≡_, refl, sym, ap, _∙_}
 use mathlib.Core.Bool.{Bool, true, false, cond}
 use mathlib.Core.List.{List}
 use native.Mathlib.Nat.{not-suc-le-zero}
 use native.Mathlib.Omega.{arith}
 use borrow.Author.Count.{below-more}
-use borrow.Author.Tests.{le-ltb, lt-ltb, not-true}
+use borrow.Author.Tests.{le-ltb, lt-ltb}
 use lib.Dec.{ltb}
-use lib.ListN.{length, getD, set, length-set}
+use lib.ListN.{length, set, length-set}
 use Rattle.units.specs.Limits.{maxKwh}
 use Rattle.units.specs.Folds.{firstBelow}
 use Rattle.units.proofs.Folds.{any-of, none-of, first-is}
@@ -18,9 +18,8 @@ use Rattle.sheet.specs.YearSheet.{formFits, nowhere}
 use Rattle.sheet_losses.specs.declared.Rests.{Rests}
 use Rattle.sheet_losses.specs.declared.Bands.{Bands}
 use Rattle.sheet_losses.specs.declared.WideBands.{WideBands}
-use Rattle.sheet_losses.specs.declared.Raised.{Raised}
 use Rattle.sheet_losses.specs.declared.Worked.{Worked}
-use Rattle.sheet_losses.specs.Losses.{maxFactor, restTo, raisedReading, decembersRest, readingAbove, monthAbove, someAbove, placeIn, earliestAbove, refusalOf, noRests, decembersRests, answerTo}
+use Rattle.sheet_losses.specs.Losses.{maxFactor, restTo, decembersRest, readingAbove, monthAbove, someAbove, placeIn, earliestAbove, refusalOf, noRests}
 use Rattle.sheet_losses.specs.Steps.{inWide, narrowedTo, restsTo, raisedBands, noBands, noMonths, answerWith, WorkedOut}
 use Rattle.sheet_losses.proofs.Months.{first-reading}
 

@@ -1,6 +1,6 @@
 -- RAW INJECTED READINGS (document 02, ticket 12), over the exported function. Of a call of it no more is known than its contract
 -- (`Post κs a r s`: a the arguments, r the answer, s the arguments at the end).
-use Prim.Native.Nat.{ℕ, _+_, _*_, _<_}
+use Prim.Native.Nat.{ℕ, _+_, _*_}
 use mathlib.Core.Path.{_≡_}
 use mathlib.Core.List.{List}
 use denote.Ref.{now}

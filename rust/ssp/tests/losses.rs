@@ -22,6 +22,11 @@ fn injected(sheet: &[u8], month: usize, band: usize) -> u64 {
     u32::from_le_bytes(sheet[at..at + 4].try_into().expect("four bytes")).into()
 }
 
+fn above(month: u32, place: u32) -> Result<Rests, Refusal> {
+    let place = Place(place);
+    Err(Refusal::AboveLimit { month, place })
+}
+
 /// The call and the plain one answer alike and leave the same bytes.
 fn agrees(bytes: &Buffer, factor: u32) -> Result<Rests, Refusal> {
     let (mut raised, mut plain) = (*bytes, *bytes);
@@ -31,7 +36,7 @@ fn agrees(bytes: &Buffer, factor: u32) -> Result<Rests, Refusal> {
         0 => Ok(Rests { f1, f2, f3 }),
         11 => Err(Refusal::Sheet),
         26 => Err(Refusal::Factor),
-        _ => Err(Refusal::AboveLimit { month, place: Place(place) }),
+        _ => above(month, place),
     };
     assert_eq!(said, expected);
     assert_eq!(raised, plain);
@@ -89,22 +94,22 @@ fn the_limit() {
     set(&mut bytes, 3, 4, 16_666_667);
     assert_eq!(agrees(&bytes, 200), Ok(Rests { f1: 0, f2: 400, f3: 0 }));
     set(&mut bytes, 3, 4, 16_666_668);
-    assert_eq!(agrees(&bytes, 200), Err(Refusal::AboveLimit { month: 4, place: Place(5) }));
+    assert_eq!(agrees(&bytes, 200), above(4, 5));
     assert!(agrees(&bytes, 199).is_ok());
     for raw in [20_000_001, 3_579_139_413, u32::MAX] {
         set(&mut bytes, 3, 4, raw);
-        assert_eq!(agrees(&bytes, 0), Err(Refusal::AboveLimit { month: 4, place: Place(5) }));
-        assert_eq!(agrees(&bytes, 200), Err(Refusal::AboveLimit { month: 4, place: Place(5) }));
+        assert_eq!(agrees(&bytes, 0), above(4, 5));
+        assert_eq!(agrees(&bytes, 200), above(4, 5));
     }
     set(&mut bytes, 3, 3, u32::MAX);
-    assert_eq!(agrees(&bytes, 0), Err(Refusal::AboveLimit { month: 4, place: Place(4) }));
+    assert_eq!(agrees(&bytes, 0), above(4, 4));
     set(&mut bytes, 2, 5, u32::MAX);
-    assert_eq!(agrees(&bytes, 0), Err(Refusal::AboveLimit { month: 3, place: Place(6) }));
+    assert_eq!(agrees(&bytes, 0), above(3, 6));
     // a rest that passes on can lift the next month above the limit
     let mut bytes = [0; Book::SHEET];
     set(&mut bytes, 0, 3, 1);
     set(&mut bytes, 1, 3, 18_181_819);
-    assert_eq!(agrees(&bytes, 100), Err(Refusal::AboveLimit { month: 2, place: Place(4) }));
+    assert_eq!(agrees(&bytes, 100), above(2, 4));
     set(&mut bytes, 0, 3, 0);
     assert!(agrees(&bytes, 100).is_ok());
 }

@@ -1,5 +1,4 @@
 -- The sheet is written where nothing is refused.
-use Prim.Native.Nat.{ℕ}
 use mathlib.Core.Path.{_≡_}
 use native.Mathlib.Omega.{arith}
 use borrow.Author.Needs.{needs}

@@ -1,7 +1,6 @@
 -- After each turn one month more is worked.
 use Prim.Native.Nat.{_-_}
 use mathlib.Core.Path.{refl, sym, _∙_}
-use native.Mathlib.Omega.{arith}
 use borrow.Author.Needs.{needs}
 use denote.Ref.{now}
 use Rattle.sheet_losses.proofs.Months.{bands-within}
