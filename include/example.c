@@ -1,6 +1,6 @@
 /*
- * Three years of one user, the first advance of another, calls that are refused, and a sheet to its archive and back: every
- * field of every answer is printed.
+ * Three years of one user, the first advance of another, calls that are refused, a sheet to its archive and back, and raw
+ * injected readings: every field of every answer is printed.
  *
  *     gcc -std=c11 -Wall -Wextra -Werror -Iinclude include/example.c target/staticlib/libssp.a -o example
  *
@@ -156,6 +156,17 @@ static void archive_and_restore(void)
     printf("restore into 1,183 bytes: refusal %" PRIu32 "\n", ssp_restore(archive, sizeof archive, restored, 1183));
 }
 
+/* Raises the injected readings of the sheet; those of December show what the months before passed on. */
+static void raise_injected(const char *call, uint32_t factor)
+{
+    const struct ssp_raised raised = ssp_raise(sheet, sizeof sheet, factor);
+    const uint8_t *const december = sheet + HEADER + 4 * (NUMBERS_A_MONTH * 11 + SSP_INJECTED_F1 - 1);
+
+    printf("%s: refusal %" PRIu32 ", month %" PRIu32 ", place %" PRIu32 "\n", call, raised.refusal, raised.month, raised.place);
+    printf("  rests            %" PRIu32 " %" PRIu32 " %" PRIu32 "\n", raised.rest1, raised.rest2, raised.rest3);
+    printf("  in December      %" PRIu32 " %" PRIu32 " %" PRIu32 "\n", number(december), number(december + 4), number(december + 8));
+}
+
 int main(void)
 {
     printf("interface of the header: %s that of the library\n", ssp_interface() == SSP_INTERFACE ? "equal to" : "NOT");
@@ -210,5 +221,13 @@ int main(void)
     statement("statement in a damaged book", HYDRO);
 
     archive_and_restore();
+
+    write_sheet(2016);
+    raise_injected("raise by 5.1 %", 51);
+    raise_injected("raise by a factor beyond 16 bits", 51 + BEYOND_16);
+    put(sheet + HEADER + 4 * (NUMBERS_A_MONTH * 10 + SSP_INJECTED_F3 - 1), 4000000001, 4);
+    raise_injected("raise a reading above its limit", 200);
+    sheet[SSP_SHEET_LENGTH - 1] = 1;
+    raise_injected("raise a sheet with a wrong zero word", 51);
     return 0;
 }

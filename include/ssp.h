@@ -21,8 +21,8 @@
  * ANSWERS
  *
  *   `refusal` is 0 for an accepted call, or the number of the first objection that holds, in the order that each function
- *   names. A refused call leaves every byte of the book as it was, and every value in its answer is 0, but for `record`, `month`
- *   and `place`.
+ *   names. A refused call leaves every byte of the book or of the sheet as it was, and every value in its answer is 0, but for
+ *   `record`, `month` and `place`.
  *   `record` is, after refusal 2, the index of the faulty record, of several the smallest; after an accepted ssp_enrol, the
  *   index of the new record; else 0.
  *   `month`, 1 to 12, and `place`, 1 to 24, name after refusal 13 or 19 the earliest number of the sheet that is at fault; else
@@ -45,6 +45,7 @@
  *   14  A domestic user (class 1 or 2) withdrew more than 4,000,000 kWh in a month.
  *   19  A single reading has kWh in F2 or F3: at `month` and `place`. The earliest number at fault decides between 13 and 19,
  *       and where it has both faults, 13 is answered.
+ *   26  The factor of ssp_raise is above 200 thousandths.
  *   27  A buffer of ssp_archive or ssp_restore is not of SSP_SHEET_LENGTH bytes.
  *
  * MEMORY
@@ -67,7 +68,7 @@
 #include <stdint.h>
 
 /* Header and library belong together, since answers grow: this is to be the number that ssp_interface() answers. */
-#define SSP_INTERFACE 3
+#define SSP_INTERFACE 4
 
 #ifdef __cplusplus
 extern "C" {
@@ -156,6 +157,16 @@ struct ssp_sums {
     uint64_t closed_advances; /* of the closed years */
 };
 
+/* What is left of the raised kWh after December, in thousandths of a kWh, 0 to 999 for each band. */
+struct ssp_raised {
+    uint32_t refusal;
+    uint32_t month; /* after 13, 1 to 12; else 0 */
+    uint32_t place; /* after 13, SSP_INJECTED_F1, _F2 or _F3; else 0 */
+    uint32_t rest1; /* of F1 */
+    uint32_t rest2; /* of F2 */
+    uint32_t rest3; /* of F3 */
+};
+
 /* The number of the interface that the library was built for: SSP_INTERFACE of its own header. */
 uint32_t ssp_interface(void);
 
@@ -235,6 +246,19 @@ uint32_t ssp_archive(const uint8_t *sheet, size_t sheet_len, uint8_t *archive, s
  * archive. Returns 0, or 27 where either length is not SSP_SHEET_LENGTH, and then leaves every byte of the sheet.
  */
 uint32_t ssp_restore(const uint8_t *archive, size_t archive_len, uint8_t *sheet, size_t sheet_len);
+
+/*
+ * Raises the injected kWh of a year sheet, of an operator who sends them before the loss factor. Each becomes itself times 1,000
+ * and the factor, divided by 1,000; the rest of the division passes to the same band of the next month, and what passes on from
+ * December is answered. So for each band 1,000 times the raised kWh of the year plus the rest is the raw sum times 1,000 and the
+ * factor. The raised sheet is what ssp_close expects: raise a sheet once, before it is closed. No other byte is written, and a
+ * factor of 0 leaves the sheet as it is. Refusals in the order 11 26 13.
+ *
+ *   sheet   a year sheet as ssp_close takes it, whatever its header bytes 8 and 12-15 hold. Only the raised kWh are held to their
+ *           limit: a raw reading may be any number of 32 bits, and no other number is judged
+ *   factor  in thousandths, 0 to 200: 51 for 5.1 %
+ */
+struct ssp_raised ssp_raise(uint8_t *sheet, size_t sheet_len, uint32_t factor);
 
 #ifdef __cplusplus
 }

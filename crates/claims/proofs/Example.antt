@@ -10,15 +10,15 @@ use lib.Dec.{ltb}
 use lib.ListN.{replicate}
 use Rattle.units.proofs.Bools.{and-left, and-right}
 use Rattle.units.specs.Folds.{sumBelow, allBelow, anyBelow}
-use Rattle.codec.specs.Bytes.{littleEndian, bytesOf, part, number, stored}
+use Rattle.codec.specs.Bytes.{littleEndian, bytesOf, part, number, stored, zeros}
 use Rattle.tariff.specs.Tariff.{domestic, monthlyMethod, between, above, tiers, annualTiers, meanRate, tierRate, flatRateOf}
 use Rattle.calendar.specs.ElectionAndAdvances.{daysIn, isDay, notAfter, inWindow}
-use Rattle.sheet.specs.YearSheet.{withdrawnReading, injectedReading, word, headerFits, lastWordsFit, refused11, limitAt, aboveLimit, unusedBand, strayBand, atFault, earliest, refused13, refused19, monthWithdrawn, refused14}
+use Rattle.sheet.specs.YearSheet.{withdrawnReading, injectedReading, word, headerFits, lastWordsFit, formFits, refused11, limitAt, aboveLimit, unusedBand, strayBand, atFault, earliest, refused13, refused19, monthWithdrawn, refused14}
 use Rattle.prices.specs.ValueAndCost.{costIn, costOf, singlePrice, valueIn, valueOf}
 use Rattle.values.specs.YearsValues.{monthInjected, withdrawnOver, injectedOver, exchangedOver, monthExchanged, annualRate, annualFlatRate, flatRateOver, halfOf, yearValues}
 use Rattle.accounts.specs.Account.{accountElected, accountClosed, settled}
 use Rattle.accounts.specs.Closing.{contributionOf, liquidationOf, lapsedOf, creditAfter, balanceOf}
-use Rattle.layout.specs.Fields.{get, zeros, recordAt, putRecord, written, allZero}
+use Rattle.layout.specs.Fields.{get, recordAt, putRecord, written, allZero}
 use Rattle.records.specs.Records.{headImage, userImage, closingImage, accountIn, closingIn}
 use Rattle.book.specs.Book.{lengthFits, freshBook, used, firstUser, usedFits, kindAt, hasKind, isEntry, detailsFit, openYearFits, runMade, dueIfMade, runsFit, halvesMade, advancesFit, creditFits, halvesFit, accountFits, yearFits, balanceFits, closingFits, ownerOf, rangesFit, zeroBytesFit, nextOf, firstEntryOf, numberOf, userNextFits, numberIsNew, firstEntryFits, entryNextFits, ownerFits, hits, pointersFrom, pointersTo, pointedOnce, levelOf, inOrder, activationOf, openYearOf, firstInOrder, nextInOrder, linksFit, goodRecord, goodHead, faulty, sound, entryKind, entryRanges, unnamedOf, levelIn}
 use Rattle.calls.specs.Changes.{newAccount, enrolledAs, withAccount, withEntry, applied}
@@ -64,7 +64,7 @@ unfoldable pub others : List Made
 others = made (close (sheetOf 2013)) 0 ∷ made (elect 7 1 2014 6 30) 0 ∷ made (close (sheetOf 2014)) 0 ∷ made (enrol 7 details 0) 4 ∷ []
 
 answered : madeOf (freshBook 480) calls ≡ made (enrol 7 details 0) 0 ∷ others
-unfolding madeOf calls others sumBelow allBelow anyBelow littleEndian bytesOf part number stored domestic monthlyMethod between above tiers annualTiers meanRate tierRate flatRateOf daysIn isDay notAfter inWindow withdrawnReading injectedReading word headerFits lastWordsFit refused11 limitAt aboveLimit unusedBand strayBand atFault earliest refused13 refused19 monthWithdrawn refused14 costIn costOf singlePrice valueIn valueOf monthInjected withdrawnOver injectedOver exchangedOver monthExchanged annualRate annualFlatRate flatRateOver halfOf yearValues accountElected accountClosed contributionOf liquidationOf lapsedOf creditAfter balanceOf get zeros recordAt putRecord written headImage userImage closingImage accountIn closingIn lengthFits freshBook used firstUser usedFits kindAt hasKind entryKind entryRanges unnamedOf allZero levelIn isEntry detailsFit openYearFits runMade dueIfMade runsFit halvesMade advancesFit creditFits halvesFit accountFits yearFits balanceFits closingFits ownerOf rangesFit zeroBytesFit nextOf firstEntryOf numberOf userNextFits numberIsNew firstEntryFits entryNextFits ownerFits hits pointersFrom pointersTo pointedOnce levelOf inOrder activationOf openYearOf firstInOrder nextInOrder linksFit goodRecord goodHead faulty sound findBelow findUser newAccount enrolledAs withAccount withEntry applied entryImage settled refusalOf changeOf booked bookAfter refusedBy rulesOf namedBy lookAt hasRoom dayAndOption electionOpen yearOpen words month months sheetOf
+unfolding madeOf calls others sumBelow allBelow anyBelow littleEndian bytesOf part number stored domestic monthlyMethod between above tiers annualTiers meanRate tierRate flatRateOf daysIn isDay notAfter inWindow withdrawnReading injectedReading word headerFits lastWordsFit formFits refused11 limitAt aboveLimit unusedBand strayBand atFault earliest refused13 refused19 monthWithdrawn refused14 costIn costOf singlePrice valueIn valueOf monthInjected withdrawnOver injectedOver exchangedOver monthExchanged annualRate annualFlatRate flatRateOver halfOf yearValues accountElected accountClosed contributionOf liquidationOf lapsedOf creditAfter balanceOf get zeros recordAt putRecord written headImage userImage closingImage accountIn closingIn lengthFits freshBook used firstUser usedFits kindAt hasKind entryKind entryRanges unnamedOf allZero levelIn isEntry detailsFit openYearFits runMade dueIfMade runsFit halvesMade advancesFit creditFits halvesFit accountFits yearFits balanceFits closingFits ownerOf rangesFit zeroBytesFit nextOf firstEntryOf numberOf userNextFits numberIsNew firstEntryFits entryNextFits ownerFits hits pointersFrom pointersTo pointedOnce levelOf inOrder activationOf openYearOf firstInOrder nextInOrder linksFit goodRecord goodHead faulty sound findBelow findUser newAccount enrolledAs withAccount withEntry applied entryImage settled refusalOf changeOf booked bookAfter refusedBy rulesOf namedBy lookAt hasRoom dayAndOption electionOpen yearOpen words month months sheetOf
 answered = refl
 
 -- every byte of the sheets is one

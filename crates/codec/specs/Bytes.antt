@@ -1,7 +1,10 @@
 -- "Units" of document 01: "Numbers in the layouts are little-endian and unsigned unless marked; a range "0–3" names bytes."
 use Prim.Native.Nat.{ℕ, zero, suc, _+_, _*_, _/_, _%_}
+use mathlib.Core.Bool.{Bool}
 use mathlib.Core.List.{List, [], _∷_, _++_}
-use lib.ListN.{take, drop}
+use lib.Dec.{eqb}
+use lib.ListN.{take, drop, getD}
+use Rattle.units.specs.Folds.{allBelow}
 
 -- the number that a list of bytes stands for, and the w bytes that stand for a number
 unfoldable pub littleEndian : List ℕ → ℕ
@@ -22,3 +25,7 @@ number w at s = littleEndian (part w at s)
 -- s with the bytes bs from `at` on
 unfoldable pub stored : ℕ → List ℕ → List ℕ → List ℕ
 stored at bs s = take at s ++ (bs ++ drop (at + lib.ListN.length bs) s)
+
+-- n bytes of s from a place on are zero; one past the end is
+unfoldable pub zeros : ℕ → ℕ → List ℕ → Bool
+zeros from n s = allBelow n (λ i. eqb (getD s (from + i) 0) 0)

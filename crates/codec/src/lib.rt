@@ -4,6 +4,7 @@ ghost use mathlib.Core.Path.{_≡_};
 ghost use Prim.Native.Nat.{_+_, _*_, _≤_, _<_, _^_};
 ghost use lib.ListN.{getD, length};
 ghost use Rattle.codec.specs.Bytes.{number, stored, bytesOf};
+ghost use Rattle.codec.specs.Bytes.{zeros as zeroBytes};
 
 pub fn byte_at(s: &[u8], at: usize) -> u8
     ensures { λ r. ⌜ r ≡ getD (now (s .entry)) at 0 ⌝ }
@@ -76,6 +77,24 @@ pub fn read_u64(s: &[u8], at: usize) -> u64
     } else {
         eight(read_u32(s, at), read_u32(s, at + 4))
     }
+}
+
+// A stretch is zero: word by word, and what is left byte by byte.
+pub fn zeros(s: &[u8], from: usize, count: usize) -> bool
+    requires { ⌜ from + count < 2 ^ 40 ⌝ }
+    ensures { λ r. ⌜ r ≡ zeroBytes from count (now (s .entry)) ⌝ }
+{
+    let mut all = true;
+    let mut i = 0;
+    while i + 4 <= count {
+        all = all & (read_u32(s, from + i) == 0);
+        i = i + 4;
+    }
+    while i < count {
+        all = all & (byte_at(s, from + i) == 0);
+        i = i + 1;
+    }
+    all
 }
 
 // A number of four bytes goes to its place in a lent string.

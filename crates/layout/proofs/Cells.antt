@@ -10,11 +10,11 @@ use lib.Dec.{leb, eqb}
 use lib.ListN.{length, getD, replicate, length-replicate}
 use Rattle.units.proofs.Bools.{and-left, and-right, and-both}
 use Rattle.units.proofs.Folds.{all-of}
-use Rattle.codec.specs.Bytes.{littleEndian, bytesOf, part, number, stored}
+use Rattle.codec.specs.Bytes.{littleEndian, bytesOf, part, number, stored, zeros}
 use Rattle.codec.proofs.Numbers.{length-bytes}
 use Rattle.codec.proofs.Stores.{length-stored, part-before, part-after, number-stored}
 use Rattle.layout.proofs.Places.{part-byte}
-use Rattle.layout.specs.Fields.{recordLength, Field, bytes, get, zeros, allZero, Cell, _holds_, written, image}
+use Rattle.layout.specs.Fields.{recordLength, Field, bytes, get, allZero, Cell, _holds_, written, image}
 
 -- a field ends within a record; two fields share no byte
 abbrev pub within : Field → Bool

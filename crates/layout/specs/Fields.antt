@@ -3,9 +3,9 @@ use Prim.Native.Nat.{ℕ, _+_, _*_, _/_}
 use mathlib.Core.Bool.{Bool, true, cond, _&&_}
 use mathlib.Core.List.{List, [], _∷_}
 use lib.Dec.{leb, ltb, eqb}
-use lib.ListN.{length, getD, replicate}
+use lib.ListN.{length, replicate}
 use Rattle.units.specs.Folds.{allBelow}
-use Rattle.codec.specs.Bytes.{bytesOf, part, number, stored}
+use Rattle.codec.specs.Bytes.{bytesOf, part, number, stored, zeros}
 
 -- "Records of 80 bytes"
 abbrev pub recordLength : ℕ
@@ -149,10 +149,7 @@ unnamedOfAdvance = bytes 16 48 ∷ bytes 68 12 ∷ []
 abbrev pub unnamedOfClosing : List Field
 unnamedOfClosing = bytes 68 12 ∷ []
 
--- n bytes of a record from a place on are zero, and so are the bytes of each field of a list
-unfoldable pub zeros : ℕ → ℕ → List ℕ → Bool
-zeros from n r = allBelow n (λ i. eqb (getD r (from + i) 0) 0)
-
+-- the bytes of each field of a list are zero
 unfoldable pub allZero : List Field → List ℕ → Bool
 allZero [] r = true
 allZero (f ∷ fs) r = zeros (f .from) (f .size) r && allZero fs r

@@ -7,7 +7,6 @@ ghost use lib.ListN.{length};
 ghost use Rattle.units.specs.Units.{userNumber, recordIndex};
 ghost use Rattle.codec.specs.Bytes.{number, stored, bytesOf};
 ghost use Rattle.layout.specs.Fields.{recordLength, recordAt, putRecord, get, usedField, firstUserField, nextField, kindField, numberField, firstEntryField, activationYearField, openYearField, yearField, ownerField};
-ghost use Rattle.layout.specs.Fields.{zeros as zeroBytes};
 ghost use Rattle.layout.specs.Fields.{allZero, unnamedOfHead, unnamedOfUser, unnamedOfAdvance, unnamedOfClosing};
 use units::RecordIndex;
 use units::UserNumber;
@@ -104,48 +103,30 @@ pub fn put_u64(image: [u8; 80], at: usize, n: u64) -> [u8; 80]
     codec::write(image, at, 8, n)
 }
 
-// A stretch of a record is zero: word by word, and what is left byte by byte.
-fn zeros(r: &[u8], from: usize, count: usize) -> bool
-    requires { ⌜ (from ≤ recordLength) × (count ≤ recordLength) ⌝ }
-    ensures { λ s. ⌜ s ≡ zeroBytes from count (now (r .entry)) ⌝ }
-{
-    let mut all = true;
-    let mut i = 0;
-    while i + 4 <= count {
-        all = all & (codec::read_u32(r, from + i) == 0);
-        i = i + 4;
-    }
-    while i < count {
-        all = all & (codec::byte_at(r, from + i) == 0);
-        i = i + 1;
-    }
-    all
-}
-
 // The bytes that no field names, by kind.
 
 pub fn head_rest_zero(r: &[u8]) -> bool
     ensures { λ s. ⌜ s ≡ allZero unnamedOfHead (now (r .entry)) ⌝ }
 {
-    zeros(r, 8, 72)
+    codec::zeros(r, 8, 72)
 }
 
 pub fn user_rest_zero(r: &[u8]) -> bool
     ensures { λ s. ⌜ s ≡ allZero unnamedOfUser (now (r .entry)) ⌝ }
 {
-    zeros(r, 27, 5) & zeros(r, 56, 24)
+    codec::zeros(r, 27, 5) & codec::zeros(r, 56, 24)
 }
 
 pub fn advance_rest_zero(r: &[u8]) -> bool
     ensures { λ s. ⌜ s ≡ allZero unnamedOfAdvance (now (r .entry)) ⌝ }
 {
-    zeros(r, 16, 48) & zeros(r, 68, 12)
+    codec::zeros(r, 16, 48) & codec::zeros(r, 68, 12)
 }
 
 pub fn closing_rest_zero(r: &[u8]) -> bool
     ensures { λ s. ⌜ s ≡ allZero unnamedOfClosing (now (r .entry)) ⌝ }
 {
-    zeros(r, 68, 12)
+    codec::zeros(r, 68, 12)
 }
 
 pub fn read_u8(r: &[u8], at: usize) -> u8

@@ -11,6 +11,8 @@ use output::Row;
 use script::Digits;
 use script::Order;
 use sheet::Position;
+use sheet_losses::Raised;
+use sheet_losses::Rests;
 use statement::Stated;
 use statements::Sums;
 use text::Bytes;
@@ -23,8 +25,11 @@ ghost use lib.ListN.{length};
 ghost use Rattle.script.specs.Orders.{longestBook};
 ghost use Rattle.replay.specs.Lines.{LineDone, FoundDone};
 
-// What the longest answer takes: `0`, a blank, two digits a byte, and the line feed.
-const ANSWER: usize = 131_075;
+// What the longest answer takes: a row of numbers, two digits a byte, and the line feed.
+const ANSWER: usize = 131_329;
+
+// What a row holds at most.
+const ROW: usize = 256;
 
 // The length of the book after a line, and whether to look for the next one.
 struct Step {
@@ -191,7 +196,7 @@ fn archive_or_restore(back: bool, source: &[u8], buffer: &mut [u8]) -> u32 {
 
 // A sheet to its archive, or back, into a buffer that holds the second word's bytes.
 fn rearrange(line: &[u8], source: Digits, buffer: Digits, back: bool, out: &mut [u8]) -> bool
-    requires { ⌜ 2 * longestBook + 3 ≤ length (now out) ⌝ }
+    requires { ⌜ 2 * longestBook + 257 ≤ length (now out) ⌝ }
 {
     let mut from = io::large_buffer();
     let Bytes::Read(read) = text::hex_from(text::front(line, source.to), source.from, &mut from)
@@ -206,6 +211,64 @@ fn rearrange(line: &[u8], source: Digits, buffer: Digits, back: bool, out: &mut 
     let lent = &mut to[..room];
     let refusal = archive_or_restore(back, &from[..read], lent);
     say_buffer(refusal, lent, out)
+}
+
+fn put_rests(row: Row, rests: Rests) -> Row {
+    let mut longer = output::put_field(row, rests.first as u64);
+    longer = output::put_field(longer, rests.second as u64);
+    output::put_field(longer, rests.third as u64)
+}
+
+// How many bytes of a row stand in it.
+fn row_length(row: Row) -> usize
+    ensures { λ r. ⌜ r ≤ 256 ⌝ }
+{
+    if row.count < ROW { row.count } else { ROW }
+}
+
+// A row goes to the front of `out`; answers its length.
+fn put_front(row: Row, out: &mut [u8]) -> usize
+    requires { ⌜ 256 ≤ length (now out) ⌝ }
+    ensures { λ r. ⌜ r ≤ 256 ⌝ }
+{
+    let bytes = row.bytes;
+    let count = row_length(row);
+    for k in 0..count {
+        out[k] = bytes[k];
+    }
+    count
+}
+
+// Prints the number of an answer and the rests, and of an accepted call the sheet after it, by way of `out`. After a 13 the month
+// and the place of the reading at fault stand in the place of the values.
+fn say_raised(answer: Raised, sheet: &[u8], out: &mut [u8]) -> bool
+    requires { ⌜ 2 * length (now sheet) + 257 ≤ length (now out) ⌝ }
+{
+    let number = output::put_number(output::no_text(), answer.refusal as u64);
+    let position = answer.position;
+    if position.month != 0 {
+        return say(put_position(number, position));
+    }
+    let row = put_rests(number, answer.rests);
+    if answer.refusal != 0 {
+        return say(row);
+    }
+    let at = put_front(output::put(row, b' '), out);
+    say_hex(sheet, out, at)
+}
+
+// Raises the injected readings of the sheet that the word's bytes are.
+fn raise(line: &[u8], word: Digits, factor: u32, out: &mut [u8]) -> bool
+    requires { ⌜ 2 * longestBook + 257 ≤ length (now out) ⌝ }
+{
+    let mut sheet = io::large_buffer();
+    let Bytes::Read(count) = text::hex_from(text::front(line, word.to), word.from, &mut sheet)
+    else {
+        return say_error();
+    };
+    let lent = &mut sheet[..count];
+    let raised = sheet_losses::raise(lent, factor);
+    say_raised(raised, lent, out)
 }
 
 fn new_book(buffer: &mut [u8], len: usize) -> usize
@@ -235,7 +298,7 @@ fn load_book(buffer: &mut [u8], len: usize, line: &[u8], at: usize) -> Step
 // Makes a call, on the book or on sheets, and prints its answer.
 fn call(order: Order, line: &[u8], book: &mut [u8], out: &mut [u8]) -> bool
     requires { ⌜ 2 * length (now book) + 1 ≤ length (now out) ⌝ }
-    requires { ⌜ 2 * longestBook + 3 ≤ length (now out) ⌝ }
+    requires { ⌜ 2 * longestBook + 257 ≤ length (now out) ⌝ }
 {
     match order {
         Order::Fresh => say_fresh(soundness::fresh(book)),
@@ -288,6 +351,7 @@ fn call(order: Order, line: &[u8], book: &mut [u8], out: &mut [u8]) -> bool
         Order::Statement(number) => say_stated(statement::statement(book, UserNumber(number))),
         Order::Archive { sheet, buffer } => rearrange(line, sheet, buffer, false, out),
         Order::Restore { archive, buffer } => rearrange(line, archive, buffer, true, out),
+        Order::Raise { sheet, factor } => raise(line, sheet, factor, out),
         Order::Dump => say_hex(book, out, 0),
         Order::List => list(book, out),
         Order::New(_) => say_error(),
@@ -299,7 +363,7 @@ fn call(order: Order, line: &[u8], book: &mut [u8], out: &mut [u8]) -> bool
 // Does what a line asks on the book in the first `len` bytes of the buffer.
 fn answer(line: &[u8], buffer: &mut [u8], len: usize, out: &mut [u8]) -> Step
     requires { ⌜ (longestBook ≤ length (now buffer)) × (len ≤ length (now buffer)) ⌝ }
-    requires { ⌜ 2 * length (now buffer) + 3 ≤ length (now out) ⌝ }
+    requires { ⌜ 2 * length (now buffer) + 257 ≤ length (now out) ⌝ }
     ensures { λ r. ⌜ LineDone (now (line .entry)) (now (buffer .entry)) (now (buffer .exit)) len (r .len) ⌝ }
 {
     let order = script::order_of(line);
@@ -323,7 +387,7 @@ fn answer(line: &[u8], buffer: &mut [u8], len: usize, out: &mut [u8]) -> Step
 // Answers what was found where a line was looked for. Only a whole line is made a call.
 fn answer_found(found: Found, line: &[u8], buffer: &mut [u8], len: usize, out: &mut [u8]) -> Step
     requires { ⌜ (longestBook ≤ length (now buffer)) × (len ≤ length (now buffer)) ⌝ }
-    requires { ⌜ 2 * length (now buffer) + 3 ≤ length (now out) ⌝ }
+    requires { ⌜ 2 * length (now buffer) + 257 ≤ length (now out) ⌝ }
     ensures { λ r. ⌜ FoundDone found (now (line .entry)) (now (buffer .entry)) (now (buffer .exit)) len r ⌝ }
 {
     match found {
@@ -347,7 +411,7 @@ fn answer_found(found: Found, line: &[u8], buffer: &mut [u8], len: usize, out: &
 // A proved loop has to end, so the lines are counted to a number that no input reaches.
 fn run(held: &mut [u8], buffer: &mut [u8], out: &mut [u8])
     requires { ⌜ longestBook ≤ length (now buffer) ⌝ }
-    requires { ⌜ 2 * length (now buffer) + 3 ≤ length (now out) ⌝ }
+    requires { ⌜ 2 * length (now buffer) + 257 ≤ length (now out) ⌝ }
 {
     let mut line = input::start();
     let mut len = 0;

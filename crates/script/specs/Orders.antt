@@ -47,6 +47,9 @@ archiveWord = 97 ∷ 114 ∷ 99 ∷ 104 ∷ 105 ∷ 118 ∷ 101 ∷ []
 abbrev pub restoreWord : List ℕ
 restoreWord = 114 ∷ 101 ∷ 115 ∷ 116 ∷ 111 ∷ 114 ∷ 101 ∷ []
 
+abbrev pub raiseWord : List ℕ
+raiseWord = 114 ∷ 97 ∷ 105 ∷ 115 ∷ 101 ∷ []
+
 abbrev pub dumpWord : List ℕ
 dumpWord = 100 ∷ 117 ∷ 109 ∷ 112 ∷ []
 
@@ -177,6 +180,13 @@ restoreOrder line =
     let words : Words = wordsAt line (length restoreWord) in
     cond (words .fit) (order.Restore (words .first) (words .second)) order.Wrong
 
+-- a word of bytes, and a number
+unfoldable pub raiseOrder : List ℕ → Order
+raiseOrder line =
+    let sheet : Word = wordAt line (length raiseWord) in
+    let after : ℕ = sheet .digits .to in
+    cond (sheet .fit && numbersFit line after (most32 ∷ [])) (order.Raise (sheet .digits) (numberOf line after 0)) order.Wrong
+
 -- a word alone
 unfoldable pub aloneOrder : List ℕ → List ℕ → Order → Order
 aloneOrder line word asked = cond (eqb (length line) (length word)) asked order.Wrong
@@ -184,7 +194,8 @@ aloneOrder line word asked = cond (eqb (length line) (length word)) asked order.
 -- the calls on sheets alone, and those on the book
 unfoldable pub sheetOrder : List ℕ → Order
 sheetOrder line =
-    cond (begins line archiveWord) (archiveOrder line) (cond (begins line restoreWord) (restoreOrder line) order.Wrong)
+    cond (begins line archiveWord) (archiveOrder line)
+    (cond (begins line restoreWord) (restoreOrder line) (cond (begins line raiseWord) (raiseOrder line) order.Wrong))
 
 unfoldable pub callOrder : List ℕ → Order
 callOrder line =

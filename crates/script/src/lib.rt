@@ -4,7 +4,7 @@ ghost use mathlib.Core.Bool.{cond};
 ghost use Prim.Native.Nat.{_≤_};
 ghost use lib.ListN.{length};
 ghost use Rattle.script.specs.Orders.{begins, bytesFit, NumbersRead, newOrder, enrolOrder, electOrder, advanceOrder, statementOrder, loadOrder, closeOrder, aloneOrder, callOrder, bookOrder, orderOf};
-ghost use Rattle.script.specs.Orders.{isNoBytes, isSomeBytes, wordAt, wordsAt, archiveOrder, restoreOrder, sheetOrder};
+ghost use Rattle.script.specs.Orders.{isNoBytes, isSomeBytes, wordAt, wordsAt, archiveOrder, restoreOrder, raiseOrder, sheetOrder};
 
 // Where the digits of a word of bytes stand: none for `-`.
 pub struct Digits {
@@ -51,6 +51,10 @@ pub enum Order {
     Restore {
         archive: Digits,
         buffer: Digits,
+    },
+    Raise {
+        sheet: Digits,
+        factor: u32,
     },
     Dump,
     List,
@@ -306,6 +310,23 @@ fn restore_order(line: &[u8]) -> Order
     }
 }
 
+fn raise_order(line: &[u8]) -> Order
+    ensures { λ r. ⌜ r ≡ raiseOrder (now (line .entry)) ⌝ }
+{
+    let word = word_at(line, 5);
+    let sheet = word.digits;
+    let read = numbers_at(line, sheet.to, &[MOST32]);
+    let n = read.values;
+    if word.fit & read.fit {
+        Order::Raise {
+            sheet,
+            factor: n[0] as u32,
+        }
+    } else {
+        Order::Wrong
+    }
+}
+
 // The order of a word that stands alone.
 fn alone_order(line: &[u8], word: &[u8], asked: Order) -> Order
     ensures { λ r. ⌜ r ≡ aloneOrder (now (line .entry)) (now (word .entry)) asked ⌝ }
@@ -326,6 +347,9 @@ fn sheet_order(line: &[u8]) -> Order
     }
     if begins(line, b"restore") {
         return restore_order(line);
+    }
+    if begins(line, b"raise") {
+        return raise_order(line);
     }
     Order::Wrong
 }

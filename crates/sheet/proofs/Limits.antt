@@ -9,14 +9,18 @@ use lib.Dec.{lit<, eqb, ltb}
 use lib.ListN.{length}
 use Rattle.units.specs.Limits.{maxKwh, maxPrice}
 use Rattle.units.proofs.Bools.{and-left, or-left}
-use Rattle.sheet.specs.YearSheet.{sheetLength, word, limitAt, aboveLimit, strayBand, atFault, headerFits, lastWordsFit, refused11, monthWithdrawn, Past13}
+use Rattle.sheet.specs.YearSheet.{sheetLength, word, limitAt, aboveLimit, strayBand, atFault, headerFits, lastWordsFit, formFits, versionZero, pointZero, refused11, monthWithdrawn, Past13}
 use Rattle.sheet.proofs.Faults.{past-none}
+
+pub form-length : (s : List ℕ) → formFits s ≡ true → length s ≡ sheetLength
+unfolding formFits
+form-length s h = eqb-true (length s) sheetLength (and-left (eqb (length s) sheetLength) (headerFits s && lastWordsFit s) h)
 
 pub passed-length : (s : List ℕ) → refused11 s ≡ false → length s ≡ sheetLength
 unfolding refused11
 passed-length s h =
-    let all : (eqb (length s) sheetLength && (headerFits s && lastWordsFit s)) ≡ true = not-false _ h in
-    eqb-true (length s) sheetLength (and-left (eqb (length s) sheetLength) (headerFits s && lastWordsFit s) all)
+    let all : (formFits s && (versionZero s && pointZero s)) ≡ true = not-false _ h in
+    form-length s (and-left (formFits s) (versionZero s && pointZero s) all)
 
 pub passed-limit : (s : List ℕ) → Past13 s → (m place : ℕ) → m < 12 → place < 23 → word s m place ≤ limitAt place
 unfolding atFault aboveLimit

@@ -5,10 +5,10 @@ use mathlib.Core.Path.{_≡_}
 use mathlib.Core.Bool.{Bool, true, false, cond, not, _&&_, _||_}
 use mathlib.Core.List.{List}
 use lib.Dec.{leb, ltb, eqb}
-use lib.ListN.{length, getD}
+use lib.ListN.{length}
 use Rattle.units.specs.Limits.{maxKwh, maxPrice}
 use Rattle.units.specs.Folds.{allBelow, anyBelow}
-use Rattle.codec.specs.Bytes.{number}
+use Rattle.codec.specs.Bytes.{number, zeros}
 use Rattle.tariff.specs.Tariff.{domestic, monthlyThreshold}
 use Rattle.sheet.specs.declared.Position.{Position}
 
@@ -69,16 +69,25 @@ system s m tier = word s m (19 + tier)
 abbrev pub lastWord : List ℕ → ℕ → ℕ
 lastWord s m = word s m 23
 
--- 11: "sheet length, header or zero word wrong"
+-- 11: "sheet length, header or zero word wrong". It has three parts, since some calls pass "any header bytes 8 and 12–15"
+-- (ticket 12): the form of the sheet, which is all but these bytes; byte 8; bytes 12–15.
 unfoldable pub headerFits : List ℕ → Bool
-headerFits s =
-    (leb (withdrawnReading s) 1 && leb (injectedReading s) 1) && allBelow 24 (λ i. eqb (getD s (8 + i) 0) 0)
+headerFits s = (leb (withdrawnReading s) 1 && leb (injectedReading s) 1) && (zeros 9 3 s && zeros 16 16 s)
 
 unfoldable pub lastWordsFit : List ℕ → Bool
 lastWordsFit s = allBelow 12 (λ m. eqb (lastWord s m) 0)
 
+unfoldable pub formFits : List ℕ → Bool
+formFits s = eqb (length s) sheetLength && (headerFits s && lastWordsFit s)
+
+abbrev pub versionZero : List ℕ → Bool
+versionZero s = zeros 8 1 s
+
+abbrev pub pointZero : List ℕ → Bool
+pointZero s = zeros 12 4 s
+
 unfoldable pub refused11 : List ℕ → Bool
-refused11 s = not (eqb (length s) sheetLength && (headerFits s && lastWordsFit s))
+refused11 s = not (formFits s && (versionZero s && pointZero s))
 
 -- 13: "number above its limit". Places 0–5 of a month are kWh, 6–22 prices and rates; the last one is the zero word, at which
 -- 11 looks.

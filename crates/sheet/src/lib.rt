@@ -8,7 +8,7 @@ ghost use lib.ListN.{length};
 ghost use Rattle.units.specs.Units.{userNumber, kwh};
 ghost use Rattle.units.specs.Folds.{anyBelow};
 ghost use Rattle.sheet.specs.Objections.{objectionOf, numberOfFault, FirstMonth, FaultTold};
-ghost use Rattle.sheet.specs.YearSheet.{sheetLength, sheetUser, sheetYear, withdrawnReading, injectedReading, word, limitAt, unusedBand, atFault, headerFits, lastWordsFit, refused11, refused14, monthWithdrawn, Past13};
+ghost use Rattle.sheet.specs.YearSheet.{sheetLength, sheetUser, sheetYear, withdrawnReading, injectedReading, word, limitAt, unusedBand, atFault, headerFits, lastWordsFit, formFits, versionZero, pointZero, refused11, refused14, monthWithdrawn, Past13};
 use tariff::MONTHLY_THRESHOLD;
 use units::Kwh;
 use units::MAX_KWH;
@@ -86,15 +86,13 @@ fn word_at(s: &[u8], month: usize, place: usize) -> u32
     codec::read_u32(s, HEADER + 96 * month + 4 * place)
 }
 
-// 11: a length, a header or a zero word that is wrong.
+// 11: a length, a header or a zero word that is wrong. Bytes 8 and 12–15 of the header are parts of their own.
 fn header_fits(s: &[u8]) -> bool
     ensures { λ r. ⌜ r ≡ headerFits (now (s .entry)) ⌝ }
 {
-    let mut zeros = true;
-    for i in 0..24 {
-        zeros = zeros & (codec::byte_at(s, 8 + i) == 0);
-    }
-    (withdrawn_reading(s) <= 1) & (injected_reading(s) <= 1) & zeros
+    (withdrawn_reading(s) <= 1)
+        & (injected_reading(s) <= 1)
+        & (codec::zeros(s, 9, 3) & codec::zeros(s, 16, 16))
 }
 
 fn last_words_fit(s: &[u8]) -> bool
@@ -107,15 +105,34 @@ fn last_words_fit(s: &[u8]) -> bool
     zeros
 }
 
-pub fn header_wrong(s: &[u8]) -> bool
-    ensures { λ r. ⌜ r ≡ refused11 (now (s .entry)) ⌝ }
+// The sheet's form, whatever stands in bytes 8 and 12–15.
+pub fn form_fits(s: &[u8]) -> bool
+    ensures { λ r. ⌜ r ≡ formFits (now (s .entry)) ⌝ }
 {
     if s.len() == LENGTH {
         let s = whole(s);
-        !(header_fits(s) & last_words_fit(s))
+        header_fits(s) & last_words_fit(s)
     } else {
-        true
+        false
     }
+}
+
+fn version_zero(s: &[u8]) -> bool
+    ensures { λ r. ⌜ r ≡ versionZero (now (s .entry)) ⌝ }
+{
+    codec::zeros(s, 8, 1)
+}
+
+fn point_zero(s: &[u8]) -> bool
+    ensures { λ r. ⌜ r ≡ pointZero (now (s .entry)) ⌝ }
+{
+    codec::zeros(s, 12, 4)
+}
+
+pub fn header_wrong(s: &[u8]) -> bool
+    ensures { λ r. ⌜ r ≡ refused11 (now (s .entry)) ⌝ }
+{
+    !(form_fits(s) & (version_zero(s) & point_zero(s)))
 }
 
 fn limit_at(place: usize) -> u64

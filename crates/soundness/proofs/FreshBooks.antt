@@ -8,8 +8,9 @@ use borrow.Author.Tests.{le-leb, eq-eqb}
 use lib.Dec.{eqb}
 use lib.ListN.{length, getD, replicate, length-replicate, getD-replicate}
 use Rattle.units.proofs.Folds.{all-of}
+use Rattle.codec.specs.Bytes.{zeros}
 use Rattle.codec.proofs.Numbers.{number-four}
-use Rattle.layout.specs.Fields.{recordLength, recordAt, usedField, firstUserField, zeros, allZero, unnamedOfHead}
+use Rattle.layout.specs.Fields.{recordLength, recordAt, usedField, firstUserField, allZero, unnamedOfHead}
 use Rattle.layout.proofs.Places.{get-record, byte-record}
 use Rattle.book.specs.Book.{lengthFits, freshBook, used, usedFits, firstUser, goodHead, sound}
 use Rattle.soundness.specs.Verdicts.{Accepted, freshAfter}

@@ -2,6 +2,7 @@
 use mathlib.Core.Path.{_≡_}
 use denote.Ref.{now}
 use Rattle.sheet_archive.specs.Archive.{answer, archiveAfter, sheetAfter}
+use Rattle.sheet_losses.specs.Losses.{answerOf, raisedAfter}
 use Rattle.book.specs.Book.{used}
 use Rattle.soundness.specs.Verdicts.{freshAnswer, freshAfter}
 use Rattle.sheet.specs.YearSheet.{Tells}
@@ -10,7 +11,7 @@ use Rattle.answers.specs.Answers.{Answered}
 use Rattle.advance.specs.Advances.{ticksAnswered}
 use Rattle.close.specs.Closings.{sumsAnswered}
 use Rattle.statement.specs.Stated.{sumsStated}
-use Rattle.ssp.specs.Flat.{interfaceNumber, detailsOf, positionOf, flatClosed, flatSums}
+use Rattle.ssp.specs.Flat.{interfaceNumber, detailsOf, positionOf, flatClosed, flatSums, flatRaised}
 use Rattle.ssp.proofs.ssp_interface.Reads as interface-of
 use Rattle.ssp.proofs.ssp_fresh.Reads as fresh-of
 use Rattle.ssp.proofs.ssp_enrol.Reads as enrol-of
@@ -20,6 +21,7 @@ use Rattle.ssp.proofs.ssp_close.Reads as close-of
 use Rattle.ssp.proofs.ssp_statement.Reads as statement-of
 use Rattle.ssp.proofs.ssp_archive.Reads as archive-of
 use Rattle.ssp.proofs.ssp_restore.Reads as restore-of
+use Rattle.ssp.proofs.ssp_raise.Reads as raise-of
 
 pub interface-says : (κs : _) (a : _) (r : _) (s : _) → interface-of.Post κs a r s → r ≡ interfaceNumber
 interface-says κs a r s said = said
@@ -58,3 +60,7 @@ archive-says κs a r s said = said
 pub restore-says : (κs : _) (a : _) (r : _) (s : _) → restore-of.Post κs a r s
     → (r ≡ answer (now (a .0)) (now (a .1 .0))) × (now (s .1 .0) ≡ sheetAfter (now (a .0)) (now (a .1 .0)))
 restore-says κs a r s said = said
+
+pub raise-says : (κs : _) (a : _) (r : _) (s : _) → raise-of.Post κs a r s
+    → (r ≡ flatRaised (answerOf (a .1 .0) (now (a .0)))) × (now (s .0) ≡ raisedAfter (a .1 .0) (now (a .0)))
+raise-says κs a r s said = said

@@ -7,11 +7,13 @@ use Rattle.sheet.specs.declared.Position.{Position}
 use Rattle.accounts.specs.declared.ClosingSums.{ClosingSums}
 use Rattle.statements.specs.declared.Sums as statements
 use Rattle.ssp.specs.declared.Closed.{Closed}
+use Rattle.sheet_losses.specs.declared.Raised as losses
 use Rattle.ssp.specs.declared.Sums.{Sums}
+use Rattle.ssp.specs.declared.Raised.{Raised}
 
 -- SSP_INTERFACE of include/ssp.h, which rises with each landing that changes a struct or a function
 abbrev pub interfaceNumber : ℕ
-interfaceNumber = 3
+interfaceNumber = 4
 
 abbrev pub detailsOf : ℕ → ℕ → ℕ → ℕ → ℕ → ℕ → Details
 detailsOf class plant power year month island =
@@ -52,4 +54,15 @@ flatSums refusal named s =
       balance = toZ w64 (s .balance .0);
       advances = s .advances .0;
       «closed_advances» = s .«closed_advances» .0;
+    }
+
+unfoldable pub flatRaised : losses.Raised → Raised
+flatRaised r =
+    record {
+      refusal = r .refusal;
+      month = r .position .month;
+      place = r .position .place;
+      rest1 = r .rests .first;
+      rest2 = r .rests .second;
+      rest3 = r .rests .third;
     }

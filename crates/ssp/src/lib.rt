@@ -2,6 +2,7 @@
 // answer of the call beneath it.
 ghost use mathlib.Core.Path.{_≡_};
 ghost use Rattle.sheet_archive.specs.Archive.{answer, archiveAfter, sheetAfter};
+ghost use Rattle.sheet_losses.specs.Losses.{answerOf, raisedAfter};
 ghost use Rattle.book.specs.Book.{used};
 ghost use Rattle.soundness.specs.Verdicts.{freshAnswer, freshAfter};
 ghost use Rattle.sheet.specs.YearSheet.{Tells};
@@ -10,14 +11,14 @@ ghost use Rattle.answers.specs.Answers.{Answered};
 ghost use Rattle.advance.specs.Advances.{ticksAnswered};
 ghost use Rattle.close.specs.Closings.{sumsAnswered};
 ghost use Rattle.statement.specs.Stated.{sumsStated};
-ghost use Rattle.ssp.specs.Flat.{interfaceNumber, detailsOf, positionOf, flatClosed, flatSums};
+ghost use Rattle.ssp.specs.Flat.{interfaceNumber, detailsOf, positionOf, flatClosed, flatSums, flatRaised};
 use units::Rate;
 use units::UserNumber;
 use units::WideKwh;
 use values::Details;
 
 // The number of this interface, SSP_INTERFACE of the header: it rises with each landing that changes a struct or a function.
-const INTERFACE: u32 = 3;
+const INTERFACE: u32 = 4;
 
 #[repr(C)]
 pub struct Booked {
@@ -64,6 +65,16 @@ pub struct Sums {
     pub closed_advances: u64,
 }
 
+#[repr(C)]
+pub struct Raised {
+    pub refusal: u32,
+    pub month: u32,
+    pub place: u32,
+    pub rest1: u32,
+    pub rest2: u32,
+    pub rest3: u32,
+}
+
 fn flat_closed(closed: close::Closed) -> Closed
     ensures { λ r. ⌜ r ≡ flatClosed (closed .reply .refusal) (closed .reply .record .0) (closed .position) (closed .sums) ⌝ }
 {
@@ -103,6 +114,19 @@ fn flat_sums(stated: statement::Stated) -> Sums
         balance,
         advances: sums.advances.0,
         closed_advances: sums.closed_advances.0,
+    }
+}
+
+fn flat_raised(raised: sheet_losses::Raised) -> Raised
+    ensures { λ r. ⌜ r ≡ flatRaised raised ⌝ }
+{
+    Raised {
+        refusal: raised.refusal,
+        month: raised.position.month,
+        place: raised.position.place,
+        rest1: raised.rests.first,
+        rest2: raised.rests.second,
+        rest3: raised.rests.third,
     }
 }
 
@@ -228,4 +252,12 @@ pub extern "C" fn ssp_restore(archive: &[u8], sheet: &mut [u8]) -> u32
     ensures { λ _. ⌜ now (sheet .exit) ≡ sheetAfter (now (archive .entry)) (now (sheet .entry)) ⌝ }
 {
     sheet_archive::restore(archive, sheet)
+}
+
+#[no_mangle]
+pub extern "C" fn ssp_raise(sheet: &mut [u8], factor: u32) -> Raised
+    ensures { λ r. ⌜ r ≡ flatRaised (answerOf factor (now (sheet .entry))) ⌝ }
+    ensures { λ _. ⌜ now (sheet .exit) ≡ raisedAfter factor (now (sheet .entry)) ⌝ }
+{
+    flat_raised(sheet_losses::raise(sheet, factor))
 }

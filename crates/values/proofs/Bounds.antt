@@ -8,8 +8,8 @@ use borrow.Author.Tests.{eqb-true}
 use lib.Dec.{lit<, eqb}
 use Rattle.units.specs.Folds.{sumBelow, allBelow, anyBelow}
 use Rattle.units.proofs.Folds.{sum-capped, all-at}
-use Rattle.codec.specs.Bytes.{littleEndian, bytesOf, part, number}
-use Rattle.sheet.specs.YearSheet.{withdrawnReading, injectedReading, word, headerFits, lastWordsFit, refused11, limitAt, aboveLimit, unusedBand, strayBand, atFault, earliest, refused13, refused19, monthWithdrawn, Past13}
+use Rattle.codec.specs.Bytes.{littleEndian, bytesOf, part, number, zeros}
+use Rattle.sheet.specs.YearSheet.{withdrawnReading, injectedReading, word, headerFits, lastWordsFit, formFits, refused11, limitAt, aboveLimit, unusedBand, strayBand, atFault, earliest, refused13, refused19, monthWithdrawn, Past13}
 use Rattle.sheet.proofs.Limits.{passed-energy, month-withdrawn-capped}
 use Rattle.values.specs.YearsValues.{monthInjected, withdrawnOver, injectedOver}
 use Rattle.values.specs.Bounds.{monthBound, yearBound, SheetsBounded, numbers, months, fullSheet, BoundsReached}
@@ -39,7 +39,7 @@ sheets-bounded s h =
     }
 
 past11 : refused11 fullSheet ≡ false
-unfolding fullSheet months numbers allBelow littleEndian bytesOf part number withdrawnReading injectedReading word headerFits lastWordsFit refused11
+unfolding fullSheet months numbers allBelow littleEndian bytesOf part number zeros withdrawnReading injectedReading word headerFits lastWordsFit formFits refused11
 past11 = refl
 
 past13 : Past13 fullSheet

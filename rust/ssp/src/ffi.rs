@@ -1,7 +1,7 @@
 //! The exported functions of libssp.a, as `include/ssp.h` declares them.
 
 /// `SSP_INTERFACE` of the header that these declarations follow.
-pub const INTERFACE: u32 = 3;
+pub const INTERFACE: u32 = 4;
 
 #[repr(C)]
 pub struct Booked {
@@ -48,6 +48,16 @@ pub struct Sums {
     pub closed_advances: u64,
 }
 
+#[repr(C)]
+pub struct Raised {
+    pub refusal: u32,
+    pub month: u32,
+    pub place: u32,
+    pub rest1: u32,
+    pub rest2: u32,
+    pub rest3: u32,
+}
+
 unsafe extern "C" {
     pub fn ssp_interface() -> u32;
     pub fn ssp_fresh(book: *mut u8, len: usize) -> u32;
@@ -78,13 +88,14 @@ unsafe extern "C" {
     pub fn ssp_statement(book: *const u8, len: usize, number: u32) -> Sums;
     pub fn ssp_archive(sheet: *const u8, sheet_len: usize, archive: *mut u8, archive_len: usize) -> u32;
     pub fn ssp_restore(archive: *const u8, archive_len: usize, sheet: *mut u8, sheet_len: usize) -> u32;
+    pub fn ssp_raise(sheet: *mut u8, sheet_len: usize, factor: u32) -> Raised;
 }
 
 #[cfg(test)]
 mod tests {
     use std::ptr::{null, null_mut};
 
-    use super::{ssp_archive, ssp_close, ssp_fresh, ssp_restore, ssp_statement};
+    use super::{ssp_archive, ssp_close, ssp_fresh, ssp_raise, ssp_restore, ssp_statement};
 
     /// "With length 0 no byte is read or written and the pointer may be NULL."
     #[test]
@@ -99,6 +110,7 @@ mod tests {
             assert_eq!(ssp_close(book.as_mut_ptr(), book.len(), null(), 0).refusal, 11);
             assert_eq!(ssp_archive(null(), 0, null_mut(), 0), 27);
             assert_eq!(ssp_restore(null(), 0, null_mut(), 0), 27);
+            assert_eq!(ssp_raise(null_mut(), 0, 0).refusal, 11);
         }
     }
 }

@@ -32,12 +32,14 @@ mod amount;
 mod answers;
 mod archive;
 mod ffi;
+mod losses;
 mod place;
 mod refusal;
 
 pub use amount::{Balance, Ticks};
 pub use answers::{Closing, Statement};
 pub use archive::{archive_sheet, archive_sheet_into, restore_sheet, restore_sheet_into};
+pub use losses::{Rests, raise_injected};
 pub use place::Place;
 pub use refusal::Refusal;
 

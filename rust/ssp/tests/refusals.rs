@@ -262,3 +262,10 @@ fn buffer_size() {
         is(refusal.expect_err("another size"), Refusal::BufferSize, 27, text);
     }
 }
+
+#[test]
+fn factor() {
+    let mut sheet = [0; Book::SHEET];
+    let refusal = ssp_book::raise_injected(&mut sheet, 201).expect_err("a larger factor");
+    is(refusal, Refusal::Factor, 26, "the factor is above 200 thousandths");
+}

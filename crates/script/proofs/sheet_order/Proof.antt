@@ -36,12 +36,31 @@ returns-2 c =
     let one = two .before .before .before in
     rw (sym (one .before .begins .ensures) ∙ one .if1 .left, sym (two .before .begins2 .ensures) ∙ two .if2 .taken) (c .restore-order .ensures)
 
+slice-aggregate-begins-3 : tie.Need-slice-aggregate-begins-3
+slice-aggregate-begins-3 c = search needs
+
+begins-requires-3 : tie.Need-begins-requires-3
+begins-requires-3 c κs = search needs
+
+raise-order-requires : tie.Need-raise-order-requires
+raise-order-requires c κs = search needs
+
 returns-3 : tie.Need-returns-3
 unfolding sheetOrder
 returns-3 c =
-    let two = c in
+    let three = c .before in
+    let two = three .before .before .before in
     let one = two .before .before .before in
-    rw (sym (one .before .begins .ensures) ∙ one .if1 .left, sym (two .before .begins2 .ensures) ∙ two .if2 .left)
+    rw (sym (one .before .begins .ensures) ∙ one .if1 .left, sym (two .before .begins2 .ensures) ∙ two .if2 .left, sym (three .before .begins3 .ensures) ∙ three .if3 .taken)
+    (c .raise-order .ensures)
+
+returns-4 : tie.Need-returns-4
+unfolding sheetOrder
+returns-4 c =
+    let three = c in
+    let two = three .before .before .before in
+    let one = two .before .before .before in
+    rw (sym (one .before .begins .ensures) ∙ one .if1 .left, sym (two .before .begins2 .ensures) ∙ two .if2 .left, sym (three .before .begins3 .ensures) ∙ three .if3 .left)
 
 pub sheet-order-spec : {M : Type 1} → statement M
 sheet-order-spec =
@@ -55,4 +74,8 @@ sheet-order-spec =
     begins-requires-2
     restore-order-requires
     returns-2
-    returns-3)
+    slice-aggregate-begins-3
+    begins-requires-3
+    raise-order-requires
+    returns-3
+    returns-4)

@@ -1,41 +1,22 @@
--- The length first, then the rule, test by test.
-use Prim.Native.Nat.{ℕ}
-use mathlib.Core.Path.{_≡_}
-use mathlib.Core.Bool.{Bool, true, not, _&&_}
-use mathlib.Core.List.{List}
-use borrow.Author.Tests.{eq-eqb, ne-eqb}
-use denote.Ref.{now}
-use lib.ListN.{length}
-use Rattle.sheet.specs.YearSheet.{sheetLength, headerFits, lastWordsFit, refused11}
+-- Not all three parts.
+use Rattle.sheet.specs.YearSheet.{refused11}
 use borrow.Author.Needs.{needs}
 use Rattle.sheet.proofs.header_wrong.Statement.{statement}
 use Rattle.sheet.proofs.header_wrong.Tie as tie
 
-of-length : {s part : List ℕ} {header words : Bool} → length s ≡ sheetLength → part ≡ s → header ≡ headerFits part → words ≡ lastWordsFit part
-    → not (header && words) ≡ refused11 s
-unfolding refused11
-of-length {s} n e h w = rw (h, w, e, eq-eqb (length s) sheetLength n)
+form-fits-requires : tie.Need-form-fits-requires
+form-fits-requires c κs = search needs
 
-of-another : (s : List ℕ) → (length s ≡ sheetLength → ⊥) → true ≡ refused11 s
-unfolding refused11
-of-another s n = rw (ne-eqb (length s) sheetLength n)
+version-zero-requires : tie.Need-version-zero-requires
+version-zero-requires c κs = search needs
 
-whole-requires : tie.Need-whole-requires
-whole-requires c κs = search needs
-
-header-fits-requires : tie.Need-header-fits-requires
-header-fits-requires c κs = search needs
-
-last-words-fit-requires : tie.Need-last-words-fit-requires
-last-words-fit-requires c κs = search needs
+point-zero-requires : tie.Need-point-zero-requires
+point-zero-requires c κs = search needs
 
 returns : tie.Need-returns
-returns c = of-length (c .before .before .before .if1 .taken) (c .before .before .whole .ensures) (c .before .header-fits .ensures) (c .last-words-fit .ensures)
-
-returns-2 : tie.Need-returns-2
-returns-2 c = of-another (now (c .before .before .args .s)) (c .if1 .left)
+unfolding refused11
+returns c = cc
 
 pub header-wrong-spec : {M : Type 1} → statement M
 header-wrong-spec =
-    tie.close
-    (tie.spec whole-requires header-fits-requires last-words-fit-requires returns returns-2)
+    tie.close (tie.spec form-fits-requires version-zero-requires point-zero-requires returns)

@@ -6,12 +6,14 @@ mod books;
 mod household;
 #[path = "../../tests/common/plain_archive.rs"]
 mod plain_archive;
+#[path = "../../tests/common/plain_losses.rs"]
+mod plain_losses;
 
 use std::hint::black_box;
 use std::time::{Duration, Instant};
 
 use books::{LONGEST, Numbers, book_of_entries, book_of_one, book_of_users, damaged, middle_user, sheet};
-use ssp_book::{Book, Day, Order, Refusal, archive_sheet_into, option, restore_sheet_into, run};
+use ssp_book::{Book, Day, Order, Refusal, archive_sheet_into, option, raise_injected, restore_sheet_into, run};
 
 /// The shortest of 15 rounds, each of as many turns as take 4 ms.
 fn nanoseconds(mut turn: impl FnMut()) -> f64 {
@@ -153,6 +155,24 @@ fn archives(name: &str, sheet: &[u8; Book::SHEET]) {
     assert!(restored == *sheet);
 }
 
+/// The raising of a sheet's injected readings, beside the same loop in plain Rust. Each call gets the sheet by a copy, in both.
+fn raises(name: &str, sheet: &[u8; Book::SHEET]) {
+    let (mut raised, mut plain) = (*sheet, *sheet);
+    row(
+        name,
+        "raise",
+        nanoseconds(|| {
+            raised.copy_from_slice(black_box(sheet));
+            assert!(raise_injected(black_box(&mut raised[..]), black_box(51)).is_ok());
+        }),
+        nanoseconds(|| {
+            plain.copy_from_slice(black_box(sheet));
+            assert_eq!(plain_losses::raise(black_box(&mut plain[..]), black_box(51)).0, 0);
+        }),
+    );
+    assert!(raised == plain);
+}
+
 fn main() {
     println!(
         "{:<30} {:<10} {:>12} {:>12} {:>8}",
@@ -175,10 +195,9 @@ fn main() {
         }
     }
 
-    archives(
-        "a sheet, beside a plain loop",
-        &sheet(1, 2013).try_into().expect("a sheet's size"),
-    );
+    let one_sheet = sheet(1, 2013).try_into().expect("a sheet's size");
+    archives("a sheet, beside a plain loop", &one_sheet);
+    raises("a sheet, beside a plain loop", &one_sheet);
 
     println!();
     refused("798 users", &book_of_users(800, Numbers::Scattered));

@@ -10,9 +10,8 @@ use lib.Dec.{eqb}
 use lib.ListN.{getD}
 use Rattle.units.specs.Folds.{allBelow}
 use Rattle.units.proofs.Folds.{all-at, all-of}
-use Rattle.codec.specs.Bytes.{littleEndian, number}
+use Rattle.codec.specs.Bytes.{littleEndian, number, zeros}
 use Rattle.codec.proofs.Numbers.{table, number-bytes}
-use Rattle.layout.specs.Fields.{zeros}
 
 -- two tests that pass together are one
 same-test : (s t : Bool) → (s ≡ true → t ≡ true) → (t ≡ true → s ≡ true) → s ≡ t

@@ -1,0 +1,100 @@
+-- Each band by itself, from the rest that passes to it.
+use mathlib.Core.Path.{ap}
+use native.Mathlib.Omega.{arith}
+use borrow.Author.Needs.{needs}
+use denote.Ref.{now}
+use Rattle.sheet_losses.specs.declared.Rests.{Rests}
+use Rattle.sheet_losses.specs.Losses.{bandOf}
+use Rattle.sheet_losses.proofs.Months.{rest-below, band-raised, band-passed, some-above, bands-raised, rests-passed}
+use Rattle.sheet_losses.proofs.raised_month.Statement.{statement}
+use Rattle.sheet_losses.proofs.raised_month.Tie as tie
+
+number-at-requires : tie.Need-number-at-requires
+number-at-requires c κs = search needs
+
+add-number-at : tie.Need-add-number-at
+add-number-at c = search needs
+
+number-at-requires-2 : tie.Need-number-at-requires-2
+number-at-requires-2 c κs = search needs
+
+add-number-at-2 : tie.Need-add-number-at-2
+add-number-at-2 c = search needs
+
+number-at-requires-3 : tie.Need-number-at-requires-3
+number-at-requires-3 c κs = search needs
+
+divide-requires : tie.Need-divide-requires
+divide-requires c κs =
+    let start = c .before .before .before .before in
+    let a = start .args in
+    let rest = ap (λ (r : Rests). r .first) (start .pre .1 .1) in
+    (search needs, omega (arith, rest, rest-below (a .factor) (bandOf (now (a .sheet)) 0) (a .month)))
+
+divide-requires-2 : tie.Need-divide-requires-2
+divide-requires-2 c κs =
+    let start = c .before .before .before .before .before in
+    let a = start .args in
+    let rest = ap (λ (r : Rests). r .second) (start .pre .1 .1) in
+    (search needs, omega (arith, rest, rest-below (a .factor) (bandOf (now (a .sheet)) 1) (a .month)))
+
+divide-requires-3 : tie.Need-divide-requires-3
+divide-requires-3 c κs =
+    let start = c .before .before .before .before .before .before in
+    let a = start .args in
+    let rest = ap (λ (r : Rests). r .third) (start .pre .1 .1) in
+    (search needs, omega (arith, rest, rest-below (a .factor) (bandOf (now (a .sheet)) 2) (a .month)))
+
+above-requires : tie.Need-above-requires
+above-requires c κs = search needs
+
+above-requires-2 : tie.Need-above-requires-2
+above-requires-2 c κs = search needs
+
+above-requires-3 : tie.Need-above-requires-3
+above-requires-3 c κs = search needs
+
+returns : tie.Need-returns
+returns c =
+    let d₂ = c .before .before .before in
+    let d₁ = d₂ .before in
+    let d₀ = d₁ .before in
+    let n₂ = d₀ .before in
+    let n₁ = n₂ .before in
+    let n₀ = n₁ .before in
+    let start = n₀ .before .before in
+    let factor = start .args .factor in
+    let s = now (start .args .sheet) in
+    let month = start .args .month in
+    let rests = start .pre .1 .1 in
+    let r₀ = ap (λ (r : Rests). r .first) rests in
+    let r₁ = ap (λ (r : Rests). r .second) rests in
+    let r₂ = ap (λ (r : Rests). r .third) rests in
+    let k₀ = band-raised factor s month 0 (n₀ .number-at .ensures) r₀ (d₀ .divide .ensures) in
+    let k₁ = band-raised factor s month 1 (n₁ .number-at2 .ensures) r₁ (d₁ .divide2 .ensures) in
+    let k₂ = band-raised factor s month 2 (n₂ .number-at3 .ensures) r₂ (d₂ .divide3 .ensures) in (
+      bands-raised factor s month k₀ k₁ k₂,
+      (
+        some-above factor s month (c .before .before .above .ensures) (c .before .above2 .ensures) (c .above3 .ensures) k₀ k₁ k₂,
+        rests-passed factor s month (band-passed factor s month 0 (n₀ .number-at .ensures) r₀ (d₀ .divide .ensures))
+            (band-passed factor s month 1 (n₁ .number-at2 .ensures) r₁ (d₁ .divide2 .ensures))
+            (band-passed factor s month 2 (n₂ .number-at3 .ensures) r₂ (d₂ .divide3 .ensures)),
+      ),
+    )
+
+pub raised-month-spec : {M : Type 1} → statement M
+raised-month-spec =
+    tie.close
+    (tie.spec
+    number-at-requires
+    add-number-at
+    number-at-requires-2
+    add-number-at-2
+    number-at-requires-3
+    divide-requires
+    divide-requires-2
+    divide-requires-3
+    above-requires
+    above-requires-2
+    above-requires-3
+    returns)

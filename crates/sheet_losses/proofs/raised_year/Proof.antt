@@ -1,0 +1,92 @@
+-- After each turn one month more is worked.
+use Prim.Native.Nat.{_-_}
+use mathlib.Core.Path.{refl, sym, _∙_}
+use borrow.Author.Needs.{needs}
+use denote.Ref.{now}
+use Rattle.sheet_losses.proofs.Months.{bands-within}
+use Rattle.sheet_losses.proofs.Years.{Working, begins, goes-on, stops, ends}
+use Rattle.sheet_losses.proofs.raised_year.Statement.{statement}
+use Rattle.sheet_losses.proofs.raised_year.Tie as tie
+
+abbrev Inv-loop : tie.InvT-loop
+Inv-loop sheet factor months₀ rests₀ month₀ months rests month = Working factor sheet months rests month
+
+abbrev μ-loop : tie.MeasureT-loop
+μ-loop sheet factor months₀ rests₀ month₀ months rests month = 12 - month
+
+loop-holds : tie.Need-loop-holds Inv-loop μ-loop
+loop-holds c = let a = c .before .args in begins (a .factor) (now (a .sheet))
+
+raised-month-requires : tie.Need-raised-month-requires Inv-loop μ-loop
+raised-month-requires c κs = search needs
+
+first-above-requires : tie.Need-first-above-requires Inv-loop μ-loop
+first-above-requires c κs = search needs
+
+position-of-requires : tie.Need-position-of-requires Inv-loop μ-loop
+position-of-requires c κs = search needs
+
+refused-requires : tie.Need-refused-requires Inv-loop μ-loop
+refused-requires c κs = search needs
+
+returns : tie.Need-returns Inv-loop μ-loop
+returns c =
+    let worked = c .before .before .before .before .before in
+    let l = worked .before .before .loop in
+    let a = worked .before .before .before .before .args in
+    let said = worked .raised-month .ensures in
+    stops (a .factor) (now (a .sheet)) (l .inv) (search needs) (said .0) (said .1 .0) (c .before .before .before .if1 .taken)
+    (c .before .before .first-above .ensures .1) (c .before .position-of .ensures) (c .refused .ensures)
+
+narrowed-requires : tie.Need-narrowed-requires Inv-loop μ-loop
+narrowed-requires c κs =
+    let worked = c .before .before in
+    let a = worked .before .before .before .before .args in
+    let said = worked .raised-month .ensures in
+    bands-within (a .factor) (now (a .sheet)) (worked .before .before .loop .month) (said .0) (sym (said .1 .0) ∙ c .if1 .left)
+
+mul-months : tie.Need-mul-months Inv-loop μ-loop
+mul-months c = search needs
+
+array-set-from-months : tie.Need-array-set-from-months Inv-loop μ-loop
+array-set-from-months c = search needs
+
+add-month : tie.Need-add-month Inv-loop μ-loop
+add-month c = search needs
+
+loop-less : tie.Need-loop-less Inv-loop μ-loop
+loop-less c = search needs
+
+loop-again : tie.Need-loop-again Inv-loop μ-loop
+loop-again c =
+    let worked = c .before .before .before .before in
+    let l = worked .before .before .loop in
+    let a = worked .before .before .before .before .args in
+    let said = worked .raised-month .ensures in
+    goes-on (a .factor) (now (a .sheet)) (l .inv) (search needs) (said .0) (c .before .narrowed .ensures) (said .1 .0) (c .before .before .if1 .left) (said .1 .1)
+
+returns-2 : tie.Need-returns-2 Inv-loop μ-loop
+returns-2 c =
+    let l = c .before .loop in
+    let a = c .before .before .before .args in
+    ends (a .factor) (now (a .sheet)) (l .inv) (search needs) refl refl
+
+pub raised-year-spec : {M : Type 1} → statement M
+raised-year-spec =
+    tie.close
+    (tie.spec
+    Inv-loop
+    μ-loop
+    loop-holds
+    raised-month-requires
+    first-above-requires
+    position-of-requires
+    refused-requires
+    returns
+    narrowed-requires
+    mul-months
+    array-set-from-months
+    add-month
+    loop-less
+    loop-again
+    returns-2)

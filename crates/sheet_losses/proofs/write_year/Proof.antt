@@ -1,0 +1,71 @@
+-- After each turn one month more stands in the sheet.
+use Prim.Native.Nat.{_-_, _≤_}
+use mathlib.Core.Path.{_≡_, refl}
+use native.Mathlib.Omega.{arith}
+use borrow.Author.Needs.{needs}
+use denote.Ref.{now}
+use lib.ListN.{length}
+use Rattle.sheet_losses.specs.Losses.{withInjected}
+use Rattle.sheet_losses.specs.Steps.{readingsIn}
+use Rattle.sheet_losses.proofs.Writing.{none-written, next-written}
+use Rattle.sheet_losses.proofs.write_year.Statement.{statement}
+use Rattle.sheet_losses.proofs.write_year.Tie as tie
+
+abbrev Inv-loop : tie.InvT-loop
+Inv-loop sheet₀ months month₀ sheet month =
+    (month ≤ 12) × ((length sheet ≡ length sheet₀) × (sheet ≡ withInjected (readingsIn months) sheet₀ month))
+
+abbrev μ-loop : tie.MeasureT-loop
+μ-loop sheet₀ months month₀ sheet month = 12 - month
+
+loop-holds : tie.Need-loop-holds Inv-loop μ-loop
+loop-holds c =
+    let a = c .before .args in
+    (search needs, (refl, none-written (readingsIn (a .t2)) (now (a .sheet))))
+
+mul-raised : tie.Need-mul-raised Inv-loop μ-loop
+mul-raised c = search needs
+
+array-copy-out-raised : tie.Need-array-copy-out-raised Inv-loop μ-loop
+array-copy-out-raised c = search needs
+
+store-month-requires : tie.Need-store-month-requires Inv-loop μ-loop
+store-month-requires c κs = search needs
+
+add-month : tie.Need-add-month Inv-loop μ-loop
+add-month c = search needs
+
+loop-less : tie.Need-loop-less Inv-loop μ-loop
+loop-less c = search needs
+
+loop-again : tie.Need-loop-again Inv-loop μ-loop
+loop-again c =
+    let w = c .before .before .store-month in
+    let l = c .before .before .before .before .before .before .loop in
+    let a = c .before .before .before .before .before .before .before .before .args in
+    (search needs, (omega (arith, w .kept .0), next-written (readingsIn (a .t2)) (now (a .sheet)) (l .month) (l .sheet) (w .last .0) (l .inv .1 .1) (w .ensures)))
+
+same-length : tie.Need-same-length Inv-loop μ-loop
+same-length c = search needs
+
+returns : tie.Need-returns Inv-loop μ-loop
+returns c =
+    let l = c .before .loop in
+    let end : l .month ≡ 12 = omega arith in
+    rw end at (l .inv .1 .1)
+
+pub write-year-spec : {M : Type 1} → statement M
+write-year-spec =
+    tie.close
+    (tie.spec
+    Inv-loop
+    μ-loop
+    loop-holds
+    mul-raised
+    array-copy-out-raised
+    store-month-requires
+    add-month
+    loop-less
+    loop-again
+    same-length
+    returns)
