@@ -1,0 +1,4 @@
+pub mod Filling
+pub mod Above
+pub mod LineReading
+pub mod Reading
