@@ -4,7 +4,7 @@ use Prim.Native.Nat.{ℕ, zero, suc, _+_, _*_, _/_, _%_, _^_, _≤_, _<_}
 use mathlib.Core.Path.{_≡_, refl, sym, ap, _∙_}
 use mathlib.Core.Bool.{Bool, true, false, cond}
 use mathlib.Core.List.{List, [], _∷_, _++_}
-use native.Mathlib.Nat.{pow-suc}
+use native.Mathlib.Nat.{pow-suc, one-le-pow}
 use native.Mathlib.Decide.{decLt}
 use native.Mathlib.Omega.{arith}
 use lib.Dec.{ltb}
@@ -66,7 +66,10 @@ decimal-more n h = decimal-last n ∙ ap (λ (f : List ℕ). f ++ ((48 + n % 10)
 pub front-length : (n : ℕ) → length (front n) + 1 ≡ length (decimal n)
 front-length n = sym (ap length (decimal-last n) ∙ length-append (front n) ((48 + n % 10) ∷ []))
 
--- k digits hold every number below 10^k
+pub length-more : (n : ℕ) → 10 ≤ n → length (decimal n) ≡ length (decimal (n / 10)) + 1
+length-more n h = ap length (decimal-more n h) ∙ length-append (decimal (n / 10)) ((48 + n % 10) ∷ [])
+
+-- k digits hold every number below 10^k, and no number from 10^k on
 pub decimal-short : (k n : ℕ) → n < 10 ^ suc k → length (decimal n) ≤ suc k
 decimal-short zero n h = let l : length (decimal n) ≡ 1 = ap length (decimal-digit n (omega arith)) in omega arith
 decimal-short (suc k) n h = by-size (decLt n 10) (decimal-short k)
@@ -77,6 +80,14 @@ decimal-short (suc k) n h = by-size (decLt n 10) (decimal-short k)
         let rest : n / 10 < 10 ^ suc k = let p : 10 ^ suc (suc k) ≡ 10 ^ suc k * 10 = pow-suc 10 (suc k) in omega arith in
         let before : length (front n) ≡ length (decimal (n / 10)) = ap length (front-more n (omega (arith, more))) in
         omega (arith, front-length n, shorter (n / 10) rest)
+
+pub decimal-long : (k n : ℕ) → 10 ^ k ≤ n → suc k ≤ length (decimal n)
+decimal-long zero n h = omega (arith, front-length n)
+decimal-long (suc k) n h =
+    let p : 10 ^ suc k ≡ 10 ^ k * 10 = pow-suc 10 k in
+    let one : 1 ≤ 10 ^ k = one-le-pow k 10 (omega arith) in
+    let rest : 10 ^ k ≤ n / 10 = omega arith in
+    omega (arith, length-more n (omega arith), decimal-long k (n / 10) rest)
 
 pub field-length : (n stop : ℕ) → length (field n stop) ≡ length (decimal n) + 1
 unfolding field

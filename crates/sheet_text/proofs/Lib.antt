@@ -3,3 +3,6 @@ pub mod Above
 pub mod LineReading
 pub mod Reading
 pub mod ReadCalls
+pub mod LineWriting
+pub mod SheetAbove
+pub mod WriteCalls

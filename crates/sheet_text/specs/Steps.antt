@@ -6,11 +6,14 @@ use mathlib.Core.List.{List, [], _++_}
 use lib.Dec.{eqb}
 use lib.ListN.{length, getD, drop}
 use Rattle.units.specs.Limits.{maxKwh}
+use Rattle.sheet.specs.declared.Position.{Position}
+use Rattle.sheet.specs.YearSheet.{word, nowhere}
 use Rattle.decimals.specs.Decimals.{field}
 use Rattle.sheet_text.specs.declared.Line.{Line}
 use Rattle.sheet_text.specs.declared.Measures.{Measures}
 use Rattle.sheet_text.specs.Lines.{semicolon, lineFeed, months, places, beginsLine, kwhAt, behindLine, kwhIn}
 use Rattle.sheet_text.specs.Reading.{someAbove, firstAbove, someRefused, textAnswer}
+use Rattle.sheet_text.specs.Writing.{sheetAbove, monthAbove}
 
 -- a number above its limit counts as one above it
 abbrev pub tooMuch : ℕ
@@ -41,10 +44,17 @@ pub record MeasuresRead (t : List ℕ) (r : Measures) : Type 0 where
   pub answer : r .answer ≡ textAnswer t
   pub numbers : someRefused t ≡ false → (m p : ℕ) → m < months → p < places → yearOf (r .year .kwh) m p ≡ kwhIn t m p
 
--- the byte behind the number at a place, and the first n numbers of a line, the month in front
+-- the kWh of a month of a sheet; where the first of the sheet above its limit stands, zeros for none
+abbrev pub MonthOf : List ℕ → ℕ → List ℕ → Type 0
+MonthOf s m six = (p : ℕ) → p < places → kwhOf six p ≡ word s m p
+
+unfoldable pub positionAbove : List ℕ → Position
+positionAbove s = cond (sheetAbove s) (record { month = monthAbove s + 1; place = firstAbove (word s (monthAbove s)) + 1 }) nowhere
+
+-- the byte behind the number at a place, and the numbers of a line up to a place
 unfoldable pub stopAt : ℕ → ℕ
 stopAt p = cond (eqb p 5) lineFeed semicolon
 
-unfoldable pub lineTo : ℕ → (ℕ → ℕ) → ℕ → List ℕ
-lineTo month kwh zero = field month semicolon
-lineTo month kwh (suc p) = lineTo month kwh p ++ field (kwh p) (stopAt p)
+unfoldable pub numbersTo : (ℕ → ℕ) → ℕ → List ℕ
+numbersTo kwh zero = []
+numbersTo kwh (suc p) = numbersTo kwh p ++ field (kwh p) (stopAt p)

@@ -1,7 +1,7 @@
 // "Grid operator's text file" (document 02, ticket 2): the kWh of a sheet from twelve lines of text, and the lines from a sheet.
 // Every string of bytes is an ordinary input.
 ghost use mathlib.Core.Path.{_≡_};
-ghost use mathlib.Core.Bool.{false};
+ghost use mathlib.Core.Bool.{true, false};
 ghost use Prim.Native.Nat.{_+_, _*_, _≤_, _<_};
 ghost use lib.ListN.{length};
 ghost use Rattle.codec.specs.Bytes.{stored};
@@ -9,10 +9,12 @@ ghost use Rattle.sheet.specs.YearSheet.{sheetLength, word};
 ghost use Rattle.sheet_text.specs.Lines.{months, places, line, yearText};
 ghost use Rattle.sheet_text.specs.Reading.{wrongLine, aboveIn, readAnswer, sheetAfter, monthFilled, filled};
 ghost use Rattle.sheet_text.specs.Writing.{sizesFit, sheetAbove, textRoom, writeAnswer, bufferAfter};
-ghost use Rattle.sheet_text.specs.Steps.{kwhOf, yearOf, placeAbove, stopAt, LineRead, MonthPut, MeasuresRead};
+ghost use Rattle.sheet_text.specs.Steps.{kwhOf, yearOf, placeAbove, positionAbove, stopAt, numbersTo, LineRead, MonthPut, MeasuresRead, MonthOf};
 use sheet::HEADER;
 use sheet::LENGTH;
 use sheet::MONTHS;
+use sheet::NOWHERE;
+use sheet::Position;
 use units::MAX_KWH;
 
 // A month's kWh: three withdrawn, three injected.
@@ -229,4 +231,107 @@ pub fn read_measures(sheet: &mut [u8], text: &[u8]) -> Read
         fill(sheet, kwh);
     }
     answer
+}
+
+// The kWh of a month of a sheet.
+fn month_of(sheet: &[u8], month: usize) -> [u32; PLACES]
+    requires { ⌜ (length (now sheet) ≡ sheetLength) × (month < months) ⌝ }
+    ensures { λ r. ⌜ MonthOf (now (sheet .entry)) month r ⌝ }
+{
+    let mut kwh = [0u32; PLACES];
+    for place in 0..PLACES {
+        kwh[place] = sheet::number_at(sheet, month, place);
+    }
+    kwh
+}
+
+// Where the first kWh of a sheet above its limit stands.
+fn first_above(sheet: &[u8]) -> Position
+    requires { ⌜ length (now sheet) ≡ sheetLength ⌝ }
+    ensures { λ r. ⌜ r ≡ positionAbove (now (sheet .entry)) ⌝ }
+{
+    for month in 0..MONTHS {
+        let place = place_above(month_of(sheet, month));
+        if place < PLACES {
+            return Position {
+                month: month as u32 + 1,
+                place: place as u32 + 1,
+            };
+        }
+    }
+    NOWHERE
+}
+
+// The byte behind the number at a place.
+fn stop_at(place: usize) -> u8
+    ensures { λ r. ⌜ r ≡ stopAt place ⌝ }
+{
+    if place == 5 { b'\n' } else { b';' }
+}
+
+// Writes the numbers of a line at a place of the text, and answers the place behind them.
+fn write_numbers(out: &mut [u8], at: usize, kwh: [u32; PLACES]) -> usize
+    requires { ⌜ at + length (numbersTo (kwhOf kwh) places) ≤ length (now out) ⌝ }
+    ensures { λ r. ⌜ r ≡ at + length (numbersTo (kwhOf kwh) places) ⌝ }
+    ensures { λ _. ⌜ now (out .exit) ≡ stored at (numbersTo (kwhOf kwh) places) (now (out .entry)) ⌝ }
+{
+    let mut end = at;
+    for place in 0..PLACES {
+        end = decimals::write_field(out, end, kwh[place] as u64, stop_at(place));
+    }
+    end
+}
+
+// The line of a month, counted from 0.
+fn write_line(out: &mut [u8], at: usize, month: usize, kwh: [u32; PLACES]) -> usize
+    requires { ⌜ (month < months) × (at + length (line (month + 1) (kwhOf kwh)) ≤ length (now out)) ⌝ }
+    ensures { λ r. ⌜ r ≡ at + length (line (month + 1) (kwhOf kwh)) ⌝ }
+    ensures { λ _. ⌜ now (out .exit) ≡ stored at (line (month + 1) (kwhOf kwh)) (now (out .entry)) ⌝ }
+{
+    let end = decimals::write_field(out, at, month as u64 + 1, b';');
+    write_numbers(out, end, kwh)
+}
+
+fn write_lines(sheet: &[u8], out: &mut [u8]) -> usize
+    requires { ⌜ (sizesFit (now sheet) (now out) ≡ true) × (sheetAbove (now sheet) ≡ false) ⌝ }
+    ensures { λ r. ⌜ (r ≡ length (yearText (word (now (sheet .entry))))) × (r ≤ textRoom) ⌝ }
+    ensures { λ _. ⌜ now (out .exit) ≡ stored 0 (yearText (word (now (sheet .entry)))) (now (out .entry)) ⌝ }
+{
+    let mut end = 0;
+    for month in 0..MONTHS {
+        let kwh = month_of(sheet, month);
+        end = write_line(out, end, month, kwh);
+    }
+    end
+}
+
+// Writes the lines of a sheet into exactly ROOM bytes, of which the rest stays. A refusal leaves them all.
+pub fn write_measures(sheet: &[u8], text: &mut [u8]) -> Written
+    ensures { λ r. ⌜ r ≡ writeAnswer (now (sheet .entry)) (now (text .entry)) ⌝ }
+    ensures { λ _. ⌜ now (text .exit) ≡ bufferAfter (now (sheet .entry)) (now (text .entry)) ⌝ }
+{
+    if (sheet.len() != LENGTH) | (text.len() != ROOM) {
+        return Written {
+            refusal: 11,
+            length: 0,
+            month: 0,
+            place: 0,
+        };
+    }
+    let above = first_above(sheet);
+    if above.month != 0 {
+        return Written {
+            refusal: 13,
+            length: 0,
+            month: above.month,
+            place: above.place,
+        };
+    }
+    let length = write_lines(sheet, text) as u32;
+    Written {
+        refusal: 0,
+        length,
+        month: 0,
+        place: 0,
+    }
 }
