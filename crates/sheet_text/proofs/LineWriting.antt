@@ -13,9 +13,9 @@ use Rattle.codec.proofs.Pieces.{stored-none, stored-then}
 use Rattle.decimals.specs.Decimals.{decimal, field}
 use Rattle.decimals.proofs.Written.{decimal-digit, length-more, decimal-short, decimal-long, field-length}
 use Rattle.sheet_text.specs.Lines.{semicolon, lineFeed, months, places, line, lines}
+use Rattle.sheet_text.specs.Reading.{Within}
 use Rattle.sheet_text.specs.Writing.{textRoom}
 use Rattle.sheet_text.specs.Steps.{stopAt, numbersTo}
-use Rattle.sheet_text.specs.Language.{Within}
 
 module _ (kwh : ℕ → ℕ) where
   pub numbers-none : [] ≡ numbersTo kwh 0

@@ -14,9 +14,8 @@ use Rattle.units.proofs.Folds.{any-zero, any-step, any-of, none-at, first-is}
 use Rattle.sheet.specs.declared.Position.{Position}
 use Rattle.sheet.specs.YearSheet.{sheetLength, word, nowhere}
 use Rattle.sheet_text.specs.Lines.{months, places}
-use Rattle.sheet_text.specs.Reading.{someAbove, firstAbove}
+use Rattle.sheet_text.specs.Reading.{someAbove, firstAbove, Within}
 use Rattle.sheet_text.specs.Writing.{textRoom, sizesFit, sheetAbove, monthAbove}
-use Rattle.sheet_text.specs.Language.{Within}
 use Rattle.sheet_text.specs.Steps.{kwhOf, placeAbove, positionAbove, MonthOf}
 use Rattle.sheet_text.proofs.Above.{found-place, none-found, none-above, place-same}
 

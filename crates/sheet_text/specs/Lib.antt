@@ -2,4 +2,3 @@ pub mod Lines
 pub mod Reading
 pub mod Writing
 pub mod Steps
-pub mod Language

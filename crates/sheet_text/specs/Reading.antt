@@ -1,6 +1,6 @@
 -- "A reader fills the kWh of a lent sheet from twelve such lines in month order and touches no other byte." (document 02,
 -- ticket 2)
-use Prim.Native.Nat.{ℕ, zero, suc, _+_, _*_}
+use Prim.Native.Nat.{ℕ, zero, suc, _+_, _*_, _≤_, _<_}
 use mathlib.Core.Bool.{Bool, cond, not, _&&_, _||_}
 use mathlib.Core.List.{List}
 use lib.Dec.{ltb, eqb}
@@ -23,6 +23,9 @@ someAbove kwh = anyBelow places (λ p. ltb maxKwh (kwh p))
 
 unfoldable pub firstAbove : (ℕ → ℕ) → ℕ
 firstAbove kwh = firstBelow places (λ p. ltb maxKwh (kwh p))
+
+abbrev pub Within : (ℕ → ℕ → ℕ) → Type 0
+Within kwh = (m p : ℕ) → m < months → p < places → kwh m p ≤ maxKwh
 
 unfoldable pub lineRefused : List ℕ → ℕ → Bool
 lineRefused t m = lineWrong t m || (ltb m months && someAbove (kwhIn t m))

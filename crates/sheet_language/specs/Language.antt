@@ -1,4 +1,4 @@
--- What holds of reader and writer together. kWh "within" a limit are those of a sheet that the writer takes.
+-- What holds of the operator's text, its reader and its writer (document 02, ticket 2).
 use Prim.Native.Nat.{ℕ, _+_, _*_, _≤_, _<_}
 use mathlib.Core.Path.{_≡_}
 use mathlib.Core.Bool.{true, false}
@@ -6,14 +6,11 @@ use mathlib.Core.List.{List, _++_}
 use lib.ListN.{length, getD, take}
 use Rattle.units.specs.Limits.{maxKwh}
 use Rattle.sheet.specs.YearSheet.{sheetLength, word}
 use Rattle.sheet_text.specs.Lines.{months, places, line, yearText, beginsLine, kwhAt, behindLine, kwhIn}
-use Rattle.sheet_text.specs.Reading.{accepted, textAnswer, readAnswer, sheetAfter}
+use Rattle.sheet_text.specs.Reading.{Within, accepted, textAnswer, readAnswer, sheetAfter}
 use Rattle.sheet_text.specs.Writing.{textRoom, textWritten, writeAnswer, bufferAfter}
 
--- the 72 numbers, each within the limit
-abbrev pub Within : (ℕ → ℕ → ℕ) → Type 0
-Within kwh = (m p : ℕ) → m < months → p < places → kwh m p ≤ maxKwh
-
+-- the same 72 numbers
 abbrev pub Same : (ℕ → ℕ → ℕ) → (ℕ → ℕ → ℕ) → Type 0
 Same f g = (m p : ℕ) → m < months → p < places → f m p ≡ g m p
 
