@@ -89,6 +89,30 @@ decimal-long (suc k) n h =
     let rest : 10 ^ k ≤ n / 10 = omega arith in
     omega (arith, length-more n (omega arith), decimal-long k (n / 10) rest)
 
+-- written in at most so many digits: they are no more, and they are those of the number where it has no more
+pub most-digits : (k n : ℕ) → length (decimalOf k n) ≤ k
+unfolding decimalOf
+most-digits zero n = omega arith
+most-digits (suc k) n = by-size (ltb n 10) (decimalOf k (n / 10)) (most-digits k (n / 10))
+  where
+    by-size : (small : Bool) (digits : List ℕ) → length digits ≤ k
+        → length (cond small ((48 + n) ∷ []) (digits ++ ((48 + n % 10) ∷ []))) ≤ suc k
+    by-size true digits l = omega arith
+    by-size false digits l = rw length-append (omega arith)
+
+pub all-digits : (k n : ℕ) → n < 10 ^ suc k → decimalOf (suc k) n ≡ decimal n
+unfolding decimalOf
+all-digits zero n h = let small : ltb n 10 ≡ true = lt-ltb n 10 (omega arith) in rw small (sym (decimal-digit n (omega arith)))
+all-digits (suc k) n h = by-size (decLt n 10) (all-digits k)
+  where
+    by-size : Dec (n < 10) → ((m : ℕ) → m < 10 ^ suc k → decimalOf (suc k) m ≡ decimal m) → decimalOf (suc (suc k)) n ≡ decimal n
+    by-size (yes less) before = let small : ltb n 10 ≡ true = lt-ltb n 10 less in rw small (sym (decimal-digit n less))
+    by-size (no more) before =
+        let ten : 10 ≤ n = omega (arith, more) in
+        let rest : n / 10 < 10 ^ suc k = let p : 10 ^ suc (suc k) ≡ 10 ^ suc k * 10 = pow-suc 10 (suc k) in omega arith in
+        let large : ltb n 10 ≡ false = le-ltb n 10 ten in
+        rw large (ap (λ (l : List ℕ). l ++ ((48 + n % 10) ∷ [])) (before (n / 10) rest) ∙ sym (decimal-more n ten))
+
 pub field-length : (n stop : ℕ) → length (field n stop) ≡ length (decimal n) + 1
 unfolding field
 field-length n stop = length-append (decimal n) (stop ∷ [])
