@@ -36,12 +36,15 @@ returns-2 c =
     let one = two .before .before .before in
     rw (sym (one .before .begins .ensures) ∙ one .if1 .left, sym (two .before .begins2 .ensures) ∙ two .if2 .taken) (c .restore-order .ensures)
 
+text-order-requires : tie.Need-text-order-requires
+text-order-requires c κs = search needs
+
 returns-3 : tie.Need-returns-3
 unfolding sheetOrder
 returns-3 c =
-    let two = c in
+    let two = c .before in
     let one = two .before .before .before in
-    rw (sym (one .before .begins .ensures) ∙ one .if1 .left, sym (two .before .begins2 .ensures) ∙ two .if2 .left)
+    rw (sym (one .before .begins .ensures) ∙ one .if1 .left, sym (two .before .begins2 .ensures) ∙ two .if2 .left) (c .text-order .ensures)
 
 pub sheet-order-spec : {M : Type 1} → statement M
 sheet-order-spec =
@@ -55,4 +58,5 @@ sheet-order-spec =
     begins-requires-2
     restore-order-requires
     returns-2
+    text-order-requires
     returns-3)
