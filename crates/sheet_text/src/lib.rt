@@ -20,7 +20,7 @@ use units::MAX_KWH;
 // A month's kWh: three withdrawn, three injected.
 const PLACES: usize = 6;
 
-const NUMBERS: usize = 72;
+pub const NUMBERS: usize = 72;
 
 // What the lines of every sheet fit into.
 pub const ROOM: usize = 675;

@@ -32,12 +32,14 @@ mod amount;
 mod answers;
 mod archive;
 mod ffi;
+mod measures;
 mod place;
 mod refusal;
 
 pub use amount::{Balance, Ticks};
 pub use answers::{Closing, Statement};
 pub use archive::{archive_sheet, archive_sheet_into, restore_sheet, restore_sheet_into};
+pub use measures::{read_measures, write_measures, write_measures_into};
 pub use place::Place;
 pub use refusal::Refusal;
 
@@ -126,6 +128,8 @@ impl<'a> Book<'a> {
 
     /// The length of a year sheet.
     pub const SHEET: usize = 1184;
+    /// The bytes that the lines of every sheet fit into, as the grid operator's text has them.
+    pub const MEASURES: usize = 675;
 
     /// The book that the bytes hold. Whether they hold one is checked by each call.
     ///
