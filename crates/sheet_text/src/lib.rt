@@ -159,14 +159,14 @@ pub fn measures_of(text: &[u8]) -> Measures
     let mut at = 0;
     for month in 0..MONTHS {
         let line = line_at(text, at, month as u32 + 1);
+        let kwh = line.kwh;
+        let place = place_above(kwh);
         if !line.fits {
             return Measures {
                 answer: wrong_line(month),
                 year,
             };
         }
-        let kwh = line.kwh;
-        let place = place_above(kwh);
         if place < PLACES {
             return Measures {
                 answer: above_in(month, place),

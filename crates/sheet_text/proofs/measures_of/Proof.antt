@@ -37,20 +37,20 @@ add-line-at c = search needs
 line-at-requires : tie.Need-line-at-requires Inv-loop μ-loop
 line-at-requires c κs = search needs
 
+place-above-requires : tie.Need-place-above-requires Inv-loop μ-loop
+place-above-requires c κs = search needs
+
 wrong-line-requires : tie.Need-wrong-line-requires Inv-loop μ-loop
 wrong-line-requires c κs = search needs
 
 returns : tie.Need-returns Inv-loop μ-loop
 returns c =
-    let l = c .before .before .before .before .before .loop in
-    let line = c .before .before .before .line-at in
-    let text = now (c .before .before .before .before .before .before .before .before .args .text) in
+    let l = c .before .before .before .before .before .before .before .loop in
+    let line = c .before .before .before .before .before .line-at in
+    let text = now (c .before .before .before .before .before .before .before .before .before .before .args .text) in
     let wrong = sym (line-judged text (l .at) (l .month) (omega arith) (l .inv .1 .0) (line .result) (line .ensures)) ∙ c .before .if1 .taken in
     let told = wrong-refused text (l .month) (omega arith) (l .inv .0 .1) wrong in
     refused-told text _ (told .0) (c .wrong-line .ensures ∙ told .1)
-
-place-above-requires : tie.Need-place-above-requires Inv-loop μ-loop
-place-above-requires c κs = search needs
 
 above-in-requires : tie.Need-above-in-requires Inv-loop μ-loop
 above-in-requires c κs = search needs
@@ -60,8 +60,8 @@ returns-2 c =
     let l = c .before .before .before .before .before .before .before .before .loop in
     let line = c .before .before .before .before .before .before .line-at in
     let text = now (c .before .before .before .before .before .before .before .before .before .before .before .args .text) in
-    let right = sym (line-judged text (l .at) (l .month) (omega arith) (l .inv .1 .0) (line .result) (line .ensures)) ∙ c .before .before .before .before .if1 .left in
-    let place = c .before .before .place-above .ensures ∙ line-place text (l .at) (l .month) (omega arith) (l .inv .1 .0) (line .result) (line .ensures) in
+    let right = sym (line-judged text (l .at) (l .month) (omega arith) (l .inv .1 .0) (line .result) (line .ensures)) ∙ c .before .before .if1 .left in
+    let place = c .before .before .before .before .place-above .ensures ∙ line-place text (l .at) (l .month) (omega arith) (l .inv .1 .0) (line .result) (line .ensures) in
     let found = found-place (kwhIn text (l .month)) (rw place at (c .before .if2 .taken)) in
     let told = above-refused text (l .month) (omega arith) (l .inv .0 .1) right (found .0) in
     refused-told text _ (told .0) (c .above-in .ensures ∙ ap (aboveIn (l .month)) (place ∙ found .1) ∙ told .1)
@@ -80,8 +80,8 @@ loop-again c =
     let l = c .before .before .before .before .before .before .before .before .loop in
     let line = c .before .before .before .before .before .before .line-at in
     let text = now (c .before .before .before .before .before .before .before .before .before .before .before .args .text) in
-    let right = sym (line-judged text (l .at) (l .month) (omega arith) (l .inv .1 .0) (line .result) (line .ensures)) ∙ c .before .before .before .before .if1 .left in
-    let place = c .before .before .place-above .ensures ∙ line-place text (l .at) (l .month) (omega arith) (l .inv .1 .0) (line .result) (line .ensures) in
+    let right = sym (line-judged text (l .at) (l .month) (omega arith) (l .inv .1 .0) (line .result) (line .ensures)) ∙ c .before .before .if1 .left in
+    let place = c .before .before .before .before .place-above .ensures ∙ line-place text (l .at) (l .month) (omega arith) (l .inv .1 .0) (line .result) (line .ensures) in
     let within = none-found (kwhIn text (l .month)) (rw place at (c .before .if2 .left)) in
     let numbers = number-within text (l .month) (line .result .kwh) (line-number text (l .at) (l .month) (omega arith) (l .inv .1 .0) (line .result) (line .ensures)) within in
     (
@@ -123,9 +123,9 @@ measures-of-spec =
     cast-line-at
     add-line-at
     line-at-requires
+    place-above-requires
     wrong-line-requires
     returns
-    place-above-requires
     above-in-requires
     returns-2
     with-month-requires
