@@ -65,3 +65,16 @@ reads-back =
           ∙ filled-numbers (kwhIn (yearText (word s))) u long (taken-within (yearText (word s)) (written-taken (word s) (sheet-within s small))) m p hm hp
           ∙ written-numbers (word s) m p hm hp;
     }
+
+-- an answer without a refusal is that of a text written, of that length
+pub written-answer : (s b : List ℕ) (n : ℕ) → writeAnswer s b .refusal ≡ 0 → writeAnswer s b .length ≡ n → writeAnswer s b ≡ textWritten n
+unfolding writeAnswer
+written-answer s b n z e = by-test (sizesFit s b) (sheetAbove s) z e
+  where
+    by-test : (f a : Bool)
+        → cond f (cond a (kwhRefused (monthAbove s) (firstAbove (word s (monthAbove s)))) (textWritten (length (yearText (word s))))) sizeRefused .refusal ≡ 0
+        → cond f (cond a (kwhRefused (monthAbove s) (firstAbove (word s (monthAbove s)))) (textWritten (length (yearText (word s))))) sizeRefused .length ≡ n
+        → cond f (cond a (kwhRefused (monthAbove s) (firstAbove (word s (monthAbove s)))) (textWritten (length (yearText (word s))))) sizeRefused ≡ textWritten n
+    by-test true true y l = let no : ⊥ = omega arith in absurd no
+    by-test true false y l = ap textWritten l
+    by-test false a y l = let no : ⊥ = omega arith in absurd no
