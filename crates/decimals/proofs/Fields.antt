@@ -41,9 +41,9 @@ digits-front (suc k) n t h = by-size (decLt n 10) (digits-front k)
         let b = 48 + n % 10 in
         let one : isDigit b ≡ true = digit-is (n % 10) (omega arith) in
         let long : length (decimal n) ≡ length (decimal (n / 10)) + 1
-                = ap length (decimal-more n (omega (arith, more))) ∙ length-append (decimal (n / 10)) (b ∷ []) in
+        = ap length (decimal-more n (omega (arith, more))) ∙ length-append (decimal (n / 10)) (b ∷ []) in
         let text : decimal n ++ t ≡ decimal (n / 10) ++ (b ∷ t)
-                = ap (λ (l : List ℕ). l ++ t) (decimal-more n (omega (arith, more))) ∙ append-assoc (decimal (n / 10)) (b ∷ []) t in
+        = ap (λ (l : List ℕ). l ++ t) (decimal-more n (omega (arith, more))) ∙ append-assoc (decimal (n / 10)) (b ∷ []) t in
         let last : digits (b ∷ t) ≡ suc (digits t) = rw one in
         ap digits text ∙ before (n / 10) (b ∷ t) (omega (arith, more)) ∙ omega arith
 
@@ -60,7 +60,7 @@ value-front (suc k) n t h = by-size (decLt n 10) (value-front k)
         let b = 48 + n % 10 in
         let one : isDigit b ≡ true = digit-is (n % 10) (omega arith) in
         let text : decimal n ++ t ≡ decimal (n / 10) ++ (b ∷ t)
-                = ap (λ (l : List ℕ). l ++ t) (decimal-more n (omega (arith, more))) ∙ append-assoc (decimal (n / 10)) (b ∷ []) t in
+        = ap (λ (l : List ℕ). l ++ t) (decimal-more n (omega (arith, more))) ∙ append-assoc (decimal (n / 10)) (b ∷ []) t in
         let whole : n / 10 * 10 + (b - 48) ≡ n = omega arith in
         let last : valueAfter (n / 10) (b ∷ t) ≡ valueAfter n t = rw (one, whole) in
         ap value text ∙ before (n / 10) (b ∷ t) (omega (arith, more)) ∙ last
@@ -80,7 +80,7 @@ first-digit (suc k) n t h l = by-size (decLt n 10) (first-digit k)
     by-size (yes less) before = rw (decimal-digit n less) (omega arith)
     by-size (no more) before =
         let text : decimal n ++ t ≡ decimal (n / 10) ++ ((48 + n % 10) ∷ t)
-                = ap (λ (l : List ℕ). l ++ t) (decimal-more n (omega (arith, more))) ∙ append-assoc (decimal (n / 10)) ((48 + n % 10) ∷ []) t in
+        = ap (λ (l : List ℕ). l ++ t) (decimal-more n (omega (arith, more))) ∙ append-assoc (decimal (n / 10)) ((48 + n % 10) ∷ []) t in
         rw text (before (n / 10) ((48 + n % 10) ∷ t) (omega (arith, more)) (omega (arith, more)))
 
 pub field-regroup : (n stop : ℕ) (t : List ℕ) → field n stop ++ t ≡ decimal n ++ (stop ∷ t)
@@ -115,6 +115,7 @@ module _ (n stop : ℕ) (t : List ℕ) (other : isDigit stop ≡ false) where
     where
       some : 0 < digits (field n stop ++ t)
       some = omega (arith, field-digits, front-length n)
+
       by-size : Dec (n < 10)
           → (ltb 0 (digits (field n stop ++ t)) && (eqb (digits (field n stop ++ t)) 1 || not (eqb (getD (field n stop ++ t) 0 0) 48))) ≡ true
       by-size (yes less) =
@@ -129,7 +130,7 @@ module _ (n stop : ℕ) (t : List ℕ) (other : isDigit stop ≡ false) where
   unfolding beginsField
   field-begins =
       let byte : getD (field n stop ++ t) (digits (field n stop ++ t)) 0 ≡ stop
-              = ap₂ (λ (l : List ℕ) (k : ℕ). getD l k 0) field-text field-digits ∙ getD-at (decimal n) stop t 0 (length (decimal n)) refl in
+      = ap₂ (λ (l : List ℕ) (k : ℕ). getD l k 0) field-text field-digits ∙ getD-at (decimal n) stop t 0 (length (decimal n)) refl in
       and-both field-plain (eq-eqb (getD (field n stop ++ t) (digits (field n stop ++ t)) 0) stop byte)
 
 -- READ, THEN WRITTEN: the digits behind a number other than 0 are written behind it
@@ -147,7 +148,7 @@ digits-behind n (b ∷ bs) l = by-test (isDigit b) refl (λ m. digits-behind (n 
         let tens : more / 10 ≡ n = omega arith in
         let ones : 48 + more % 10 ≡ b = omega arith in
         let one : decimal more ≡ decimal n ++ (b ∷ [])
-                = decimal-more more (omega arith) ∙ ap₂ (λ (m d : ℕ). decimal m ++ (d ∷ [])) tens ones in
+        = decimal-more more (omega arith) ∙ ap₂ (λ (m d : ℕ). decimal m ++ (d ∷ [])) tens ones in
         rest (omega arith)
         ∙ ap (λ (l : List ℕ). l ++ take (digits bs) bs) one
         ∙ append-assoc (decimal n) (b ∷ []) (take (digits bs) bs)
@@ -184,6 +185,7 @@ number-front (b ∷ bs) h = by-test (isDigit b) refl h
       where
         single : eqb b 48 ≡ true → (eqb (suc (digits bs)) 1 || not (eqb b 48)) ≡ true → digits bs ≡ 0
         single z e = omega (arith, eqb-true (suc (digits bs)) 1 (or-false (eqb (suc (digits bs)) 1) (rw z at e)))
+
     by-test : (d : Bool) → isDigit b ≡ d
         → (ltb 0 (cond d (suc (digits bs)) 0) && (eqb (cond d (suc (digits bs)) 0) 1 || not (eqb b 48))) ≡ true
         → decimal (cond d (valueAfter (0 * 10 + (b - 48)) bs) 0) ≡ take (cond d (suc (digits bs)) 0) (b ∷ bs)
@@ -210,7 +212,7 @@ field-read s at stop most end n next first last fits e v f l b r =
     let count : end - at ≡ digits (drop at s) = omega arith in
     let here : getD s at 0 ≡ getD (drop at s) 0 0 = sym (getD-drop at s 0 0 ∙ ap (λ (k : ℕ). getD s k 0) (add-zero at)) in
     let there : getD s end 0 ≡ getD (drop at s) (digits (drop at s)) 0
-            = ap (λ (k : ℕ). getD s k 0) e ∙ sym (getD-drop at s (digits (drop at s)) 0) in
+    = ap (λ (k : ℕ). getD s k 0) e ∙ sym (getD-drop at s (digits (drop at s)) 0) in
     record { fits = rw (b, count, f, l, here, there); value = v; rest = r }
 
 -- the place behind the byte, and at the end of the text the end

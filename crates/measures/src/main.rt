@@ -67,10 +67,7 @@ fn say_refused(read: Read) -> bool {
 
 fn check(text: &[u8]) -> bool {
     if TOO_LONG <= text.len() {
-        return say(output::put_text(
-            output::no_text(),
-            b"the file has more than 64000 bytes",
-        ));
+        return say(output::put_text(output::no_text(), b"the file has more than 64000 bytes"));
     }
     let measures = sheet_text::measures_of(text);
     let answer = measures.answer;
@@ -84,7 +81,9 @@ fn check(text: &[u8]) -> bool {
 
 fn main() {
     if 1 < os::arg_count() {
-        output::tell_use(b"measures: give the operator's file on standard input, and no argument\n");
+        output::tell_use(
+            b"measures: give the operator's file on standard input, and no argument\n",
+        );
         return;
     }
     let mut file = input::book_buffer();

@@ -39,6 +39,7 @@ module _ (kwh : ℕ → ℕ) (m : ℕ) (s : List ℕ) (hm : m < months) (long : 
     where
       size : length (monthFilled kwh m p s) ≡ sheetLength
       size = month-length kwh m s p long hm (omega arith)
+
       by-place : Dec (j < p) → (j < p → number 4 (32 + 96 * m + 4 * j) (monthFilled kwh m p s) ≡ kwh j)
           → number 4 (32 + 96 * m + 4 * j) (stored (32 + 96 * m + 4 * p) (bytesOf 4 (kwh p)) (monthFilled kwh m p s)) ≡ kwh j
       by-place (yes less) before =
@@ -55,6 +56,7 @@ module _ (kwh : ℕ → ℕ) (m : ℕ) (s : List ℕ) (hm : m < months) (long : 
     where
       size : length (monthFilled kwh m p s) ≡ sheetLength
       size = month-length kwh m s p long hm (omega arith)
+
       by-place : Dec (i < m) → number 4 (32 + 96 * i + 4 * j) (stored (32 + 96 * m + 4 * p) (bytesOf 4 (kwh p)) (monthFilled kwh m p s))
           ≡ number 4 (32 + 96 * i + 4 * j) (monthFilled kwh m p s)
       by-place (yes less) =
@@ -70,15 +72,18 @@ module _ (kwh : ℕ → ℕ) (m : ℕ) (s : List ℕ) (hm : m < months) (long : 
     where
       size : length (monthFilled kwh m p s) ≡ sheetLength
       size = month-length kwh m s p long hm (omega arith)
+
       kept : number 1 k (stored (32 + 96 * m + 4 * p) (bytesOf 4 (kwh p)) (monthFilled kwh m p s)) ≡ number 1 k (monthFilled kwh m p s)
           → getD (stored (32 + 96 * m + 4 * p) (bytesOf 4 (kwh p)) (monthFilled kwh m p s)) k 0 ≡ getD (monthFilled kwh m p s) k 0
       kept e = sym (number-one k (stored (32 + 96 * m + 4 * p) (bytesOf 4 (kwh p)) (monthFilled kwh m p s))) ∙ e ∙ number-one k (monthFilled kwh m p s)
+
       beyond : (k < 32 + 96 * m + 4 * p → ⊥) → 32 + 96 * m + 4 * p + 4 ≤ k
       beyond more = by-end (decLt k (32 + 96 * m + 4 * p + 4))
         where
           by-end : Dec (k < 32 + 96 * m + 4 * p + 4) → 32 + 96 * m + 4 * p + 4 ≤ k
           by-end (yes inside) = absurd (out p (omega arith) (omega (arith, more), inside))
           by-end (no outside) = omega (arith, outside)
+
       by-place : Dec (k < 32 + 96 * m + 4 * p)
           → getD (stored (32 + 96 * m + 4 * p) (bytesOf 4 (kwh p)) (monthFilled kwh m p s)) k 0 ≡ getD (monthFilled kwh m p s) k 0
       by-place (yes less) = kept (number-before 1 k (32 + 96 * m + 4 * p) (kwh p) (monthFilled kwh m p s) (omega (arith, size)) (omega arith))
@@ -93,6 +98,7 @@ module _ (kwh : ℕ → ℕ → ℕ) (s : List ℕ) (long : length s ≡ sheetLe
     where
       size : length (monthsFilled kwh n s) ≡ sheetLength
       size = months-length kwh s n long (omega arith)
+
       by-place : Dec (i < n) → (i < n → word (monthsFilled kwh n s) i j ≡ kwh i j) → word (monthFilled (kwh n) n places (monthsFilled kwh n s)) i j ≡ kwh i j
       by-place (yes less) before =
           month-other (kwh n) n (monthsFilled kwh n s) (omega arith) size places i j (omega arith) (λ e. omega arith) hj ∙ before less

@@ -57,9 +57,9 @@ line-shaped month t e =
     let f₄ = split 4 semicolon t (λ z. omega arith) (and-left (b 4) (b 5 && last) e₄) ∙ ap (λ (u : List ℕ). field (kwhAt t 3) semicolon ++ u) f₅ in
     let f₃ = split 3 semicolon t (λ z. omega arith) (and-left (b 3) (b 4 && (b 5 && last)) e₃) ∙ ap (λ (u : List ℕ). field (kwhAt t 2) semicolon ++ u) f₄ in
     let f₂ = split 2 semicolon t (λ z. omega arith) (and-left (b 2) (b 3 && (b 4 && (b 5 && last))) e₂)
-            ∙ ap (λ (u : List ℕ). field (kwhAt t 1) semicolon ++ u) f₃ in
+    ∙ ap (λ (u : List ℕ). field (kwhAt t 1) semicolon ++ u) f₃ in
     let f₁ = split 1 semicolon t (λ z. omega arith) (and-left (b 1) (b 2 && (b 3 && (b 4 && (b 5 && last)))) e₁)
-            ∙ ap (λ (u : List ℕ). field (kwhAt t 0) semicolon ++ u) f₂ in
+    ∙ ap (λ (u : List ℕ). field (kwhAt t 0) semicolon ++ u) f₂ in
     first-split t (and-left (beginsField semicolon t) (eqb (value t) month) front)
     ∙ ap₂ (λ (n : ℕ) (u : List ℕ). field n semicolon ++ u) month-read f₁
     ∙ sym (line-fields month (kwhAt t) (behindLine t))

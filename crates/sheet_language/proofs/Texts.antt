@@ -140,7 +140,7 @@ module _ (kwh : ℕ → ℕ → ℕ) where
       not-refused-at : (m : ℕ) → Dec (m < months) → m < months + 1 → lineRefused (yearText kwh) m ≡ false
       not-refused-at m (yes less) h =
           let small : someAbove (kwhIn (yearText kwh) m) ≡ false
-                  = all-within (kwhIn (yearText kwh) m) (λ p l. rw (written-numbers m p less l) (within m p less l)) in
+          = all-within (kwhIn (yearText kwh) m) (λ p l. rw (written-numbers m p less l) (within m p less l)) in
           rw (line-right m less, small, lt-ltb m months less)
       not-refused-at m (no more) h =
           let end : m ≡ months = omega (arith, more) in

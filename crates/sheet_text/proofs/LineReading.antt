@@ -77,7 +77,7 @@ line-read t at month front first second third fourth fifth sixth hm r₀ r₁ r�
     let f₅ = field-next t at 5 (fourth .next) semicolon fifth (f₄ .rest) r₅ in
     let f₆ = field-next t at 6 (fifth .next) lineFeed sixth (f₅ .rest) r₆ in
     let month-fits : eqb (front .value) month ≡ eqb (value (drop at t)) month
-            = ap (λ (n : ℕ). eqb n month) (f₀ .value) ∙ month-told (value (drop at t)) month hm in
+    = ap (λ (n : ℕ). eqb n month) (f₀ .value) ∙ month-told (value (drop at t)) month hm in
     record {
       fits =
           regrouped (front .fits) (eqb (front .value) month) (first .fits) (second .fits) (third .fits) (fourth .fits) (fifth .fits) (sixth .fits)

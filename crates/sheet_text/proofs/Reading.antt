@@ -99,8 +99,7 @@ module _ (t : List ℕ) where
   pub end-judged : (at : ℕ) → drop at t ≡ fromLine months t → (at < length t → lineWrong t months ≡ true) × (length t ≤ at → lineWrong t months ≡ false)
   unfolding lineWrong
   end-judged at place =
-      let left : length (fromLine months t) ≡ length t - at = sym (ap length place) ∙ length-drop at t in
-      (
+      let left : length (fromLine months t) ≡ length t - at = sym (ap length place) ∙ length-drop at t in (
         λ l. ap not (ne-eqb (length (fromLine months t)) 0 (λ e. omega arith)),
         λ l. ap not (eq-eqb (length (fromLine months t)) 0 (omega arith)),
       )

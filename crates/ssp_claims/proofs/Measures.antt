@@ -23,8 +23,8 @@ measures-back =
           let said′ = read-says κs′ a′ r′ s′ p′ in
           let n = r .length in
           let wrote : writeAnswer (now (a .0)) (now (a .1 .0)) ≡ textWritten n
-                  = written-answer (now (a .0)) (now (a .1 .0)) n (sym (ap (λ (w : flat-written.Written). w .refusal) (said .0)) ∙ zero)
-                  (sym (ap (λ (w : flat-written.Written). w .length) (said .0))) in
+          = written-answer (now (a .0)) (now (a .1 .0)) n (sym (ap (λ (w : flat-written.Written). w .refusal) (said .0)) ∙ zero)
+          (sym (ap (λ (w : flat-written.Written). w .length) (said .0))) in
           let text : now (a′ .1 .0) ≡ take n (bufferAfter (now (a .0)) (now (a .1 .0))) = same ∙ ap (take n) (said .1) in
           ap (λ (x : flat-read.Read). x .refusal) (said′ .0)
           ∙ ap (λ (t : List ℕ). readAnswer (now (a′ .0)) t .refusal) text
@@ -35,8 +35,8 @@ measures-back =
           let said′ = read-says κs′ a′ r′ s′ p′ in
           let n = r .length in
           let wrote : writeAnswer (now (a .0)) (now (a .1 .0)) ≡ textWritten n
-                  = written-answer (now (a .0)) (now (a .1 .0)) n (sym (ap (λ (w : flat-written.Written). w .refusal) (said .0)) ∙ zero)
-                  (sym (ap (λ (w : flat-written.Written). w .length) (said .0))) in
+          = written-answer (now (a .0)) (now (a .1 .0)) n (sym (ap (λ (w : flat-written.Written). w .refusal) (said .0)) ∙ zero)
+          (sym (ap (λ (w : flat-written.Written). w .length) (said .0))) in
           let text : now (a′ .1 .0) ≡ take n (bufferAfter (now (a .0)) (now (a .1 .0))) = same ∙ ap (take n) (said .1) in
           ap (λ (l : List ℕ). word l m q) (said′ .1)
           ∙ ap (λ (t : List ℕ). word (sheetAfter (now (a′ .0)) t) m q) text

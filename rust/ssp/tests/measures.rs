@@ -36,7 +36,12 @@ fn zeros() -> Vec<String> {
 fn agrees(bytes: &[u8], text: &[u8]) -> Result<(), Refused> {
     let (mut ours, mut theirs) = (bytes.to_vec(), bytes.to_vec());
     let read = read_measures(&mut ours, text).map_err(told);
-    assert_eq!(read, plain_measures::read(&mut theirs, text), "{:?}", String::from_utf8_lossy(text));
+    assert_eq!(
+        read,
+        plain_measures::read(&mut theirs, text),
+        "{:?}",
+        String::from_utf8_lossy(text)
+    );
     assert_eq!(ours, theirs);
     if read.is_err() {
         assert_eq!(ours, bytes, "a refusal leaves the sheet");
@@ -60,7 +65,11 @@ fn spoil(dice: &mut Dice, text: &mut Vec<u8>) {
             let lines: Vec<_> = text.split_inclusive(|&byte| byte == b'\n').map(<[u8]>::to_vec).collect();
             let left_out = dice.below(lines.len() as u64 + 1) as usize;
             let twice = dice.below(lines.len() as u64 + 1) as usize;
-            *text = lines.iter().enumerate().flat_map(|(k, line)| line.repeat(usize::from(k != left_out) + usize::from(k == twice))).collect();
+            *text = lines
+                .iter()
+                .enumerate()
+                .flat_map(|(k, line)| line.repeat(usize::from(k != left_out) + usize::from(k == twice)))
+                .collect();
         }
         6 => drop(text.splice(at..at, std::iter::repeat_n(b'9', dice.below(120) as usize))),
         _ => text.insert(at, dice.one_of(b"0;\n\r -+1\0".map(u64::from).as_ref()) as u8),
@@ -73,7 +82,9 @@ fn texts_right_and_wrong() {
     let mut taken = 0;
     for round in 0..60_000 {
         let largest = dice.one_of(&[20_000_000, 20_000_000, 1000, 20_000_200]);
-        let numbers: Vec<_> = (0..72).map(|_| (dice.below(largest + 1) >> dice.one_of(&[0, 0, 10, 24])).to_string()).collect();
+        let numbers: Vec<_> = (0..72)
+            .map(|_| (dice.below(largest + 1) >> dice.one_of(&[0, 0, 10, 24])).to_string())
+            .collect();
         let mut bytes = text(|month, place| numbers[6 * month + place].clone()).concat().into_bytes();
         for _ in 0..dice.one_of(&[0, 1, 1, 2, 3]) {
             spoil(&mut dice, &mut bytes);
@@ -128,14 +139,36 @@ fn shapes() {
     assert_eq!(at(1, "1;0;0;0;0;0;0\n"), Ok(()));
     assert_eq!(at(7, "7;1;2;3;4;5;20000000\n"), Ok(()));
     for line in [
-        "", "\n", "7\n", "7;0;0;0;0;0\n", "7;0;0;0;0;0;0;0\n", "7;0;0;0;0;0;0", "7;0;0;0;0;0;0;\n", ";0;0;0;0;0;0\n", "07;0;0;0;0;0;0\n",
-        "6;0;0;0;0;0;0\n", "7;00;0;0;0;0;0\n", "7;01;0;0;0;0;0\n", "7;+1;0;0;0;0;0\n", "7;-1;0;0;0;0;0\n", "7; 1;0;0;0;0;0\n", "7;1 ;0;0;0;0;0\n",
-        "7;;0;0;0;0;0\n", "7;0;0;0;0;0;0\r\n", "7,0,0,0,0,0,0\n", "7;0x1;0;0;0;0;0\n", "7;1.0;0;0;0;0;0\n", "7;00;0;0;0;0;99999999\n",
+        "",
+        "\n",
+        "7\n",
+        "7;0;0;0;0;0\n",
+        "7;0;0;0;0;0;0;0\n",
+        "7;0;0;0;0;0;0",
+        "7;0;0;0;0;0;0;\n",
+        ";0;0;0;0;0;0\n",
+        "07;0;0;0;0;0;0\n",
+        "6;0;0;0;0;0;0\n",
+        "7;00;0;0;0;0;0\n",
+        "7;01;0;0;0;0;0\n",
+        "7;+1;0;0;0;0;0\n",
+        "7;-1;0;0;0;0;0\n",
+        "7; 1;0;0;0;0;0\n",
+        "7;1 ;0;0;0;0;0\n",
+        "7;;0;0;0;0;0\n",
+        "7;0;0;0;0;0;0\r\n",
+        "7,0,0,0,0,0,0\n",
+        "7;0x1;0;0;0;0;0\n",
+        "7;1.0;0;0;0;0;0\n",
+        "7;00;0;0;0;0;99999999\n",
     ] {
         assert_eq!(at(7, line), Err(Refused::Line(7)), "{line:?}");
     }
     assert_eq!(at(7, "7;0;0;20000001;0;0;99999999\n"), Err(Refused::Above(7, 3)));
-    assert_eq!(at(7, &format!("7;0;0;0;0;0;{}\n", "9".repeat(100))), Err(Refused::Above(7, 6)));
+    assert_eq!(
+        at(7, &format!("7;0;0;0;0;0;{}\n", "9".repeat(100))),
+        Err(Refused::Above(7, 6))
+    );
     // a number that 32 or 64 bits would take for a small one
     assert_eq!(at(7, "7;4294967296;0;0;0;0;0\n"), Err(Refused::Above(7, 1)));
     assert_eq!(at(7, "7;0;18446744073709551617;0;0;0;0\n"), Err(Refused::Above(7, 2)));

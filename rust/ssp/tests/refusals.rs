@@ -272,7 +272,12 @@ fn line() {
     is(refusal, Refusal::Line { line: 1 }, 17, line);
     let text: String = (1..=13).map(|month| format!("{month};0;0;0;0;0;0\n")).collect();
     let refusal = read_measures(&mut sheet, text).expect_err("thirteen lines");
-    is(refusal, Refusal::Line { line: 13 }, 17, "line 13: the text goes on behind its twelfth line");
+    is(
+        refusal,
+        Refusal::Line { line: 13 },
+        17,
+        "line 13: the text goes on behind its twelfth line",
+    );
 
     let refusal = read_measures(&mut sheet, "1;0;20000001;0;0;0;0\n").expect_err("a kWh above the limit");
     let above = Refusal::AboveLimit {
@@ -288,5 +293,10 @@ fn line() {
         "month 1: withdrawn F2 is above 20,000,000 kWh",
     );
     let refusal = read_measures(&mut sheet[1..], "").expect_err("a byte too few");
-    is(refusal, Refusal::Sheet, 11, "the sheet's length, header or a zero word is wrong");
+    is(
+        refusal,
+        Refusal::Sheet,
+        11,
+        "the sheet's length, header or a zero word is wrong",
+    );
 }

@@ -33,10 +33,10 @@ returns c =
     let s = now (a .s) in
     let run = c .before .before .before .read-run in
     let next : drop (c .before .if1 .next) s ≡ behind (drop (a .at) s)
-            = ⊎-elim
-            (λ w. ap (λ (k : ℕ). drop k s) (w .1) ∙ next-inside s (a .at) (run .result .end) (run .ensures .end))
-            (λ w. ap (λ (k : ℕ). drop k s) (w .1) ∙ next-end s (a .at) (run .result .end) (w .0 .left) (run .ensures .end))
-            (c .before .if1 .came) in
+    = ⊎-elim
+    (λ w. ap (λ (k : ℕ). drop k s) (w .1) ∙ next-inside s (a .at) (run .result .end) (run .ensures .end))
+    (λ w. ap (λ (k : ℕ). drop k s) (w .1) ∙ next-end s (a .at) (run .result .end) (w .0 .left) (run .ensures .end))
+    (c .before .if1 .came) in
     field-read s (a .at) (a .stop) (a .most) (run .result .end) (run .result .value) (c .before .if1 .next) (c .before .before .byte-at .result) (c .byte-at2 .result) _
     (run .ensures .end) (run .ensures .value) (c .before .before .byte-at .ensures) (c .byte-at2 .ensures) refl next
 

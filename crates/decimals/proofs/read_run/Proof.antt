@@ -71,8 +71,7 @@ loop-again c =
     let count = digits-more s (l .end) d in
     let more = l .value * 10 + (getD s (l .end) 0 - 48) in
     let read : c .with-digit .result ≡ min more (a .most)
-            = c .with-digit .ensures ∙ ap (λ (b : ℕ). min (l .value * 10 + (b - 48)) (a .most)) (c .before .byte-at2 .ensures) in
-    (
+    = c .with-digit .ensures ∙ ap (λ (b : ℕ). min (l .value * 10 + (b - 48)) (a .most)) (c .before .byte-at2 .ensures) in (
       (λ m. omega arith, omega arith),
       (
         omega (arith, l .inv .1 .0),

@@ -23,8 +23,7 @@ returns : tie.Need-returns
 returns c =
     let a = c .before .before .before .before .before .args in
     let w = c .before .before .write-field in
-    let whole = field-whole (a .n) (a .after) (omega arith) in
-    (
+    let whole = field-whole (a .n) (a .after) (omega arith) in (
       w .ensures .0 ∙ ap (λ (l : List ℕ). a .at + length l) whole,
       (
         w .ensures .1 ∙ ap (λ (l : List ℕ). stored (a .at) l (now (a .out))) whole,

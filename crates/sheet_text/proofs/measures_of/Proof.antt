@@ -83,8 +83,7 @@ loop-again c =
     let right = sym (line-judged text (l .at) (l .month) (omega arith) (l .inv .1 .0) (line .result) (line .ensures)) ∙ c .before .before .if1 .left in
     let place = c .before .before .before .before .place-above .ensures ∙ line-place text (l .at) (l .month) (omega arith) (l .inv .1 .0) (line .result) (line .ensures) in
     let within = none-found (kwhIn text (l .month)) (rw place at (c .before .if2 .left)) in
-    let numbers = number-within text (l .month) (line .result .kwh) (line-number text (l .at) (l .month) (omega arith) (l .inv .1 .0) (line .result) (line .ensures)) within in
-    (
+    let numbers = number-within text (l .month) (line .result .kwh) (line-number text (l .at) (l .month) (omega arith) (l .inv .1 .0) (line .result) (line .ensures)) within in (
       (search needs, line-taken text (l .month) (omega arith) (l .inv .0 .1) right within),
       (
         line-rest text (l .at) (l .month) (omega arith) (l .inv .1 .0) (line .result) (line .ensures),

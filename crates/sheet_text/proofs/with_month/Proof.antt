@@ -52,8 +52,7 @@ loop-again c =
     let l = c .before .loop in
     let a = c .before .before .before .args in
     let at = places * a .month + l .place in
-    let v = kwhOf (a .t3) (l .place) in
-    (
+    let v = kwhOf (a .t3) (l .place) in (
       (search needs, simp length-set (l .inv .0 .1)),
       (
         below-more (λ p. yearOf (set (l .filled) at v) (a .month) p ≡ kwhOf (a .t3) p) (l .place)

@@ -34,8 +34,7 @@ returns c =
     let a = c .before .before .before .before .before .before .before .before .before .args in
     let w = c .before .before .before .before .before .before .write-field in
     let n = c .before .before .write-numbers in
-    let kwh = kwhOf (a .kwh) in
-    (
+    let kwh = kwhOf (a .kwh) in (
       omega (arith, line-length (a .month + 1) kwh, w .ensures .0, n .ensures .0),
       n .ensures .1
           ∙ ap₂ (λ (e : ℕ) (o : List ℕ). stored e (numbersTo kwh places) o) (w .ensures .0) (w .ensures .1)

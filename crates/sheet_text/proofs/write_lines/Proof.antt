@@ -59,8 +59,7 @@ loop-again c =
     let six = c .before .before .before .before .month-of in
     let w = c .before .before .write-line in
     let same = line-same (l .month + 1) (kwhOf (six .result)) (word s (l .month)) (six .ensures) in
-    let room = sizes-of s out (start .pre .0) .1 in
-    (
+    let room = sizes-of s out (start .pre .0) .1 in (
       (search needs, w .kept .0 ∙ l .inv .0 .1),
       (
         omega (arith, ap length same, lines-length (l .month) (word s), w .ensures .0, l .inv .1 .0),
@@ -80,8 +79,7 @@ returns c =
     let start = c .before .before .before .before in
     let s = now (start .args .sheet) in
     let end : l .month ≡ months = omega arith in
-    let whole = l .inv .1 .0 ∙ ap (λ (m : ℕ). length (lines m (word s))) end in
-    (
+    let whole = l .inv .1 .0 ∙ ap (λ (m : ℕ). length (lines m (word s))) end in (
       (whole, omega (arith, year-room (word s) (sheet-within s (start .pre .1)))),
       l .inv .1 .1 ∙ ap (λ (m : ℕ). stored 0 (lines m (word s)) (now (start .args .out))) end,
     )

@@ -26,8 +26,7 @@ abbrev μ-loop : tie.MeasureT-loop
 loop-holds : tie.Need-loop-holds Inv-loop μ-loop
 loop-holds c =
     let a = c .before .args in
-    let none = numbers-none (kwhOf (a .t3)) in
-    (
+    let none = numbers-none (kwhOf (a .t3)) in (
       (search needs, refl),
       (omega (arith, ap length none), sym (ap (λ (t : List ℕ). stored (a .at) t (now (a .out))) (sym none) ∙ stored-none (a .at) (now (a .out)))),
     )
@@ -50,7 +49,7 @@ write-field-requires c κs =
     let a = c .before .before .before .before .before .args in
     let kwh = kwhOf (a .t3) in
     let stop : length (field (kwh (l .place)) (c .stop-at .result)) ≡ length (field (kwh (l .place)) (stopAt (l .place)))
-            = ap (λ (b : ℕ). length (field (kwh (l .place)) b)) (c .stop-at .ensures) in
+    = ap (λ (b : ℕ). length (field (kwh (l .place)) b)) (c .stop-at .ensures) in
     omega (arith, numbers-room kwh (l .place) (omega arith), l .inv .0 .1, l .inv .1 .0)
 
 add-place : tie.Need-add-place Inv-loop μ-loop
@@ -67,8 +66,7 @@ loop-again c =
     let p = l .place in
     let w = c .before .before .write-field in
     let stop = c .before .before .before .stop-at in
-    let long : length (field (kwh p) (stop .result)) ≡ length (field (kwh p) (stopAt p)) = ap (λ (b : ℕ). length (field (kwh p) b)) (stop .ensures) in
-    (
+    let long : length (field (kwh p) (stop .result)) ≡ length (field (kwh p) (stopAt p)) = ap (λ (b : ℕ). length (field (kwh p) b)) (stop .ensures) in (
       (search needs, w .kept .0 ∙ l .inv .0 .1),
       (
         omega (arith, numbers-length kwh p, w .ensures .0, l .inv .1 .0),
@@ -86,8 +84,7 @@ returns : tie.Need-returns Inv-loop μ-loop
 returns c =
     let l = c .before .loop in
     let a = c .before .before .before .args in
-    let end : l .place ≡ places = omega arith in
-    (
+    let end : l .place ≡ places = omega arith in (
       l .inv .1 .0 ∙ ap (λ (p : ℕ). a .at + length (numbersTo (kwhOf (a .t3)) p)) end,
       l .inv .1 .1 ∙ ap (λ (p : ℕ). stored (a .at) (numbersTo (kwhOf (a .t3)) p) (now (a .out))) end,
     )
