@@ -2,18 +2,18 @@
 -- the number that is read there.
 use Prim.Native.Nat.{ℕ, zero, suc, _+_, _-_, _*_, _/_, _%_, _≤_, _<_, min}
 use mathlib.Core.Path.{_≡_, refl, sym, ap, ap₂, _∙_}
-use mathlib.Core.Bool.{Bool, true, false, cond, not, _&&_, _||_, true≢false, false≢true}
+use mathlib.Core.Bool.{Bool, true, false, cond, not, _&&_, _||_, false≢true}
 use mathlib.Core.List.{List, [], _∷_, _++_, append-assoc, append-nil}
 use native.Mathlib.Nat.{zero-add, add-zero}
 use native.Mathlib.Decide.{decLt}
 use native.Mathlib.Omega.{arith}
-use borrow.Author.Tests.{lt-ltb, ltb-true, eq-eqb, eqb-true, ne-eqb, le-leb}
-use lib.Dec.{leb, ltb, eqb}
+use borrow.Author.Tests.{lt-ltb, eq-eqb, eqb-true, ne-eqb, le-leb}
+use lib.Dec.{ltb, eqb}
 use lib.ListN.{length, getD, take, drop, length-append, take-append-drop, drop-of-length-le}
 use lib.Seq.{getD-at, drop-cons, drop-append-seam, getD-drop, drop-drop}
 use Rattle.units.proofs.Bools.{and-left, and-right, and-both}
 use Rattle.decimals.specs.Decimals.{decimal, field, isDigit, digits, valueAfter, value, beginsNumber, beginsField, behind, FieldRead}
-use Rattle.decimals.proofs.Written.{front, front-none, front-more, decimal-last, decimal-digit, decimal-more, front-length, field-length}
+use Rattle.decimals.proofs.Written.{decimal-digit, decimal-more, front-length, field-length}
 use Rattle.decimals.proofs.Digits.{inside, digit-bounds}
 
 or-true : (a : Bool) → (a || true) ≡ true

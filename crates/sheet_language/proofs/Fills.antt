@@ -1,6 +1,6 @@
 -- The sheet that is filled: each kWh stands at its place, and every other byte stays.
-use Prim.Native.Nat.{ℕ, zero, suc, _+_, _*_, _^_, _≤_, _<_}
-use mathlib.Core.Path.{_≡_, refl, sym, ap, ap₂, subst, _∙_}
+use Prim.Native.Nat.{ℕ, zero, suc, _+_, _*_, _≤_, _<_}
+use mathlib.Core.Path.{_≡_, refl, sym, ap, subst, _∙_}
 use mathlib.Core.Bool.{Bool, true, false, cond, not, _&&_}
 use mathlib.Core.List.{List}
 use native.Mathlib.Decide.{decLt}
@@ -9,7 +9,7 @@ use lib.Dec.{eqb}
 use borrow.Author.Tests.{eq-eqb, eqb-true}
 use lib.ListN.{length, getD}
 use Rattle.units.specs.Limits.{maxKwh}
-use Rattle.codec.specs.Bytes.{littleEndian, bytesOf, part, number, stored}
+use Rattle.codec.specs.Bytes.{littleEndian, bytesOf, number, stored}
 use Rattle.codec.proofs.Numbers.{length-bytes, number-one}
 use Rattle.codec.proofs.Stores.{part-before, part-after, number-stored}
 use Rattle.sheet.specs.YearSheet.{sheetLength, word}

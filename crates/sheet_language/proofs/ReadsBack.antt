@@ -1,10 +1,9 @@
 -- What was written is read back: the lines stand in front of the lent bytes, and they are taken.
 use Prim.Native.Nat.{ℕ}
-use mathlib.Core.Path.{_≡_, refl, sym, ap, ap₂, _∙_}
-use mathlib.Core.Bool.{Bool, true, false, cond, not, _&&_}
-use mathlib.Core.List.{List, []}
+use mathlib.Core.Path.{_≡_, refl, sym, ap, _∙_}
+use mathlib.Core.Bool.{Bool, true, false, cond}
+use mathlib.Core.List.{List}
 use native.Mathlib.Omega.{arith}
-use lib.Dec.{eqb}
 use borrow.Author.Tests.{eq-eqb}
 use lib.ListN.{length, take}
 use lib.Seq.{take-at}
@@ -12,7 +11,7 @@ use Rattle.codec.specs.Bytes.{stored}
 use Rattle.sheet.specs.YearSheet.{sheetLength, word}
 use Rattle.sheet_text.specs.declared.Written.{Written}
 use Rattle.sheet_text.specs.Lines.{yearText, kwhIn}
-use Rattle.sheet_text.specs.Reading.{firstAbove, accepted, someRefused, textAnswer, readAnswer, sheetAfter}
+use Rattle.sheet_text.specs.Reading.{firstAbove, accepted, someRefused, readAnswer, sheetAfter}
 use Rattle.sheet_text.specs.Writing.{sizesFit, sheetAbove, monthAbove, sizeRefused, kwhRefused, textWritten, writeAnswer, bufferAfter}
 use Rattle.sheet_text.proofs.Reading.{taken}
 use Rattle.sheet_text.proofs.SheetAbove.{sheet-within}

@@ -1,19 +1,18 @@
 -- A text that is taken is the twelve lines of the numbers read, and the lines of any numbers within the limit are taken.
 use Prim.Native.Nat.{ℕ, zero, suc, _+_, _≤_, _<_}
-use mathlib.Core.Path.{_≡_, refl, sym, ap, ap₂, subst, _∙_}
-use mathlib.Core.Bool.{Bool, true, false, not, cond, _&&_, _||_, true≢false}
+use mathlib.Core.Path.{_≡_, refl, sym, ap, _∙_}
+use mathlib.Core.Bool.{Bool, true, false, not, _&&_, true≢false}
 use mathlib.Core.List.{List, [], _∷_, _++_, append-assoc, append-nil}
 use native.Mathlib.Decide.{decLt}
-use native.Mathlib.Numerals.{add-one}
 use native.Mathlib.Omega.{arith}
 use lib.Dec.{ltb, eqb}
-use borrow.Author.Tests.{lt-ltb, le-ltb, eq-eqb, eqb-true}
+use borrow.Author.Tests.{lt-ltb, eq-eqb, eqb-true}
 use lib.ListN.{length}
-use Rattle.units.proofs.Bools.{or-left, or-right, or-neither}
+use Rattle.units.proofs.Bools.{or-left, or-right}
 use Rattle.units.proofs.Folds.{none-at, none-of}
 use Rattle.sheet_text.specs.declared.Read.{Read}
 use Rattle.sheet_text.specs.Lines.{months, places, line, lines, yearText, beginsLine, kwhAt, behindLine, fromLine, kwhIn}
-use Rattle.sheet_text.specs.Reading.{lineWrong, someAbove, lineRefused, Within, accepted, someRefused, textAnswer}
+use Rattle.sheet_text.specs.Reading.{lineWrong, someAbove, lineRefused, Within, someRefused}
 use Rattle.sheet_text.proofs.Above.{none-above, all-within}
 use Rattle.sheet_text.proofs.LineWriting.{line-same, year-room, year-reached}
 use Rattle.sheet_text.proofs.ReadCalls.{text-taken}

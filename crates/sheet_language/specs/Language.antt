@@ -1,7 +1,7 @@
 -- What holds of the operator's text, its reader and its writer (document 02, ticket 2).
 use Prim.Native.Nat.{ℕ, _+_, _*_, _≤_, _<_}
 use mathlib.Core.Path.{_≡_}
-use mathlib.Core.Bool.{true, false}
+use mathlib.Core.Bool.{true}
 use mathlib.Core.List.{List, _++_}
 use lib.ListN.{length, getD, take}
 use Rattle.units.specs.Limits.{maxKwh}

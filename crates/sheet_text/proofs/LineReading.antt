@@ -1,16 +1,16 @@
 -- Seven fields one after the other are the line.
-use Prim.Native.Nat.{ℕ, zero, suc, _+_, _≤_, _<_, min}
+use Prim.Native.Nat.{ℕ, zero, suc, _≤_, _<_, min}
 use mathlib.Core.Path.{_≡_, refl, sym, ap, ap₂, _∙_}
 use mathlib.Core.Bool.{Bool, true, false, _&&_}
 use mathlib.Core.List.{List, [], _∷_}
 use native.Mathlib.Decide.{decLt}
 use native.Mathlib.Omega.{arith}
 use lib.Dec.{eqb}
-use borrow.Author.Tests.{eq-eqb, ne-eqb}
+use borrow.Author.Tests.{ne-eqb}
 use lib.ListN.{drop}
 use Rattle.decimals.specs.declared.Field.{Field}
 use Rattle.decimals.specs.Decimals.{value, beginsField, behind, FieldRead}
-use Rattle.sheet_text.specs.Lines.{semicolon, lineFeed, months, places, fromNumber, beginsLine, kwhAt, behindLine}
+use Rattle.sheet_text.specs.Lines.{semicolon, lineFeed, months, places, fromNumber, beginsLine, kwhAt}
 use Rattle.sheet_text.specs.Steps.{tooMuch, kwhOf, LineRead}
 
 -- what counts of a number tells whether it is a month

@@ -1,5 +1,5 @@
 -- A line is written field by field, the text line by line; no line is longer than 57 bytes, and the twelve fit into 675.
-use Prim.Native.Nat.{ℕ, zero, suc, _+_, _-_, _*_, _/_, _^_, _≤_, _<_}
+use Prim.Native.Nat.{ℕ, zero, suc, _+_, _-_, _*_, _/_, _≤_, _<_}
 use mathlib.Core.Path.{_≡_, refl, sym, ap, ap₂, _∙_}
 use mathlib.Core.List.{List, [], _++_, append-assoc}
 use native.Mathlib.Nat.{zero-add}
@@ -9,10 +9,10 @@ use native.Mathlib.Omega.{arith}
 use lib.ListN.{length, length-append}
 use Rattle.units.specs.Limits.{maxKwh}
 use Rattle.codec.specs.Bytes.{stored}
-use Rattle.codec.proofs.Pieces.{stored-none, stored-then}
-use Rattle.decimals.specs.Decimals.{decimal, field}
+use Rattle.codec.proofs.Pieces.{stored-then}
+use Rattle.decimals.specs.Decimals.{field}
 use Rattle.decimals.proofs.Written.{decimal-digit, length-more, decimal-short, decimal-long, field-length}
-use Rattle.sheet_text.specs.Lines.{semicolon, lineFeed, months, places, line, lines}
+use Rattle.sheet_text.specs.Lines.{semicolon, months, places, line, lines}
 use Rattle.sheet_text.specs.Reading.{Within}
 use Rattle.sheet_text.specs.Writing.{textRoom}
 use Rattle.sheet_text.specs.Steps.{stopAt, numbersTo}

@@ -1,25 +1,24 @@
 -- What a line says of the text: it is the first that is refused, or the text is looked at further.
-use Prim.Native.Nat.{ℕ, suc, _+_, _-_, _*_, _≤_, _<_, min}
-use mathlib.Core.Path.{_≡_, refl, sym, ap, ap₂, subst, _∙_}
-use mathlib.Core.Bool.{Bool, true, false, cond, not, _&&_, _||_, true≢false}
+use Prim.Native.Nat.{ℕ, _+_, _-_, _*_, _≤_, _<_, min}
+use mathlib.Core.Path.{_≡_, refl, sym, ap, subst, _∙_}
+use mathlib.Core.Bool.{Bool, true, false, not, _&&_, true≢false}
 use mathlib.Core.List.{List}
 use native.Mathlib.Decide.{decLt}
 use native.Mathlib.Numerals.{add-one}
 use native.Mathlib.Omega.{arith}
-use lib.Dec.{ltb, eqb}
+use lib.Dec.{ltb}
 use borrow.Author.Tests.{lt-ltb, le-ltb, eq-eqb, ne-eqb}
-use lib.ListN.{length, getD, drop, length-drop}
+use lib.ListN.{length, drop, length-drop}
 use Rattle.units.specs.Limits.{maxKwh}
-use Rattle.units.specs.Folds.{anyBelow, firstBelow}
+use Rattle.units.specs.Folds.{anyBelow}
 use Rattle.units.proofs.Bools.{or-neither}
-use Rattle.units.proofs.Folds.{any-zero, any-step, any-of, none-at, first-is, below-suc}
+use Rattle.units.proofs.Folds.{any-zero, any-step, any-of, none-at, first-is}
 use Rattle.sheet_text.specs.declared.Line.{Line}
 use Rattle.sheet_text.specs.declared.Measures.{Measures}
-use Rattle.sheet_text.specs.declared.Year.{Year}
 use Rattle.sheet_text.specs.Lines.{months, places, beginsLine, kwhAt, behindLine, fromLine, kwhIn}
 use Rattle.sheet_text.specs.Reading.{lineWrong, someAbove, firstAbove, lineRefused, accepted, wrongLine, aboveIn, objectionTo, someRefused, firstRefused, textAnswer}
 use Rattle.sheet_text.specs.Steps.{tooMuch, kwhOf, yearOf, placeAbove, LineRead, MonthPut, MeasuresRead}
-use Rattle.sheet_text.proofs.Above.{found-place, none-above, place-same}
+use Rattle.sheet_text.proofs.Above.{none-above, place-same}
 
 module _ (t : List ℕ) where
   abbrev pub NoneRefused : ℕ → Type 0

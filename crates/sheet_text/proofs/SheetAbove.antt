@@ -1,20 +1,18 @@
 -- The first kWh of a sheet above its limit, month by month.
 use Prim.Native.Nat.{ℕ, _+_, _≤_, _<_}
-use mathlib.Core.Path.{_≡_, refl, sym, ap, _∙_}
-use mathlib.Core.Bool.{Bool, true, false, cond, _&&_, _||_, true≢false}
+use mathlib.Core.Path.{_≡_, sym, ap, _∙_}
+use mathlib.Core.Bool.{true, false}
 use mathlib.Core.List.{List}
-use native.Mathlib.Omega.{arith}
 use lib.Dec.{ltb, eqb}
 use borrow.Author.Tests.{eqb-true}
 use lib.ListN.{length}
 use Rattle.units.specs.Limits.{maxKwh}
-use Rattle.units.specs.Folds.{anyBelow, firstBelow}
+use Rattle.units.specs.Folds.{anyBelow}
 use Rattle.units.proofs.Bools.{and-left, and-right, or-neither}
 use Rattle.units.proofs.Folds.{any-zero, any-step, any-of, none-at, first-is}
-use Rattle.sheet.specs.declared.Position.{Position}
 use Rattle.sheet.specs.YearSheet.{sheetLength, word, nowhere}
 use Rattle.sheet_text.specs.Lines.{months, places}
-use Rattle.sheet_text.specs.Reading.{someAbove, firstAbove, Within}
+use Rattle.sheet_text.specs.Reading.{someAbove, Within}
 use Rattle.sheet_text.specs.Writing.{textRoom, sizesFit, sheetAbove, monthAbove}
 use Rattle.sheet_text.specs.Steps.{kwhOf, placeAbove, positionAbove, MonthOf}
 use Rattle.sheet_text.proofs.Above.{found-place, none-found, none-above, place-same}

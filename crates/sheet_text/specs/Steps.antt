@@ -1,10 +1,10 @@
 -- What the inner functions of reader and writer do: for their contracts alone.
 use Prim.Native.Nat.{ℕ, zero, suc, _+_, _*_, _<_, min}
 use mathlib.Core.Path.{_≡_}
-use mathlib.Core.Bool.{Bool, true, false, cond}
+use mathlib.Core.Bool.{false, cond}
 use mathlib.Core.List.{List, [], _++_}
 use lib.Dec.{eqb}
-use lib.ListN.{length, getD, drop}
+use lib.ListN.{getD, drop}
 use Rattle.units.specs.Limits.{maxKwh}
 use Rattle.sheet.specs.declared.Position.{Position}
 use Rattle.sheet.specs.YearSheet.{word, nowhere}

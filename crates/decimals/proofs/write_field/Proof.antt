@@ -1,11 +1,11 @@
 -- The number, then the byte at the place behind it.
 use Prim.Native.Nat.{ℕ}
-use mathlib.Core.Path.{_≡_, ap₂, _∙_}
+use mathlib.Core.Path.{ap₂, _∙_}
 use mathlib.Core.List.{List}
 use native.Mathlib.Omega.{arith}
 use borrow.Author.Needs.{needs}
 use denote.Ref.{now}
-use lib.ListN.{length, set}
+use lib.ListN.{set}
 use Rattle.decimals.proofs.Written.{field-length, field-written}
 use Rattle.decimals.proofs.write_field.Statement.{statement}
 use Rattle.decimals.proofs.write_field.Tie as tie

@@ -1,6 +1,5 @@
 -- Month by month.
 use Prim.Native.Nat.{_-_, _≤_}
-use native.Mathlib.Omega.{arith}
 use borrow.Author.Needs.{needs}
 use Rattle.measures.proofs.say_sums.Statement.{statement}
 use Rattle.measures.proofs.say_sums.Tie as tie

@@ -1,14 +1,10 @@
 -- No month passed has a kWh above its limit.
-use Prim.Native.Nat.{ℕ, _+_, _-_, _≤_}
-use mathlib.Core.Path.{_≡_, refl, sym, ap, _∙_}
-use mathlib.Core.Bool.{false}
+use Prim.Native.Nat.{_-_, _≤_}
+use mathlib.Core.Path.{_≡_}
 use native.Mathlib.Omega.{arith}
 use borrow.Author.Needs.{needs}
 use denote.Ref.{now}
-use lib.ListN.{length}
-use Rattle.sheet.specs.YearSheet.{word}
-use Rattle.sheet_text.specs.Lines.{months, places}
-use Rattle.sheet_text.specs.Steps.{kwhOf}
+use Rattle.sheet_text.specs.Lines.{months}
 use Rattle.sheet_text.proofs.SheetAbove.{NoneAbove, none-yet, month-within, month-found, none-found-at-all}
 use Rattle.sheet_text.proofs.first_above.Statement.{statement}
 use Rattle.sheet_text.proofs.first_above.Tie as tie

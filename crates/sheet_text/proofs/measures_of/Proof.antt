@@ -1,12 +1,12 @@
 -- The lines passed are taken, and their numbers stand at their places; the line that is read decides whether to go on.
-use Prim.Native.Nat.{ℕ, _+_, _-_, _≤_, _<_}
-use mathlib.Core.Path.{_≡_, refl, sym, ap, _∙_}
+use Prim.Native.Nat.{_-_, _≤_}
+use mathlib.Core.Path.{_≡_, sym, ap, _∙_}
 use native.Mathlib.Nat.{not-suc-le-zero}
 use native.Mathlib.Omega.{arith}
 use borrow.Author.Needs.{needs}
 use denote.Ref.{now}
-use lib.ListN.{length, drop}
-use Rattle.sheet_text.specs.Lines.{months, places, fromLine, kwhIn}
+use lib.ListN.{drop}
+use Rattle.sheet_text.specs.Lines.{months, fromLine, kwhIn}
 use Rattle.sheet_text.specs.Reading.{aboveIn}
 use Rattle.sheet_text.proofs.Reading.{NoneRefused, none-refused, line-first, Numbers, wrong-refused, above-refused, line-taken, end-taken, taken, line-judged, line-number, line-place, line-rest, end-judged, numbers-more, number-within, refused-told}
 use Rattle.sheet_text.proofs.Above.{found-place, none-found}

@@ -1,7 +1,5 @@
 -- A line feed behind the sixth, a semicolon behind the others.
-use mathlib.Core.Path.{refl}
 use borrow.Author.Tests.{eq-eqb, ne-eqb}
-use borrow.Author.Needs.{needs}
 use Rattle.sheet_text.specs.Steps.{stopAt}
 use Rattle.sheet_text.proofs.stop_at.Statement.{statement}
 use Rattle.sheet_text.proofs.stop_at.Tie as tie
