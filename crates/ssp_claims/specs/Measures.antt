@@ -13,8 +13,11 @@ use Rattle.ssp.proofs.ssp_write_measures.Reads as write-of
 -- "Reading them back restores those kWh", in any sheet: the reader is lent the bytes that the writer answered for
 pub record MeasuresBack : Type 1 where
   pub accepted : (κs : _) (a : _) (r : _) (s : _) → write-of.Post κs a r s → r .refusal ≡ 0
-      → (κs′ : _) (a′ : _) (r′ : _) (s′ : _) → read-of.Post κs′ a′ r′ s′ → now (a′ .1 .0) ≡ take (r .length) (now (s .1 .0))
+      → (κs′ : _) (a′ : _) (r′ : _) (s′ : _) → read-of.Post κs′ a′ r′ s′
+      → now (a′ .1 .0) ≡ take (r .length) (now (s .1 .0))
       → length (now (a′ .0)) ≡ sheetLength → r′ .refusal ≡ 0
   pub restored : (κs : _) (a : _) (r : _) (s : _) → write-of.Post κs a r s → r .refusal ≡ 0
-      → (κs′ : _) (a′ : _) (r′ : _) (s′ : _) → read-of.Post κs′ a′ r′ s′ → now (a′ .1 .0) ≡ take (r .length) (now (s .1 .0))
-      → length (now (a′ .0)) ≡ sheetLength → (m p : ℕ) → m < months → p < places → word (now (s′ .0)) m p ≡ word (now (a .0)) m p
+      → (κs′ : _) (a′ : _) (r′ : _) (s′ : _) → read-of.Post κs′ a′ r′ s′
+      → now (a′ .1 .0) ≡ take (r .length) (now (s .1 .0))
+      → length (now (a′ .0)) ≡ sheetLength
+      → (m p : ℕ) → m < months → p < places → word (now (s′ .0)) m p ≡ word (now (a .0)) m p
