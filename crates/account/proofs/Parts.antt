@@ -1,17 +1,23 @@
 -- The parts of an amount, put one after the other.
-use Prim.Native.Nat.{ℕ, _+_, _/_}
+use Prim.Native.Nat.{ℕ, _+_, _/_, _^_, _≤_, _<_}
 use mathlib.Core.Path.{_≡_, ap, _∙_}
 use mathlib.Core.List.{List, [], _∷_, _++_, append-assoc}
 use native.Mathlib.Nat.{zero-add}
+use native.Mathlib.Omega.{arith}
 use lib.ListN.{length}
 use Rattle.io.specs.Digits.{digits}
 use Rattle.decimals.specs.Decimals.{decimal}
+use Rattle.decimals.proofs.Written.{decimal-short}
 use Rattle.output.specs.Rows.{joined, blanks}
 use Rattle.output.proofs.Joins.{joined-on}
 use Rattle.account.specs.Amounts.{ticksPerEuro, blanksBefore, AmountJoined}
 
 regrouped : (a s e d : List ℕ) → (((a ++ s) ++ e) ++ (46 ∷ [])) ++ d ≡ a ++ (s ++ (e ++ (46 ∷ d)))
 regrouped a s e d = simp append-assoc
+
+-- twenty digits hold every number of 64 bits
+pub digits-fit : {n count : ℕ} → n < 2 ^ 64 → count ≡ 0 + length (decimal n) → count ≤ 20
+digits-fit {n} {count} h e = omega (arith, decimal-short 19 n (omega arith))
 
 pub amount-joined : (before first second third fourth after sign euros : List ℕ) (ticks count n : ℕ)
     → count ≡ 0 + length (decimal (ticks / ticksPerEuro)) → euros ≡ decimal (ticks / ticksPerEuro) → n ≡ blanksBefore (count + 6 + length sign)

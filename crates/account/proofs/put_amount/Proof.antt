@@ -1,11 +1,11 @@
 -- The parts of the amount one after the other.
 use Prim.Native.Nat.{_/_}
-use mathlib.Core.Path.{sym}
+use mathlib.Core.Path.{refl, sym}
 use native.Mathlib.Omega.{arith}
 use lib.Seq.{length-take-le}
-use Rattle.decimals.proofs.Written.{decimal-short, number-front}
+use Rattle.decimals.proofs.Written.{number-front}
 use Rattle.account.specs.Amounts.{ticksPerEuro}
-use Rattle.account.proofs.Parts.{amount-joined}
+use Rattle.account.proofs.Parts.{digits-fit, amount-joined}
 use borrow.Author.Needs.{needs}
 use Rattle.account.proofs.put_amount.Statement.{statement}
 use Rattle.account.proofs.put_amount.Tie as tie
@@ -14,7 +14,7 @@ slice-aggregate-write-number : tie.Need-slice-aggregate-write-number
 slice-aggregate-write-number c = search needs
 
 write-number-requires : tie.Need-write-number-requires
-write-number-requires c κs = omega (arith, decimal-short 19 (c .before .before .args .ticks / ticksPerEuro) (omega arith))
+write-number-requires c κs = digits-fit (omega arith) refl
 
 blanks-before-requires : tie.Need-blanks-before-requires
 blanks-before-requires c κs = search needs
@@ -28,13 +28,14 @@ put-text-requires c κs = search needs
 array-share-prefix-euros : tie.Need-array-share-prefix-euros
 array-share-prefix-euros c =
     let w = c .before .before .before .before .write-number in
-    omega (arith, w .ensures .0, w .kept .0, decimal-short 19 (c .before .before .before .before .before .before .before .args .ticks / ticksPerEuro) (omega arith))
+    let few = digits-fit (omega arith) (w .ensures .0) in
+    omega (arith, w .kept .0)
 
 slice-aggregate-put-text : tie.Need-slice-aggregate-put-text
 slice-aggregate-put-text c =
     let w = c .before .before .before .before .before .write-number in
-    let euro = c .before .before .before .before .before .before .before .before .args .ticks / ticksPerEuro in
-    sym (length-take-le (w .result) (w .last .0) (omega (arith, w .ensures .0, w .kept .0, decimal-short 19 euro (omega arith))))
+    let few = digits-fit (omega arith) (w .ensures .0) in
+    sym (length-take-le (w .result) (w .last .0) (omega (arith, w .kept .0)))
 
 put-text-requires-2 : tie.Need-put-text-requires-2
 put-text-requires-2 c κs = search needs
