@@ -1,6 +1,6 @@
 /*
- * Three years of one user, the first advance of another, calls that are refused, a sheet to its archive and back, and raw
- * injected readings: every field of every answer is printed.
+ * Three years of one user, the first advance of another, calls that are refused, a sheet to its archive and back, raw injected
+ * readings, and a sheet to the grid operator's text and back: every field of every answer is printed.
  *
  *     gcc -std=c11 -Wall -Wextra -Werror -Iinclude include/example.c target/staticlib/libssp.a -o example
  *
@@ -25,6 +25,7 @@ static uint8_t book[16 * RECORD];
 static uint8_t sheet[SSP_SHEET_LENGTH];
 static uint8_t archive[SSP_SHEET_LENGTH];
 static uint8_t restored[SSP_SHEET_LENGTH];
+static uint8_t text[SSP_MEASURES_LENGTH];
 
 static void put(uint8_t *at, uint32_t number, int bytes)
 {
@@ -167,6 +168,39 @@ static void raise_injected(const char *call, uint32_t factor)
     printf("  in December      %" PRIu32 " %" PRIu32 " %" PRIu32 "\n", number(december), number(december + 4), number(december + 8));
 }
 
+static void read_text(const char *call, const void *lines, size_t length)
+{
+    struct ssp_read read = ssp_read_measures(restored, sizeof restored, lines, length);
+    printf("%s: refusal %" PRIu32 ", line %" PRIu32 ", month %" PRIu32 ", place %" PRIu32 "\n", call, read.refusal, read.line, read.month,
+           read.place);
+}
+
+static struct ssp_written write_text(const char *call, size_t room)
+{
+    struct ssp_written written = ssp_write_measures(sheet, sizeof sheet, text, room);
+    printf("%s: refusal %" PRIu32 ", length %" PRIu32 ", month %" PRIu32 ", place %" PRIu32 "\n", call, written.refusal, written.length,
+           written.month, written.place);
+    return written;
+}
+
+/* The lines of a sheet, and a sheet of their kWh alone. */
+static void write_and_read_measures(void)
+{
+    write_sheet(2016);
+    struct ssp_written written = write_text("write measures", sizeof text);
+    printf("  %.*s", (int)(strchr((const char *)text, '\n') + 1 - (const char *)text), (const char *)text);
+    memset(restored, 0, sizeof restored);
+    read_text("read measures", text, written.length);
+    for (int k = 0; k < 7; k++)
+        printf("  number %d of the last month: %" PRIu32 "\n", k + 1, number(restored + HEADER + 4 * (NUMBERS_A_MONTH * 11 + k)));
+    read_text("read measures without the last line feed", text, written.length - 1);
+    read_text("read measures of no text", "", 0);
+    read_text("read measures above the limit", "1;0;0;0;0;20000001;0\n", 21);
+    put(sheet + HEADER + 4 * (NUMBERS_A_MONTH * 7 + SSP_INJECTED_F3 - 1), 20000001, 4);
+    write_text("write measures above the limit", sizeof text);
+    write_text("write measures into 674 bytes", sizeof text - 1);
+}
+
 int main(void)
 {
     printf("interface of the header: %s that of the library\n", ssp_interface() == SSP_INTERFACE ? "equal to" : "NOT");
@@ -229,5 +263,7 @@ int main(void)
     raise_injected("raise a reading above its limit", 200);
     sheet[SSP_SHEET_LENGTH - 1] = 1;
     raise_injected("raise a sheet with a wrong zero word", 51);
+
+    write_and_read_measures();
     return 0;
 }

@@ -22,7 +22,7 @@
  *
  *   `refusal` is 0 for an accepted call, or the number of the first objection that holds, in the order that each function
  *   names. A refused call leaves every byte of the book or of the sheet as it was, and every value in its answer is 0, but for
- *   `record`, `month` and `place`.
+ *   `record`, `line`, `month` and `place`.
  *   `record` is, after refusal 2, the index of the faulty record, of several the smallest; after an accepted ssp_enrol, the
  *   index of the new record; else 0.
  *   `month`, 1 to 12, and `place`, 1 to 24, name after refusal 13 or 19 the earliest number of the sheet that is at fault; else
@@ -39,10 +39,12 @@
  *    9  The year of the advance is not the user's open year or is above 2099, or the run is not one of the three, is not due in
  *       that year, or was made already.
  *   10  The rate is above 500,000, or an estimate is above 360,000,000 kWh.
- *   11  The sheet's length, its header or one of its zero words is wrong.
+ *   11  The sheet's length, its header or one of its zero words is wrong; of ssp_read_measures and ssp_write_measures a length.
  *   12  The sheet's year is not the user's open year, or is above 2099.
  *   13  A number of the sheet is above its limit: the one at `month` and `place`.
  *   14  A domestic user (class 1 or 2) withdrew more than 4,000,000 kWh in a month.
+ *   17  A line of the operator's text, the one at `line`, 1 to 13, is not seven numbers with semicolons, is not of its month, is
+ *       missing or stands behind the twelfth.
  *   19  A single reading has kWh in F2 or F3: at `month` and `place`. The earliest number at fault decides between 13 and 19,
  *       and where it has both faults, 13 is answered.
  *   26  The factor of ssp_raise is above 200 thousandths.
@@ -50,12 +52,12 @@
  *
  * MEMORY
  *
- *   `book` points to `len` bytes, `sheet` to `sheet_len` and `archive` to `archive_len`, that are valid for the whole call:
- *   readable, and what is not const also writable. They need no alignment. The buffers of one call must not overlap. During the
- *   call nobody else may write to them, nor read one that is not const: no other thread, no signal handler, no device. Once a
- *   call has returned, the library holds nothing. No length has a minimum or a maximum that the caller must keep. With length 0
- *   no byte is read or written and the pointer may be NULL: such a book is refused with 1, such a sheet with 11, and by
- *   ssp_archive and ssp_restore with 27.
+ *   `book` points to `len` bytes, `sheet` to `sheet_len`, `archive` to `archive_len` and `text` to `text_len`, that are valid for
+ *   the whole call: readable, and what is not const also writable. They need no alignment. The buffers of one call must not
+ *   overlap. During the call nobody else may write to them, nor read one that is not const: no other thread, no signal handler,
+ *   no device. Once a call has returned, the library holds nothing. No length has a minimum or a maximum that the caller must
+ *   keep. With length 0 no byte is read or written and the pointer may be NULL: such a book is refused with 1, such a sheet with
+ *   11, and by ssp_archive and ssp_restore with 27; such a text of ssp_read_measures with 17.
  *
  * THREADS
  *
@@ -68,7 +70,7 @@
 #include <stdint.h>
 
 /* Header and library belong together, since answers grow: this is to be the number that ssp_interface() answers. */
-#define SSP_INTERFACE 4
+#define SSP_INTERFACE 5
 
 #ifdef __cplusplus
 extern "C" {
@@ -85,6 +87,9 @@ extern "C" {
 
 /* The length of a year sheet. docs/FORMAT.md has it byte by byte. */
 #define SSP_SHEET_LENGTH 1184
+
+/* The room that ssp_write_measures is lent: the lines of every sheet fit, and those of one need it all. */
+#define SSP_MEASURES_LENGTH 675
 
 /* The places of a month in a year sheet, counted from 1. */
 enum ssp_place {
@@ -259,6 +264,37 @@ uint32_t ssp_restore(const uint8_t *archive, size_t archive_len, uint8_t *sheet,
  *   factor  in thousandths, 0 to 200: 51 for 5.1 %
  */
 struct ssp_raised ssp_raise(uint8_t *sheet, size_t sheet_len, uint32_t factor);
+
+struct ssp_read {
+    uint32_t refusal;
+    uint32_t line;  /* after 17: the line, 1 to 13 */
+    uint32_t month; /* after 13: the month, 1 to 12 */
+    uint32_t place; /* after 13: its place in the month, 1 to 6 */
+};
+
+/*
+ * Fills the 72 kWh of a year sheet from the grid operator's text, and touches no other byte. The text is twelve lines, one for
+ * each month in order, of seven decimal numbers with semicolons between: month, three withdrawn, three injected, at most
+ * 20,000,000 kWh each. A number has no sign, blank or needless zero in front, and a line feed ends each line, the last too.
+ * docs/FORMAT.md has an example. Of the sheet nothing is looked at but its length. Refusals: 11 where sheet_len is not
+ * SSP_SHEET_LENGTH; then line by line 17 or 13: the earlier line decides, and in one line 17. A refusal leaves every byte of the
+ * sheet.
+ */
+struct ssp_read ssp_read_measures(uint8_t *sheet, size_t sheet_len, const uint8_t *text, size_t text_len);
+
+struct ssp_written {
+    uint32_t refusal;
+    uint32_t length; /* of the lines */
+    uint32_t month;  /* after 13: the month, 1 to 12 */
+    uint32_t place;  /* after 13: its place in the month, 1 to 6 */
+};
+
+/*
+ * Writes the twelve lines of a sheet at the front of `text`, which leaves the bytes behind them, and answers their length. What
+ * was written, ssp_read_measures reads back into any sheet. Refusals: 11 where sheet_len is not SSP_SHEET_LENGTH or text_len not
+ * SSP_MEASURES_LENGTH; then 13 for the first kWh above its limit. A refusal leaves every byte of `text`.
+ */
+struct ssp_written ssp_write_measures(const uint8_t *sheet, size_t sheet_len, uint8_t *text, size_t text_len);
 
 #ifdef __cplusplus
 }

@@ -5,7 +5,8 @@ use mathlib.Core.Bool.{cond}
 use mathlib.Core.List.{List, _∷_, _++_}
 use lib.Dec.{ltb}
 use lib.ListN.{length}
-use Rattle.io.specs.Digits.{digits, Fewest}
+use Rattle.io.specs.Digits.{digits}
+use Rattle.decimals.specs.Decimals.{decimal}
 use Rattle.output.specs.Rows.{joined, blanks}
 
 -- the width of a column, and ticks to the euro
@@ -19,12 +20,10 @@ ticksPerEuro = 100000
 abbrev pub blanksBefore : ℕ → ℕ
 blanksBefore n = cond (ltb n columnWidth) (columnWidth - n) 1
 
--- an amount after a text: blanks, the sign, the euro in the fewest digits, a point, the ticks in five digits
-pub record AmountJoined (before sign : List ℕ) (ticks : ℕ) (after : List ℕ) : Type 0 where
-  pub count : ℕ
-  pub fewest : Fewest 10 1 (ticks / ticksPerEuro) count
-  pub text :
-      after
-      ≡ joined before
-      (blanks (blanksBefore (count + 6 + length sign))
-      ++ (sign ++ (digits 10 count (ticks / ticksPerEuro) ++ (46 ∷ digits 10 5 ticks))))
+-- an amount after a text: blanks, the sign, the euro in decimal, a point, the ticks in five digits
+abbrev pub AmountJoined : List ℕ → List ℕ → ℕ → List ℕ → Type 0
+AmountJoined before sign ticks after =
+    after
+    ≡ joined before
+    (blanks (blanksBefore (length (decimal (ticks / ticksPerEuro)) + 6 + length sign))
+    ++ (sign ++ (decimal (ticks / ticksPerEuro) ++ (46 ∷ digits 10 5 ticks))))

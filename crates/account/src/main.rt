@@ -80,7 +80,7 @@ fn put_amount(row: Row, sign: &[u8], ticks: u64) -> Row
     ensures { λ r. ⌜ AmountJoined (textOf row) (now (sign .entry)) ticks (textOf r) ⌝ }
 {
     let mut euros = [0u8; 20];
-    let count = io::decimal(ticks / TICKS, &mut euros);
+    let count = decimals::write_number(&mut euros, 0, ticks / TICKS);
     let mut longer = output::put_blanks(row, blanks_before(count, sign.len()));
     longer = output::put_text(longer, sign);
     longer = output::put_text(longer, &euros[..count]);

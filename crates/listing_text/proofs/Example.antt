@@ -5,7 +5,8 @@ use Rattle.values.specs.declared.YearValues.{YearValues}
 use Rattle.accounts.specs.declared.Account.{Account}
 use Rattle.accounts.specs.Closing.{creditAfter}
 use Rattle.accounts.specs.Account.{accountClosed}
-use Rattle.listing_text.specs.Listing.{blank, lineFeed, decimalOf}
+use Rattle.decimals.specs.Decimals.{decimalOf}
+use Rattle.listing_text.specs.Listing.{blank, lineFeed}
 use Rattle.listing_text.specs.Written.{field, accountLine}
 
 pub user-7 : (a : Account) (v : YearValues) → a .number .0 ≡ 7 → a .option ≡ 0 → a .«open_year» ≡ 2014 → a .credit .0 ≡ 0

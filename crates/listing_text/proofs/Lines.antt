@@ -1,28 +1,29 @@
 -- A line is three fields one after the other, each of at most `longestField` bytes.
-use Prim.Native.Nat.{ℕ, _+_, _≤_}
-use mathlib.Core.Path.{_≡_, refl, sym, ap, _∙_}
+use Prim.Native.Nat.{ℕ, _+_, _^_, _≤_, _<_}
+use mathlib.Core.Path.{_≡_, sym, ap, _∙_}
 use mathlib.Core.List.{List, [], _∷_, _++_, append-assoc}
 use native.Mathlib.Omega.{arith}
-use lib.ListN.{length, set, length-append}
+use lib.ListN.{length, length-append}
 use Rattle.accounts.specs.declared.Account.{Account}
 use Rattle.codec.specs.Bytes.{stored}
+use Rattle.decimals.specs.Decimals as decimals
 use Rattle.book.specs.Book.{accountAt}
-use Rattle.listing_text.specs.Listing.{decimal, blank, lineFeed, line}
+use Rattle.listing_text.specs.Listing.{mostDigits, decimal, blank, lineFeed, line}
 use Rattle.listing_text.specs.Written.{longestField, longestLine, field, accountLine}
-use Rattle.codec.proofs.Pieces.{stored-next, stored-then}
-use Rattle.listing_text.proofs.Decimals.{decimal-short}
+use Rattle.codec.proofs.Pieces.{stored-then}
+use Rattle.decimals.proofs.Written.{most-digits, all-digits}
 
-pub length-field : (n x : ℕ) → length (field n x) ≡ length (decimal n) + 1
+length-field : (n x : ℕ) → length (field n x) ≡ length (decimal n) + 1
 unfolding field
 length-field n x = length-append (decimal n) (x ∷ [])
 
 pub field-short : (n x : ℕ) → length (field n x) ≤ longestField
-field-short n x = omega (arith, length-field n x, decimal-short n)
+field-short n x = omega (arith, length-field n x, most-digits mostDigits n)
 
-pub field-written : (at n x : ℕ) (s : List ℕ) → at + longestField ≤ length s
-    → set (stored at (decimal n) s) (at + length (decimal n)) x ≡ stored at (field n x) s
-unfolding field
-field-written at n x s h = stored-next at x (decimal n) s (omega (arith, decimal-short n))
+-- twenty digits are all that a number of 64 bits has
+pub field-whole : (n x : ℕ) → n < 2 ^ 64 → decimals.field n x ≡ field n x
+unfolding field decimals.field
+field-whole n x h = ap (λ (l : List ℕ). l ++ (x ∷ [])) (sym (all-digits 19 n (omega arith)))
 
 pub length-line : (a : Account) → length (accountLine a)
     ≡ length (field (a .number .0) blank) + (length (field (a .«open_year») blank) + length (field (a .credit .0) lineFeed))

@@ -1,10 +1,10 @@
 -- "The listing program reads a book on standard input and prints, in chain order, number, open year and credit of each
 -- user, decimal, one blank between. .. A line feed ends each line. A book refused with 1 or 2 prints only `refused 1` or
 -- `refused 2`." (document 01, "Figures to prove, one table")
-use Prim.Native.Nat.{ℕ, zero, suc, _+_, _/_, _%_}
+use Prim.Native.Nat.{ℕ}
 use mathlib.Core.Bool.{cond}
 use mathlib.Core.List.{List, [], _∷_, _++_}
-use lib.Dec.{ltb}
+use Rattle.decimals.specs.Decimals.{decimalOf}
 use Rattle.book.specs.Book.{lengthFits, sound, accountAt}
 use Rattle.book.specs.Chains.{usersOf}
 
@@ -13,10 +13,6 @@ abbrev pub mostDigits : ℕ
 mostDigits = 20
 
 -- the decimal digits of a number as bytes, at most so many
-unfoldable pub decimalOf : ℕ → ℕ → List ℕ
-decimalOf zero n = []
-decimalOf (suc digits) n = cond (ltb n 10) ((48 + n) ∷ []) (decimalOf digits (n / 10) ++ ((48 + n % 10) ∷ []))
-
 abbrev pub decimal : ℕ → List ℕ
 decimal n = decimalOf mostDigits n
 

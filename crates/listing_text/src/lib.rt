@@ -6,7 +6,7 @@ ghost use lib.ListN.{length};
 ghost use Rattle.codec.specs.Bytes.{stored};
 ghost use Rattle.book.specs.Book.{lengthFits, sound};
 ghost use Rattle.book.specs.Chains.{usersOf};
-ghost use Rattle.listing_text.specs.Listing.{mostDigits, decimal, lines, refused, listing};
+ghost use Rattle.listing_text.specs.Listing.{lines, refused, listing};
 ghost use Rattle.listing_text.specs.Written.{longestField, longestLine, longestRefusal, longestText, field, accountLine, ListingAnswered};
 use accounts::Account;
 use book::MOST_RECORDS;
@@ -32,30 +32,14 @@ pub fn buffer() -> [u8; LONGEST_TEXT]
     [0; LONGEST_TEXT]
 }
 
-// Writes a number at a place of the text, and answers the place after it.
-fn decimal_at(out: &mut [u8], at: usize, n: u64) -> usize
-    requires { ⌜ at + mostDigits ≤ length (now out) ⌝ }
-    ensures { λ r. ⌜ r ≡ at + length (decimal n) ⌝ }
-    ensures { λ _. ⌜ now (out .exit) ≡ stored at (decimal n) (now (out .entry)) ⌝ }
-{
-    let mut end = at;
-    if 10 <= n {
-        end = decimal_at(out, at, n / 10);
-    }
-    out[end] = b'0' + (n % 10) as u8;
-    end + 1
-}
-
-// The same, with one byte after it: a blank or a line feed.
+// Writes a number of 64 bits at a place of the text with one byte after it, a blank or a line feed, and answers the place after it.
 fn field_at(out: &mut [u8], at: usize, n: u64, after: u8) -> usize
     requires { ⌜ at + longestField ≤ length (now out) ⌝ }
     ensures { λ r. ⌜ r ≡ at + length (field n after) ⌝ }
     ensures { λ _. ⌜ now (out .exit) ≡ stored at (field n after) (now (out .entry)) ⌝ }
     ensures { λ r. ⌜ r ≤ at + longestField ⌝ }
 {
-    let end = decimal_at(out, at, n);
-    out[end] = after;
-    end + 1
+    decimals::write_field(out, at, n, after)
 }
 
 // Writes the line of an account: number, open year and credit.

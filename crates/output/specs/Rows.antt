@@ -1,9 +1,7 @@
 -- Rows of text: what is put into one stands after what is there, as far as there is room.
 use Prim.Native.Nat.{ℕ, zero, suc}
-use mathlib.Core.Path.{_≡_}
 use mathlib.Core.List.{List, [], _∷_, _++_}
 use lib.ListN.{take}
-use Rattle.io.specs.Digits.{digits, Fewest}
 use Rattle.output.specs.declared.Row.{Row}
 
 abbrev pub rowRoom : ℕ
@@ -21,9 +19,3 @@ joined s t = take rowRoom (s ++ t)
 unfoldable pub blanks : ℕ → List ℕ
 blanks zero = []
 blanks (suc n) = blanks n ++ (32 ∷ [])
-
--- a number after a text, in the fewest decimal digits
-pub record NumberJoined (before : List ℕ) (n : ℕ) (after : List ℕ) : Type 0 where
-  pub count : ℕ
-  pub fewest : Fewest 10 1 n count
-  pub text : after ≡ joined before (digits 10 count n)

@@ -5,7 +5,8 @@ use libc::STDOUT_FILENO;
 ghost use mathlib.Core.Path.{_≡_};
 ghost use mathlib.Core.List.{[], _∷_};
 ghost use Rattle.io.specs.Digits.{digits};
-ghost use Rattle.output.specs.Rows.{textOf, joined, blanks, NumberJoined};
+ghost use Rattle.decimals.specs.Decimals.{decimal};
+ghost use Rattle.output.specs.Rows.{textOf, joined, blanks};
 
 // What a row holds at most.
 const ROOM: usize = 256;
@@ -69,16 +70,16 @@ pub fn put_digit(row: Row, n: u64) -> Row
 
 // A number in decimal, without zeros in front.
 pub fn put_number(row: Row, n: u64) -> Row
-    ensures { λ r. ⌜ NumberJoined (textOf row) n (textOf r) ⌝ }
+    ensures { λ r. ⌜ textOf r ≡ joined (textOf row) (decimal n) ⌝ }
 {
     let mut digits = [0u8; 20];
-    let count = io::decimal(n, &mut digits);
+    let count = decimals::write_number(&mut digits, 0, n);
     put_text(row, &digits[..count])
 }
 
 // A blank, and a number.
 pub fn put_field(row: Row, n: u64) -> Row
-    ensures { λ r. ⌜ NumberJoined (joined (textOf row) (32 ∷ [])) n (textOf r) ⌝ }
+    ensures { λ r. ⌜ textOf r ≡ joined (joined (textOf row) (32 ∷ [])) (decimal n) ⌝ }
 {
     put_number(put(row, b' '), n)
 }

@@ -13,6 +13,8 @@ use script::Order;
 use sheet::Position;
 use sheet_losses::Raised;
 use sheet_losses::Rests;
+use sheet_text::Read;
+use sheet_text::Written;
 use statement::Stated;
 use statements::Sums;
 use text::Bytes;
@@ -186,16 +188,79 @@ fn say_buffer(refusal: u32, buffer: &[u8], out: &mut [u8]) -> bool
     say_hex(buffer, out, 2)
 }
 
-fn archive_or_restore(back: bool, source: &[u8], buffer: &mut [u8]) -> u32 {
-    if back {
-        sheet_archive::restore(source, buffer)
-    } else {
-        sheet_archive::archive(source, buffer)
+// After a 17 the line, and after a 13 the month and the place stand in the place of the values.
+fn say_read(read: Read, sheet: &[u8], out: &mut [u8]) -> bool
+    requires { ⌜ 2 * length (now sheet) + 3 ≤ length (now out) ⌝ }
+{
+    let number = output::put_number(output::no_text(), read.refusal as u64);
+    if read.line != 0 {
+        return say(output::put_field(number, read.line as u64));
+    }
+    if read.month != 0 {
+        let position = Position {
+            month: read.month,
+            place: read.place,
+        };
+        return say(put_position(number, position));
+    }
+    say_buffer(read.refusal, sheet, out)
+}
+
+// Prints the number and the length, and of an accepted call the buffer after it.
+fn say_written(written: Written, buffer: &[u8], out: &mut [u8]) -> bool
+    requires { ⌜ 2 * length (now buffer) + 3 ≤ length (now out) ⌝ }
+{
+    let number = output::put_number(output::no_text(), written.refusal as u64);
+    if written.month != 0 {
+        let position = Position {
+            month: written.month,
+            place: written.place,
+        };
+        return say(put_position(number, position));
+    }
+    let row = output::put_field(number, written.length as u64);
+    if written.refusal != 0 {
+        return say(row);
+    }
+    if !output::write_row(b"replay: standard output", output::put(row, b' ')) {
+        return false;
+    }
+    say_hex(buffer, out, 0)
+}
+
+// What is made of two words of bytes, the second of them lent.
+enum Work {
+    Archive,
+    Restore,
+    Read,
+    Write,
+}
+
+fn work_on(work: Work, source: &[u8], lent: &mut [u8], out: &mut [u8]) -> bool
+    requires { ⌜ 2 * length (now lent) + 3 ≤ length (now out) ⌝ }
+{
+    match work {
+        Work::Archive => {
+            let refusal = sheet_archive::archive(source, lent);
+            say_buffer(refusal, lent, out)
+        }
+        Work::Restore => {
+            let refusal = sheet_archive::restore(source, lent);
+            say_buffer(refusal, lent, out)
+        }
+        Work::Read => {
+            let read = sheet_text::read_measures(lent, source);
+            say_read(read, lent, out)
+        }
+        Work::Write => {
+            let written = sheet_text::write_measures(source, lent);
+            say_written(written, lent, out)
+        }
     }
 }
 
-// A sheet to its archive, or back, into a buffer that holds the second word's bytes.
-fn rearrange(line: &[u8], source: Digits, buffer: Digits, back: bool, out: &mut [u8]) -> bool
+// A sheet to its archive or back, or a sheet to the operator's text or back, into a buffer that holds a word's bytes.
+fn rearrange(line: &[u8], source: Digits, buffer: Digits, work: Work, out: &mut [u8]) -> bool
     requires { ⌜ 2 * longestBook + 257 ≤ length (now out) ⌝ }
 {
     let mut from = io::large_buffer();
@@ -208,9 +273,7 @@ fn rearrange(line: &[u8], source: Digits, buffer: Digits, back: bool, out: &mut 
     else {
         return say_error();
     };
-    let lent = &mut to[..room];
-    let refusal = archive_or_restore(back, &from[..read], lent);
-    say_buffer(refusal, lent, out)
+    work_on(work, &from[..read], &mut to[..room], out)
 }
 
 fn put_rests(row: Row, rests: Rests) -> Row {
@@ -349,9 +412,11 @@ fn call(order: Order, line: &[u8], book: &mut [u8], out: &mut [u8]) -> bool
         }
         Order::Close(at) => close_year(book, line, at),
         Order::Statement(number) => say_stated(statement::statement(book, UserNumber(number))),
-        Order::Archive { sheet, buffer } => rearrange(line, sheet, buffer, false, out),
-        Order::Restore { archive, buffer } => rearrange(line, archive, buffer, true, out),
+        Order::Archive { sheet, buffer } => rearrange(line, sheet, buffer, Work::Archive, out),
+        Order::Restore { archive, buffer } => rearrange(line, archive, buffer, Work::Restore, out),
         Order::Raise { sheet, factor } => raise(line, sheet, factor, out),
+        Order::ReadMeasures { sheet, text } => rearrange(line, text, sheet, Work::Read, out),
+        Order::WriteMeasures { sheet, buffer } => rearrange(line, sheet, buffer, Work::Write, out),
         Order::Dump => say_hex(book, out, 0),
         Order::List => list(book, out),
         Order::New(_) => say_error(),

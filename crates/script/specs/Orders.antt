@@ -38,6 +38,12 @@ advanceWord = 97 ∷ 100 ∷ 118 ∷ 97 ∷ 110 ∷ 99 ∷ 101 ∷ []
 abbrev pub closeWord : List ℕ
 closeWord = 99 ∷ 108 ∷ 111 ∷ 115 ∷ 101 ∷ []
 
+abbrev pub readMeasuresWord : List ℕ
+readMeasuresWord = 114 ∷ 101 ∷ 97 ∷ 100 ∷ 109 ∷ 101 ∷ 97 ∷ 115 ∷ 117 ∷ 114 ∷ 101 ∷ 115 ∷ []
+
+abbrev pub writeMeasuresWord : List ℕ
+writeMeasuresWord = 119 ∷ 114 ∷ 105 ∷ 116 ∷ 101 ∷ 109 ∷ 101 ∷ 97 ∷ 115 ∷ 117 ∷ 114 ∷ 101 ∷ 115 ∷ []
+
 abbrev pub statementWord : List ℕ
 statementWord = 115 ∷ 116 ∷ 97 ∷ 116 ∷ 101 ∷ 109 ∷ 101 ∷ 110 ∷ 116 ∷ []
 
@@ -187,15 +193,30 @@ raiseOrder line =
     let after : ℕ = sheet .digits .to in
     cond (sheet .fit && numbersFit line after (most32 ∷ [])) (order.Raise (sheet .digits) (numberOf line after 0)) order.Wrong
 
+unfoldable pub readMeasuresOrder : List ℕ → Order
+readMeasuresOrder line =
+    let words : Words = wordsAt line (length readMeasuresWord) in
+    cond (words .fit) (order.ReadMeasures (words .first) (words .second)) order.Wrong
+
+unfoldable pub writeMeasuresOrder : List ℕ → Order
+writeMeasuresOrder line =
+    let words : Words = wordsAt line (length writeMeasuresWord) in
+    cond (words .fit) (order.WriteMeasures (words .first) (words .second)) order.Wrong
+
 -- a word alone
 unfoldable pub aloneOrder : List ℕ → List ℕ → Order → Order
 aloneOrder line word asked = cond (eqb (length line) (length word)) asked order.Wrong
 
--- the calls on sheets alone, and those on the book
+-- the calls on the operator's text, those on sheets alone, and those on the book
+unfoldable pub textOrder : List ℕ → Order
+textOrder line =
+    cond (begins line readMeasuresWord) (readMeasuresOrder line)
+    (cond (begins line writeMeasuresWord) (writeMeasuresOrder line) order.Wrong)
+
 unfoldable pub sheetOrder : List ℕ → Order
 sheetOrder line =
     cond (begins line archiveWord) (archiveOrder line)
-    (cond (begins line restoreWord) (restoreOrder line) (cond (begins line raiseWord) (raiseOrder line) order.Wrong))
+    (cond (begins line restoreWord) (restoreOrder line) (cond (begins line raiseWord) (raiseOrder line) (textOrder line)))
 
 unfoldable pub callOrder : List ℕ → Order
 callOrder line =

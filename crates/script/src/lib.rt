@@ -5,6 +5,7 @@ ghost use Prim.Native.Nat.{_≤_};
 ghost use lib.ListN.{length};
 ghost use Rattle.script.specs.Orders.{begins, bytesFit, NumbersRead, newOrder, enrolOrder, electOrder, advanceOrder, statementOrder, loadOrder, closeOrder, aloneOrder, callOrder, bookOrder, orderOf};
 ghost use Rattle.script.specs.Orders.{isNoBytes, isSomeBytes, wordAt, wordsAt, archiveOrder, restoreOrder, raiseOrder, sheetOrder};
+ghost use Rattle.script.specs.Orders.{readMeasuresOrder, writeMeasuresOrder, textOrder};
 
 // Where the digits of a word of bytes stand: none for `-`.
 pub struct Digits {
@@ -55,6 +56,14 @@ pub enum Order {
     Raise {
         sheet: Digits,
         factor: u32,
+    },
+    ReadMeasures {
+        sheet: Digits,
+        text: Digits,
+    },
+    WriteMeasures {
+        sheet: Digits,
+        buffer: Digits,
     },
     Dump,
     List,
@@ -327,6 +336,32 @@ fn raise_order(line: &[u8]) -> Order
     }
 }
 
+fn read_measures_order(line: &[u8]) -> Order
+    ensures { λ r. ⌜ r ≡ readMeasuresOrder (now (line .entry)) ⌝ }
+{
+    let words = words_at(line, 12);
+    let sheet = words.first;
+    let text = words.second;
+    if words.fit {
+        Order::ReadMeasures { sheet, text }
+    } else {
+        Order::Wrong
+    }
+}
+
+fn write_measures_order(line: &[u8]) -> Order
+    ensures { λ r. ⌜ r ≡ writeMeasuresOrder (now (line .entry)) ⌝ }
+{
+    let words = words_at(line, 13);
+    let sheet = words.first;
+    let buffer = words.second;
+    if words.fit {
+        Order::WriteMeasures { sheet, buffer }
+    } else {
+        Order::Wrong
+    }
+}
+
 // The order of a word that stands alone.
 fn alone_order(line: &[u8], word: &[u8], asked: Order) -> Order
     ensures { λ r. ⌜ r ≡ aloneOrder (now (line .entry)) (now (word .entry)) asked ⌝ }
@@ -336,6 +371,19 @@ fn alone_order(line: &[u8], word: &[u8], asked: Order) -> Order
     } else {
         Order::Wrong
     }
+}
+
+// The calls on the operator's text.
+fn text_order(line: &[u8]) -> Order
+    ensures { λ r. ⌜ r ≡ textOrder (now (line .entry)) ⌝ }
+{
+    if begins(line, b"readmeasures") {
+        return read_measures_order(line);
+    }
+    if begins(line, b"writemeasures") {
+        return write_measures_order(line);
+    }
+    Order::Wrong
 }
 
 // The calls on sheets alone.
@@ -351,7 +399,7 @@ fn sheet_order(line: &[u8]) -> Order
     if begins(line, b"raise") {
         return raise_order(line);
     }
-    Order::Wrong
+    text_order(line)
 }
 
 // The five calls on the book, and else one on sheets.

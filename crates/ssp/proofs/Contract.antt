@@ -3,6 +3,8 @@ use mathlib.Core.Path.{_≡_}
 use denote.Ref.{now}
 use Rattle.sheet_archive.specs.Archive.{answer, archiveAfter, sheetAfter}
 use Rattle.sheet_losses.specs.Losses.{answerOf, raisedAfter}
+use Rattle.sheet_text.specs.Reading as reading
+use Rattle.sheet_text.specs.Writing.{writeAnswer, bufferAfter}
 use Rattle.book.specs.Book.{used}
 use Rattle.soundness.specs.Verdicts.{freshAnswer, freshAfter}
 use Rattle.sheet.specs.YearSheet.{Tells}
@@ -11,7 +13,7 @@ use Rattle.answers.specs.Answers.{Answered}
 use Rattle.advance.specs.Advances.{ticksAnswered}
 use Rattle.close.specs.Closings.{sumsAnswered}
 use Rattle.statement.specs.Stated.{sumsStated}
-use Rattle.ssp.specs.Flat.{interfaceNumber, detailsOf, positionOf, flatClosed, flatSums, flatRaised}
+use Rattle.ssp.specs.Flat.{interfaceNumber, detailsOf, positionOf, flatClosed, flatSums, flatRead, flatWritten, flatRaised}
 use Rattle.ssp.proofs.ssp_interface.Reads as interface-of
 use Rattle.ssp.proofs.ssp_fresh.Reads as fresh-of
 use Rattle.ssp.proofs.ssp_enrol.Reads as enrol-of
@@ -22,6 +24,8 @@ use Rattle.ssp.proofs.ssp_statement.Reads as statement-of
 use Rattle.ssp.proofs.ssp_archive.Reads as archive-of
 use Rattle.ssp.proofs.ssp_restore.Reads as restore-of
 use Rattle.ssp.proofs.ssp_raise.Reads as raise-of
+use Rattle.ssp.proofs.ssp_read_measures.Reads as read-of
+use Rattle.ssp.proofs.ssp_write_measures.Reads as write-of
 
 pub interface-says : (κs : _) (a : _) (r : _) (s : _) → interface-of.Post κs a r s → r ≡ interfaceNumber
 interface-says κs a r s said = said
@@ -64,3 +68,11 @@ restore-says κs a r s said = said
 pub raise-says : (κs : _) (a : _) (r : _) (s : _) → raise-of.Post κs a r s
     → (r ≡ flatRaised (answerOf (a .1 .0) (now (a .0)))) × (now (s .0) ≡ raisedAfter (a .1 .0) (now (a .0)))
 raise-says κs a r s said = said
+
+pub read-says : (κs : _) (a : _) (r : _) (s : _) → read-of.Post κs a r s
+    → (r ≡ flatRead (reading.readAnswer (now (a .0)) (now (a .1 .0)))) × (now (s .0) ≡ reading.sheetAfter (now (a .0)) (now (a .1 .0)))
+read-says κs a r s said = said
+
+pub write-says : (κs : _) (a : _) (r : _) (s : _) → write-of.Post κs a r s
+    → (r ≡ flatWritten (writeAnswer (now (a .0)) (now (a .1 .0)))) × (now (s .1 .0) ≡ bufferAfter (now (a .0)) (now (a .1 .0)))
+write-says κs a r s said = said

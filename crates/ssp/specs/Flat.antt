@@ -6,14 +6,18 @@ use Rattle.values.specs.declared.Details.{Details}
 use Rattle.sheet.specs.declared.Position.{Position}
 use Rattle.accounts.specs.declared.ClosingSums.{ClosingSums}
 use Rattle.statements.specs.declared.Sums as statements
+use Rattle.sheet_text.specs.declared.Read as sheet-text-read
+use Rattle.sheet_text.specs.declared.Written as sheet-text-written
 use Rattle.ssp.specs.declared.Closed.{Closed}
 use Rattle.sheet_losses.specs.declared.Raised as losses
+use Rattle.ssp.specs.declared.Read.{Read}
+use Rattle.ssp.specs.declared.Written.{Written}
 use Rattle.ssp.specs.declared.Sums.{Sums}
 use Rattle.ssp.specs.declared.Raised.{Raised}
 
 -- SSP_INTERFACE of include/ssp.h, which rises with each landing that changes a struct or a function
 abbrev pub interfaceNumber : ℕ
-interfaceNumber = 4
+interfaceNumber = 5
 
 abbrev pub detailsOf : ℕ → ℕ → ℕ → ℕ → ℕ → ℕ → Details
 detailsOf class plant power year month island =
@@ -66,3 +70,9 @@ flatRaised r =
       rest2 = r .rests .second;
       rest3 = r .rests .third;
     }
+
+abbrev pub flatRead : sheet-text-read.Read → Read
+flatRead r = record { refusal = r .refusal; line = r .line; month = r .month; place = r .place }
+
+abbrev pub flatWritten : sheet-text-written.Written → Written
+flatWritten w = record { refusal = w .refusal; length = w .length; month = w .month; place = w .place }

@@ -3,6 +3,8 @@
 ghost use mathlib.Core.Path.{_≡_};
 ghost use Rattle.sheet_archive.specs.Archive.{answer, archiveAfter, sheetAfter};
 ghost use Rattle.sheet_losses.specs.Losses.{answerOf, raisedAfter};
+ghost use Rattle.sheet_text.specs.Reading as reading;
+ghost use Rattle.sheet_text.specs.Writing.{writeAnswer, bufferAfter};
 ghost use Rattle.book.specs.Book.{used};
 ghost use Rattle.soundness.specs.Verdicts.{freshAnswer, freshAfter};
 ghost use Rattle.sheet.specs.YearSheet.{Tells};
@@ -11,14 +13,14 @@ ghost use Rattle.answers.specs.Answers.{Answered};
 ghost use Rattle.advance.specs.Advances.{ticksAnswered};
 ghost use Rattle.close.specs.Closings.{sumsAnswered};
 ghost use Rattle.statement.specs.Stated.{sumsStated};
-ghost use Rattle.ssp.specs.Flat.{interfaceNumber, detailsOf, positionOf, flatClosed, flatSums, flatRaised};
+ghost use Rattle.ssp.specs.Flat.{interfaceNumber, detailsOf, positionOf, flatClosed, flatSums, flatRead, flatWritten, flatRaised};
 use units::Rate;
 use units::UserNumber;
 use units::WideKwh;
 use values::Details;
 
 // The number of this interface, SSP_INTERFACE of the header: it rises with each landing that changes a struct or a function.
-const INTERFACE: u32 = 4;
+const INTERFACE: u32 = 5;
 
 #[repr(C)]
 pub struct Booked {
@@ -75,6 +77,22 @@ pub struct Raised {
     pub rest3: u32,
 }
 
+#[repr(C)]
+pub struct Read {
+    pub refusal: u32,
+    pub line: u32,
+    pub month: u32,
+    pub place: u32,
+}
+
+#[repr(C)]
+pub struct Written {
+    pub refusal: u32,
+    pub length: u32,
+    pub month: u32,
+    pub place: u32,
+}
+
 fn flat_closed(closed: close::Closed) -> Closed
     ensures { λ r. ⌜ r ≡ flatClosed (closed .reply .refusal) (closed .reply .record .0) (closed .position) (closed .sums) ⌝ }
 {
@@ -127,6 +145,28 @@ fn flat_raised(raised: sheet_losses::Raised) -> Raised
         rest1: raised.rests.first,
         rest2: raised.rests.second,
         rest3: raised.rests.third,
+    }
+}
+
+fn flat_read(read: sheet_text::Read) -> Read
+    ensures { λ r. ⌜ r ≡ flatRead read ⌝ }
+{
+    Read {
+        refusal: read.refusal,
+        line: read.line,
+        month: read.month,
+        place: read.place,
+    }
+}
+
+fn flat_written(written: sheet_text::Written) -> Written
+    ensures { λ r. ⌜ r ≡ flatWritten written ⌝ }
+{
+    Written {
+        refusal: written.refusal,
+        length: written.length,
+        month: written.month,
+        place: written.place,
     }
 }
 
@@ -260,4 +300,20 @@ pub extern "C" fn ssp_raise(sheet: &mut [u8], factor: u32) -> Raised
     ensures { λ _. ⌜ now (sheet .exit) ≡ raisedAfter factor (now (sheet .entry)) ⌝ }
 {
     flat_raised(sheet_losses::raise(sheet, factor))
+}
+
+#[no_mangle]
+pub extern "C" fn ssp_read_measures(sheet: &mut [u8], text: &[u8]) -> Read
+    ensures { λ r. ⌜ r ≡ flatRead (reading.readAnswer (now (sheet .entry)) (now (text .entry))) ⌝ }
+    ensures { λ _. ⌜ now (sheet .exit) ≡ reading.sheetAfter (now (sheet .entry)) (now (text .entry)) ⌝ }
+{
+    flat_read(sheet_text::read_measures(sheet, text))
+}
+
+#[no_mangle]
+pub extern "C" fn ssp_write_measures(sheet: &[u8], text: &mut [u8]) -> Written
+    ensures { λ r. ⌜ r ≡ flatWritten (writeAnswer (now (sheet .entry)) (now (text .entry))) ⌝ }
+    ensures { λ _. ⌜ now (text .exit) ≡ bufferAfter (now (sheet .entry)) (now (text .entry)) ⌝ }
+{
+    flat_written(sheet_text::write_measures(sheet, text))
 }

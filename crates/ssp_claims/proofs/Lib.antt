@@ -3,3 +3,4 @@ pub mod Possible
 pub mod Theorem
 pub mod Archives
 pub mod Raises
+pub mod Measures

@@ -1,3 +1,4 @@
 pub mod Exported
 pub mod Archives
 pub mod Raises
+pub mod Measures

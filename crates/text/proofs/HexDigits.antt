@@ -8,8 +8,9 @@ use mathlib.Core.List.{List}
 use lib.Dec.{leb}
 use lib.ListN.{length, getD}
 use Rattle.units.proofs.Bools.{and-left, and-right}
-use Rattle.text.specs.Text.{isDigit, isHexDigit, hexDigit}
-use Rattle.text.proofs.Digits.{inside, digit-bounds}
+use Rattle.decimals.specs.Decimals.{isDigit}
+use Rattle.text.specs.Text.{isHexDigit, hexDigit}
+use Rattle.decimals.proofs.Digits.{inside, digit-bounds}
 
 letter : (d : Bool) (x : Bool) → d ≡ false → (d || x) ≡ true → x ≡ true
 letter true x f e = absurd (true≢false f)

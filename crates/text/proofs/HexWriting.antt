@@ -8,7 +8,8 @@ use borrow.Author.Count.{below-more}
 use borrow.Author.Tests.{le-leb}
 use lib.ListN.{length, getD, set, length-set}
 use lib.Seq.{getD-set-same, getD-set-other}
-use Rattle.text.specs.Text.{isDigit, isHexDigit, hexDigit, hexByte, HexSpelt}
+use Rattle.decimals.specs.Decimals.{isDigit}
+use Rattle.text.specs.Text.{isHexDigit, hexDigit, hexByte, HexSpelt}
 use Rattle.text.proofs.HexDigits.{above-nine}
 
 pub digit-to-nine : (n : ℕ) → n < 10 → (isHexDigit (48 + n) ≡ true) × (hexDigit (48 + n) ≡ n)

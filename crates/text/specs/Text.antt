@@ -7,6 +7,7 @@ use mathlib.Core.List.{List, [], _∷_}
 use lib.Dec.{leb, ltb, eqb}
 use lib.ListN.{length, getD, drop}
 use Rattle.units.specs.Folds.{allBelow}
+use Rattle.decimals.specs.Decimals.{isDigit, digits, value}
 use Rattle.text.specs.declared.Number.{Number}
 use Rattle.text.specs.declared.Number.the-variants as number
 use Rattle.text.specs.declared.Numbers.{Numbers}
@@ -14,29 +15,17 @@ use Rattle.text.specs.declared.Bytes.{Bytes}
 use Rattle.text.specs.declared.Bytes.the-variants as bytes
 
 -- `0`–`9` and `a`–`f`, and what a digit stands for
-unfoldable pub isDigit : ℕ → Bool
-isDigit b = leb 48 b && leb b 57
-
 unfoldable pub isHexDigit : ℕ → Bool
 isHexDigit b = isDigit b || (leb 97 b && leb b 102)
 
 unfoldable pub hexDigit : ℕ → ℕ
 hexDigit b = cond (isDigit b) (b - 48) (b - 87)
 
--- how many digits stand at the front of a text, and the number that they stand for after the digits of n
-unfoldable pub digits : List ℕ → ℕ
-digits [] = 0
-digits (b ∷ bs) = cond (isDigit b) (suc (digits bs)) 0
-
-unfoldable pub decimal : ℕ → List ℕ → ℕ
-decimal n [] = n
-decimal n (b ∷ bs) = cond (isDigit b) (decimal (n * 10 + (b - 48)) bs) n
-
 -- the number at a place, if a digit stands there and the number is below 2^64; and the number after one blank
 unfoldable pub numberAt : List ℕ → ℕ → Number
 numberAt s at =
-    cond (ltb 0 (digits (drop at s)) && ltb (decimal 0 (drop at s)) (2 ^ 64))
-    (number.Read (decimal 0 (drop at s)) (at + digits (drop at s)))
+    cond (ltb 0 (digits (drop at s)) && ltb (value (drop at s)) (2 ^ 64))
+    (number.Read (value (drop at s)) (at + digits (drop at s)))
     number.Missing
 
 abbrev pub isBlankAt : List ℕ → ℕ → Bool

@@ -4,7 +4,7 @@ ghost use mathlib.Core.Path.{_≡_};
 ghost use mathlib.Core.Bool.{true};
 ghost use Prim.Native.Nat.{_+_, _*_, _^_, _≤_};
 ghost use lib.ListN.{length, getD, take, drop};
-ghost use Rattle.text.specs.Text.{narrow, isDigit, isHexDigit, hexDigit, hexByte, isHex, numberAt, NextWithin, afterBlank, fieldAt, wordEnd, FieldsRead, HexRead, HexWritten};
+ghost use Rattle.text.specs.Text.{narrow, isHexDigit, hexDigit, hexByte, isHex, numberAt, NextWithin, afterBlank, fieldAt, wordEnd, FieldsRead, HexRead, HexWritten};
 
 // A number that stands at a place, and the place after it.
 pub enum Number {
@@ -25,16 +25,10 @@ pub enum Bytes {
     Wrong,
 }
 
-fn is_digit(b: u8) -> bool
-    ensures { λ r. ⌜ r ≡ isDigit b ⌝ }
-{
-    (b'0' <= b) & (b <= b'9')
-}
-
 fn is_hex_digit(b: u8) -> bool
     ensures { λ r. ⌜ r ≡ isHexDigit b ⌝ }
 {
-    is_digit(b) | ((b'a' <= b) & (b <= b'f'))
+    decimals::is_digit(b) | ((b'a' <= b) & (b <= b'f'))
 }
 
 fn hex_digit(b: u8) -> u8
@@ -51,7 +45,7 @@ pub fn number_at(s: &[u8], at: usize) -> Number
 {
     let mut value: u64 = 0;
     let mut next = at;
-    while is_digit(codec::byte_at(s, next)) {
+    while decimals::is_digit(codec::byte_at(s, next)) {
         let digit = (codec::byte_at(s, next) - b'0') as u64;
         if (u64::MAX - digit) / 10 < value {
             return Number::Missing;

@@ -1,7 +1,7 @@
 //! The exported functions of libssp.a, as `include/ssp.h` declares them.
 
 /// `SSP_INTERFACE` of the header that these declarations follow.
-pub const INTERFACE: u32 = 4;
+pub const INTERFACE: u32 = 5;
 
 #[repr(C)]
 pub struct Booked {
@@ -58,6 +58,22 @@ pub struct Raised {
     pub rest3: u32,
 }
 
+#[repr(C)]
+pub struct Read {
+    pub refusal: u32,
+    pub line: u32,
+    pub month: u32,
+    pub place: u32,
+}
+
+#[repr(C)]
+pub struct Written {
+    pub refusal: u32,
+    pub length: u32,
+    pub month: u32,
+    pub place: u32,
+}
+
 unsafe extern "C" {
     pub fn ssp_interface() -> u32;
     pub fn ssp_fresh(book: *mut u8, len: usize) -> u32;
@@ -89,13 +105,17 @@ unsafe extern "C" {
     pub fn ssp_archive(sheet: *const u8, sheet_len: usize, archive: *mut u8, archive_len: usize) -> u32;
     pub fn ssp_restore(archive: *const u8, archive_len: usize, sheet: *mut u8, sheet_len: usize) -> u32;
     pub fn ssp_raise(sheet: *mut u8, sheet_len: usize, factor: u32) -> Raised;
+    pub fn ssp_read_measures(sheet: *mut u8, sheet_len: usize, text: *const u8, text_len: usize) -> Read;
+    pub fn ssp_write_measures(sheet: *const u8, sheet_len: usize, text: *mut u8, text_len: usize) -> Written;
 }
 
 #[cfg(test)]
 mod tests {
     use std::ptr::{null, null_mut};
 
-    use super::{ssp_archive, ssp_close, ssp_fresh, ssp_raise, ssp_restore, ssp_statement};
+    use super::{
+        ssp_archive, ssp_close, ssp_fresh, ssp_raise, ssp_read_measures, ssp_restore, ssp_statement, ssp_write_measures,
+    };
 
     /// "With length 0 no byte is read or written and the pointer may be NULL."
     #[test]
@@ -111,6 +131,8 @@ mod tests {
             assert_eq!(ssp_archive(null(), 0, null_mut(), 0), 27);
             assert_eq!(ssp_restore(null(), 0, null_mut(), 0), 27);
             assert_eq!(ssp_raise(null_mut(), 0, 0).refusal, 11);
+            assert_eq!(ssp_read_measures(null_mut(), 0, null(), 0).refusal, 11);
+            assert_eq!(ssp_write_measures(null(), 0, null_mut(), 0).refusal, 11);
         }
     }
 }

@@ -33,6 +33,7 @@ mod answers;
 mod archive;
 mod ffi;
 mod losses;
+mod measures;
 mod place;
 mod refusal;
 
@@ -40,6 +41,7 @@ pub use amount::{Balance, Ticks};
 pub use answers::{Closing, Statement};
 pub use archive::{archive_sheet, archive_sheet_into, restore_sheet, restore_sheet_into};
 pub use losses::{Rests, raise_injected};
+pub use measures::{read_measures, write_measures, write_measures_into};
 pub use place::Place;
 pub use refusal::Refusal;
 
@@ -128,6 +130,8 @@ impl<'a> Book<'a> {
 
     /// The length of a year sheet.
     pub const SHEET: usize = 1184;
+    /// The bytes that the lines of every sheet fit into, as the grid operator's text has them.
+    pub const MEASURES: usize = 675;
 
     /// The book that the bytes hold. Whether they hold one is checked by each call.
     ///

@@ -45,6 +45,11 @@ pub enum Refusal {
     },
     /// 14: a domestic user withdrew more than 4,000,000 kWh in a month.
     DomesticMonth,
+    /// 17: a line of the operator's text is not seven numbers with semicolons, is not of its month, or stands behind the twelfth.
+    Line {
+        /// The line, 1 to 13.
+        line: u32,
+    },
     /// 19: a single reading has kWh in F2 or F3; of the numbers at fault it is the earliest.
     StrayBand {
         /// Its month, 1 to 12.
@@ -68,8 +73,9 @@ impl Refusal {
     }
 
     /// The same for a call that takes a year sheet, and tells where the number at fault stands.
-    pub(crate) fn check_sheet(refusal: u32, record: u32, month: u32, place: u32) -> Result<(), Refusal> {
-        let place = Place(place);
+    /// What is named is a record, or a line of a text.
+    pub(crate) fn check_sheet(refusal: u32, named: u32, month: u32, place: u32) -> Result<(), Refusal> {
+        let (record, line, place) = (named, named, Place(place));
         Err(match refusal {
             0 => return Ok(()),
             1 => Refusal::Length,
@@ -86,6 +92,7 @@ impl Refusal {
             12 => Refusal::SheetYear,
             13 => Refusal::AboveLimit { month, place },
             14 => Refusal::DomesticMonth,
+            17 => Refusal::Line { line },
             19 => Refusal::StrayBand { month, place },
             26 => Refusal::Factor,
             27 => Refusal::BufferSize,
@@ -110,6 +117,7 @@ impl Refusal {
             Refusal::SheetYear => 12,
             Refusal::AboveLimit { .. } => 13,
             Refusal::DomesticMonth => 14,
+            Refusal::Line { .. } => 17,
             Refusal::StrayBand { .. } => 19,
             Refusal::Factor => 26,
             Refusal::BufferSize => 27,
@@ -140,6 +148,12 @@ impl fmt::Display for Refusal {
                 return write!(f, "month {month}: {place} is above {limit}");
             }
             Refusal::DomesticMonth => "a domestic user withdrew more than 4,000,000 kWh in a month",
+            Refusal::Line { line: line @ 13.. } => {
+                return write!(f, "line {line}: the text goes on behind its twelfth line");
+            }
+            Refusal::Line { line } => {
+                return write!(f, "line {line}: not seven numbers with semicolons, the first of them {line}");
+            }
             Refusal::StrayBand { month, place } => {
                 return write!(f, "month {month}: {place} is filled, but the reading is single");
             }
@@ -161,7 +175,7 @@ mod tests {
         for number in 1..=30 {
             let refusal = Refusal::check(number, 5).expect_err("not 0");
             assert_eq!(refusal.number(), number);
-            let named = number <= 14 || matches!(number, 19 | 26 | 27);
+            let named = number <= 14 || matches!(number, 17 | 19 | 26 | 27);
             assert_eq!(refusal != Refusal::Other(number), named, "refusal {number} has a name");
         }
         assert_eq!(Refusal::check(0, 0), Ok(()));

@@ -269,3 +269,41 @@ fn factor() {
     let refusal = ssp_book::raise_injected(&mut sheet, 201).expect_err("a larger factor");
     is(refusal, Refusal::Factor, 26, "the factor is above 200 thousandths");
 }
+
+#[test]
+fn line() {
+    use ssp_book::{read_measures, write_measures};
+    let mut sheet = [0; Book::SHEET];
+    let line = "line 1: not seven numbers with semicolons, the first of them 1";
+    let refusal = read_measures(&mut sheet, "1;0;0;0;0;0\n").expect_err("six numbers");
+    is(refusal, Refusal::Line { line: 1 }, 17, line);
+    let text: String = (1..=13).map(|month| format!("{month};0;0;0;0;0;0\n")).collect();
+    let refusal = read_measures(&mut sheet, text).expect_err("thirteen lines");
+    is(
+        refusal,
+        Refusal::Line { line: 13 },
+        17,
+        "line 13: the text goes on behind its twelfth line",
+    );
+
+    let refusal = read_measures(&mut sheet, "1;0;20000001;0;0;0;0\n").expect_err("a kWh above the limit");
+    let above = Refusal::AboveLimit {
+        month: 1,
+        place: Place(2),
+    };
+    is(refusal, above, 13, "month 1: withdrawn F2 is above 20,000,000 kWh");
+    sheet[39] = 255;
+    is(
+        write_measures(&sheet).expect_err("the same kWh"),
+        above,
+        13,
+        "month 1: withdrawn F2 is above 20,000,000 kWh",
+    );
+    let refusal = read_measures(&mut sheet[1..], "").expect_err("a byte too few");
+    is(
+        refusal,
+        Refusal::Sheet,
+        11,
+        "the sheet's length, header or a zero word is wrong",
+    );
+}

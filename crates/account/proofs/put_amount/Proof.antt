@@ -1,11 +1,20 @@
 -- The parts of the amount one after the other.
-use Rattle.account.proofs.Parts.{amount-joined}
+use Prim.Native.Nat.{_/_}
+use mathlib.Core.Path.{refl, sym}
+use native.Mathlib.Omega.{arith}
+use lib.Seq.{length-take-le}
+use Rattle.decimals.proofs.Written.{number-front}
+use Rattle.account.specs.Amounts.{ticksPerEuro}
+use Rattle.account.proofs.Parts.{digits-fit, amount-joined}
 use borrow.Author.Needs.{needs}
 use Rattle.account.proofs.put_amount.Statement.{statement}
 use Rattle.account.proofs.put_amount.Tie as tie
 
-decimal-requires : tie.Need-decimal-requires
-decimal-requires c κs = search needs
+slice-aggregate-write-number : tie.Need-slice-aggregate-write-number
+slice-aggregate-write-number c = search needs
+
+write-number-requires : tie.Need-write-number-requires
+write-number-requires c κs = digits-fit (omega arith) refl
 
 blanks-before-requires : tie.Need-blanks-before-requires
 blanks-before-requires c κs = search needs
@@ -17,10 +26,16 @@ put-text-requires : tie.Need-put-text-requires
 put-text-requires c κs = search needs
 
 array-share-prefix-euros : tie.Need-array-share-prefix-euros
-array-share-prefix-euros c = search needs
+array-share-prefix-euros c =
+    let w = c .before .before .before .before .write-number in
+    let few = digits-fit (omega arith) (w .ensures .0) in
+    omega (arith, w .kept .0)
 
 slice-aggregate-put-text : tie.Need-slice-aggregate-put-text
-slice-aggregate-put-text c = search needs
+slice-aggregate-put-text c =
+    let w = c .before .before .before .before .before .write-number in
+    let few = digits-fit (omega arith) (w .ensures .0) in
+    sym (length-take-le (w .result) (w .last .0) (omega (arith, w .kept .0)))
 
 put-text-requires-2 : tie.Need-put-text-requires-2
 put-text-requires-2 c κs = search needs
@@ -33,19 +48,22 @@ put-decimals-requires c κs = search needs
 
 returns : tie.Need-returns
 returns c =
-    let spelt = c .before .before .before .before .before .before .before .decimal in
+    let w = c .before .before .before .before .before .before .before .before .write-number in
+    let euro = c .before .before .before .before .before .before .before .before .before .before .before .args .ticks / ticksPerEuro in
+    let digits = number-front euro (w .result) _ (w .last .0) (w .ensures .0) (w .ensures .1) in
     let blanks = c .before .before .before .before .before .before .blanks-before .ensures in
     let filled = c .before .before .before .before .before .put-blanks .ensures in
     let signed = c .before .before .before .before .put-text .ensures in
     let euros = c .before .before .put-text2 .ensures in
     let point = c .before .put .ensures in
-    amount-joined _ _ _ _ _ _ _ _ _ (spelt .result) _ (spelt .ensures .1 .0) (spelt .ensures .1 .1) blanks filled signed euros point (c .put-decimals .ensures)
+    amount-joined _ _ _ _ _ _ _ _ _ (w .result) _ (w .ensures .0) digits blanks filled signed euros point (c .put-decimals .ensures)
 
 pub put-amount-spec : {M : Type 1} → statement M
 put-amount-spec =
     tie.close
     (tie.spec
-    decimal-requires
+    slice-aggregate-write-number
+    write-number-requires
     blanks-before-requires
     put-blanks-requires
     put-text-requires

@@ -1,28 +1,20 @@
--- The number, then the byte at the place after it.
-use Prim.Native.Nat.{ℕ}
-use mathlib.Core.Path.{_≡_, ap₂, _∙_}
+-- All digits of a number of 64 bits are at most twenty.
+use Prim.Native.Nat.{ℕ, _+_}
+use mathlib.Core.Path.{ap, _∙_}
 use mathlib.Core.List.{List}
 use native.Mathlib.Omega.{arith}
 use borrow.Author.Needs.{needs}
 use denote.Ref.{now}
-use lib.ListN.{length, set}
-use Rattle.listing_text.proofs.Decimals.{decimal-short}
-use Rattle.listing_text.proofs.Lines.{length-field, field-written}
+use lib.ListN.{length}
+use Rattle.codec.specs.Bytes.{stored}
+use Rattle.listing_text.proofs.Lines.{field-short, field-whole}
 use Rattle.listing_text.proofs.field_at.Statement.{statement}
 use Rattle.listing_text.proofs.field_at.Tie as tie
 
-decimal-at-requires : tie.Need-decimal-at-requires
-decimal-at-requires c κs = search needs
-
-slice-write-out : tie.Need-slice-write-out
-slice-write-out c =
-    let a = c .before .before .before .before .before .args in
-    omega (arith, c .before .before .decimal-at .ensures .0, c .before .before .decimal-at .kept .0, decimal-short (a .n))
-
-add-result : tie.Need-add-result
-add-result c =
-    let a = c .before .before .before .before .before .args in
-    omega (arith, c .before .before .decimal-at .ensures .0, decimal-short (a .n))
+write-field-requires : tie.Need-write-field-requires
+write-field-requires c κs =
+    let a = c .before .before .args in
+    omega (arith, ap length (field-whole (a .n) (a .after) (omega arith)), field-short (a .n) (a .after))
 
 same-length : tie.Need-same-length
 same-length c = search needs
@@ -30,10 +22,14 @@ same-length c = search needs
 returns : tie.Need-returns
 returns c =
     let a = c .before .before .before .before .before .args in
-    let d = c .before .before .decimal-at in
-    let written = ap₂ (λ (l : List ℕ) (e : ℕ). set l e (a .after)) (d .ensures .1) (d .ensures .0) ∙ field-written (a .at) (a .n) (a .after) (now (a .out)) (omega arith) in
-    (omega (arith, d .ensures .0, length-field (a .n) (a .after)), (written, omega (arith, d .ensures .0, decimal-short (a .n))))
+    let w = c .before .before .write-field in
+    let whole = field-whole (a .n) (a .after) (omega arith) in (
+      w .ensures .0 ∙ ap (λ (l : List ℕ). a .at + length l) whole,
+      (
+        w .ensures .1 ∙ ap (λ (l : List ℕ). stored (a .at) l (now (a .out))) whole,
+        omega (arith, w .ensures .0, ap length whole, field-short (a .n) (a .after)),
+      ),
+    )
 
 pub field-at-spec : {M : Type 1} → statement M
-field-at-spec =
-    tie.close (tie.spec decimal-at-requires slice-write-out add-result same-length returns)
+field-at-spec = tie.close (tie.spec write-field-requires same-length returns)

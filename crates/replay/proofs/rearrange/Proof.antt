@@ -54,40 +54,37 @@ say-error-requires-2 c κs = search needs
 returns-2 : tie.Need-returns-2
 returns-2 c = search needs
 
-array-borrow-prefix-to : tie.Need-array-borrow-prefix-to
-array-borrow-prefix-to c =
-    let filled = rw (c .before .room .given .1) at (c .before .before .before .before .hex-from2 .ensures) in
-    filled .room
-
-slice-aggregate-lent : tie.Need-slice-aggregate-lent
-slice-aggregate-lent c =
-    let read = c .before .before .before .before .before .hex-from2 in
-    let count = c .before .before .room .given in
-    let filled = rw (count .1) at (read .ensures) in
-    sym (length-take-le (count .0 .0) (read .last .1 .1 .0) (filled .room))
-
 array-share-prefix-from : tie.Need-array-share-prefix-from
 array-share-prefix-from c =
-    let filled = rw (c .before .before .before .before .before .before .before .before .before .before .read .given .1) at (c .before .before .before .before .before .before .before .before .before .before .before .before .before .hex-from .ensures) in
+    let filled = rw (c .before .before .before .before .before .before .before .before .before .read .given .1) at (c .before .before .before .before .before .before .before .before .before .before .before .before .hex-from .ensures) in
     filled .room
 
-slice-aggregate-archive-or-restore : tie.Need-slice-aggregate-archive-or-restore
-slice-aggregate-archive-or-restore c =
-    let read = c .before .before .before .before .before .before .before .before .before .before .before .before .before .before .hex-from in
-    let count = c .before .before .before .before .before .before .before .before .before .before .before .read .given in
+slice-aggregate-work-on : tie.Need-slice-aggregate-work-on
+slice-aggregate-work-on c =
+    let read = c .before .before .before .before .before .before .before .before .before .before .before .before .before .hex-from in
+    let count = c .before .before .before .before .before .before .before .before .before .before .read .given in
     let filled = rw (count .1) at (read .ensures) in
     sym (length-take-le (count .0 .0) (read .last .1 .1 .0) (filled .room))
 
-archive-or-restore-requires : tie.Need-archive-or-restore-requires
-archive-or-restore-requires c κs = search needs
+array-borrow-prefix-to : tie.Need-array-borrow-prefix-to
+array-borrow-prefix-to c =
+    let filled = rw (c .before .before .room .given .1) at (c .before .before .before .before .before .hex-from2 .ensures) in
+    filled .room
 
-say-buffer-requires : tie.Need-say-buffer-requires
-say-buffer-requires c κs =
-    let read = c .before .before .before .before .before .before .before .before .before .before .before .before .hex-from2 in
-    let count = c .before .before .before .before .before .before .before .before .before .room .given in
+slice-aggregate-work-on-2 : tie.Need-slice-aggregate-work-on-2
+slice-aggregate-work-on-2 c =
+    let read = c .before .before .before .before .before .before .hex-from2 in
+    let count = c .before .before .before .room .given in
+    let filled = rw (count .1) at (read .ensures) in
+    sym (length-take-le (count .0 .0) (read .last .1 .1 .0) (filled .room))
+
+work-on-requires : tie.Need-work-on-requires
+work-on-requires c κs =
+    let read = c .before .before .before .before .before .before .before .hex-from2 in
+    let count = c .before .before .before .before .room .given in
     let filled = rw (count .1) at (read .ensures) in
     let lent = length-take-le (count .0 .0) (read .last .1 .1 .0) (filled .room) in
-    omega (arith, c .before .before .before .before .archive-or-restore .kept .1 .1 .0, filled .room, filled .same, c .before .before .before .before .before .before .before .before .before .before .before .before .before .before .before .before .before .before .before .before .before .before .before .before .before .before .pre)
+    omega (arith, filled .room, filled .same, c .before .before .before .before .before .before .before .before .before .before .before .before .before .before .before .before .before .before .before .before .before .pre)
 
 same-length : tie.Need-same-length
 same-length c = search needs
@@ -115,11 +112,10 @@ rearrange-spec =
     enum-told-2
     say-error-requires-2
     returns-2
-    array-borrow-prefix-to
-    slice-aggregate-lent
     array-share-prefix-from
-    slice-aggregate-archive-or-restore
-    archive-or-restore-requires
-    say-buffer-requires
+    slice-aggregate-work-on
+    array-borrow-prefix-to
+    slice-aggregate-work-on-2
+    work-on-requires
     same-length
     returns-3)

@@ -45,6 +45,9 @@ begins-requires-3 c κs = search needs
 raise-order-requires : tie.Need-raise-order-requires
 raise-order-requires c κs = search needs
 
+text-order-requires : tie.Need-text-order-requires
+text-order-requires c κs = search needs
+
 returns-3 : tie.Need-returns-3
 unfolding sheetOrder
 returns-3 c =
@@ -57,10 +60,11 @@ returns-3 c =
 returns-4 : tie.Need-returns-4
 unfolding sheetOrder
 returns-4 c =
-    let three = c in
+    let three = c .before in
     let two = three .before .before .before in
     let one = two .before .before .before in
     rw (sym (one .before .begins .ensures) ∙ one .if1 .left, sym (two .before .begins2 .ensures) ∙ two .if2 .left, sym (three .before .begins3 .ensures) ∙ three .if3 .left)
+    (c .text-order .ensures)
 
 pub sheet-order-spec : {M : Type 1} → statement M
 sheet-order-spec =
@@ -78,4 +82,5 @@ sheet-order-spec =
     begins-requires-3
     raise-order-requires
     returns-3
+    text-order-requires
     returns-4)

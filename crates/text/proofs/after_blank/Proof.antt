@@ -5,7 +5,7 @@ use lib.ListN.{getD}
 use denote.Ref.{now}
 use borrow.Author.Tests.{eq-eqb, ne-eqb}
 use Rattle.text.specs.Text.{afterBlank}
-use Rattle.text.proofs.Digits.{inside}
+use Rattle.decimals.proofs.Digits.{inside}
 use borrow.Author.Needs.{needs}
 use Rattle.text.proofs.after_blank.Statement.{statement}
 use Rattle.text.proofs.after_blank.Tie as tie

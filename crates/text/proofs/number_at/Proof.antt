@@ -5,15 +5,16 @@ use native.Mathlib.Omega.{arith}
 use borrow.Author.Needs.{needs}
 use denote.Ref.{now}
 use lib.ListN.{length, getD, drop}
-use Rattle.text.specs.Text.{isDigit, digits, decimal}
-use Rattle.text.proofs.Digits.{digit-bounds, digit-inside, digits-more, decimal-more, digits-none, decimal-none, decimal-least, number-read, number-none, number-large}
+use Rattle.decimals.specs.Decimals.{isDigit, digits, valueAfter}
+use Rattle.decimals.proofs.Digits.{digit-bounds, digit-inside, digits-more, value-more, digits-none, value-none, value-least}
+use Rattle.text.proofs.Digits.{number-read, number-none, number-large}
 use Rattle.text.proofs.number_at.Statement.{statement}
 use Rattle.text.proofs.number_at.Tie as tie
 
 abbrev Inv-loop : tie.InvT-loop
 Inv-loop s at value₀ next₀ value next =
     (((at ≤ next) × (value < 2 ^ 64)) × (at < next → next ≤ length s))
-    × ((next + digits (drop next s) ≡ at + digits (drop at s)) × (decimal value (drop next s) ≡ decimal 0 (drop at s)))
+    × ((next + digits (drop next s) ≡ at + digits (drop at s)) × (valueAfter value (drop next s) ≡ valueAfter 0 (drop at s)))
 
 abbrev μ-loop : tie.MeasureT-loop
 μ-loop s at value₀ next₀ value next = length s - next
@@ -53,8 +54,8 @@ returns c =
     let at = t .before .before .before .before .before .args .at in
     let d = sym (ap isDigit (t .before .before .byte-at .ensures)) ∙ sym (t .before .is-digit .ensures) ∙ t .if1 .taken in
     let b = c .before .byte-at2 .ensures in
-    let more = decimal-more (l .value) s (l .next) d in
-    let least = decimal-least (l .value * 10 + (getD s (l .next) 0 - 48)) (drop (l .next + 1) s) in
+    let more = value-more (l .value) s (l .next) d in
+    let least = value-least (l .value * 10 + (getD s (l .next) 0 - 48)) (drop (l .next + 1) s) in
     (number-large s at (omega (arith, digit-bounds (getD s (l .next) 0) d .1, l .inv .1 .1)), tt)
 
 mul-value : tie.Need-mul-value Inv-loop μ-loop
@@ -91,7 +92,7 @@ loop-again c =
     let inside = digit-inside s (l .next) d in
     let b = c .before .byte-at2 .ensures in
     let count = digits-more s (l .next) d in
-    (((search needs, omega arith), λ m. omega arith), (omega (arith, l .inv .1 .0), rw b (sym (decimal-more (l .value) s (l .next) d) ∙ l .inv .1 .1)))
+    (((search needs, omega arith), λ m. omega arith), (omega (arith, l .inv .1 .0), rw b (sym (value-more (l .value) s (l .next) d) ∙ l .inv .1 .1)))
 
 returns-2 : tie.Need-returns-2 Inv-loop μ-loop
 returns-2 c =
@@ -112,7 +113,7 @@ returns-3 c =
     let d = sym (ap isDigit (t .before .before .byte-at .ensures)) ∙ sym (t .before .is-digit .ensures) ∙ t .if1 .left in
     let none = digits-none s (l .next) d in
     let more : at < l .next = omega (arith, c .if3 .left) in
-    (number-read s at (l .next) (l .value) more (l .inv .0 .0 .1) (omega (arith, l .inv .1 .0)) (sym (decimal-none (l .value) s (l .next) d) ∙ l .inv .1 .1), l .inv .0 .1 more)
+    (number-read s at (l .next) (l .value) more (l .inv .0 .0 .1) (omega (arith, l .inv .1 .0)) (sym (value-none (l .value) s (l .next) d) ∙ l .inv .1 .1), l .inv .0 .1 more)
 
 pub number-at-spec : {M : Type 1} → statement M
 number-at-spec =

@@ -8,12 +8,17 @@ mod household;
 mod plain_archive;
 #[path = "../../tests/common/plain_losses.rs"]
 mod plain_losses;
+#[path = "../../tests/common/plain_measures.rs"]
+mod plain_measures;
 
 use std::hint::black_box;
 use std::time::{Duration, Instant};
 
 use books::{LONGEST, Numbers, book_of_entries, book_of_one, book_of_users, damaged, middle_user, sheet};
-use ssp_book::{Book, Day, Order, Refusal, archive_sheet_into, option, raise_injected, restore_sheet_into, run};
+use ssp_book::{
+    Book, Day, Order, Refusal, archive_sheet_into, option, raise_injected, read_measures, restore_sheet_into, run,
+    write_measures_into,
+};
 
 /// The shortest of 15 rounds, each of as many turns as take 4 ms.
 fn nanoseconds(mut turn: impl FnMut()) -> f64 {
@@ -173,6 +178,24 @@ fn raises(name: &str, sheet: &[u8; Book::SHEET]) {
     assert!(raised == plain);
 }
 
+/// The lines of a sheet and a sheet from its lines, beside plain Rust.
+fn measures(name: &str, sheet: &mut [u8; Book::SHEET]) {
+    let mut text = [0; Book::MEASURES];
+    row(
+        name,
+        "write",
+        nanoseconds(|| assert!(write_measures_into(black_box(&sheet[..]), black_box(&mut text)).is_ok())),
+        nanoseconds(|| assert!(plain_measures::write(black_box(&sheet[..]), black_box(&mut text)).is_ok())),
+    );
+    let length = write_measures_into(&sheet[..], &mut text).expect("a sheet within its limits");
+    row(
+        name,
+        "read",
+        nanoseconds(|| assert!(read_measures(black_box(&mut sheet[..]), black_box(&text[..length])).is_ok())),
+        nanoseconds(|| assert!(plain_measures::read(black_box(&mut sheet[..]), black_box(&text[..length])).is_ok())),
+    );
+}
+
 fn main() {
     println!(
         "{:<30} {:<10} {:>12} {:>12} {:>8}",
@@ -195,9 +218,10 @@ fn main() {
         }
     }
 
-    let one_sheet = sheet(1, 2013).try_into().expect("a sheet's size");
+    let mut one_sheet = sheet(1, 2013).try_into().expect("a sheet's size");
     archives("a sheet, beside a plain loop", &one_sheet);
     raises("a sheet, beside a plain loop", &one_sheet);
+    measures("measures, beside plain Rust", &mut one_sheet);
 
     println!();
     refused("798 users", &book_of_users(800, Numbers::Scattered));

@@ -1,8 +1,8 @@
 -- The rule, test by test.
 use mathlib.Core.Path.{refl}
-use Rattle.text.specs.Text.{isDigit}
-use Rattle.text.proofs.is_digit.Statement.{statement}
-use Rattle.text.proofs.is_digit.Tie as tie
+use Rattle.decimals.specs.Decimals.{isDigit}
+use Rattle.decimals.proofs.is_digit.Statement.{statement}
+use Rattle.decimals.proofs.is_digit.Tie as tie
 
 returns : tie.Need-returns
 unfolding isDigit

@@ -1,0 +1,4 @@
+pub mod LineShape
+pub mod Texts
+pub mod Fills
+pub mod ReadsBack

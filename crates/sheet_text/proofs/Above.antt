@@ -1,0 +1,89 @@
+-- The first place of a month with a number above its limit.
+use Prim.Native.Nat.{ℕ, zero, suc, _+_, _≤_, _<_}
+use mathlib.Core.Path.{_≡_, refl, sym, ap₂, _∙_}
+use mathlib.Core.Bool.{Bool, true, false, cond, true≢false}
+use native.Mathlib.Omega.{arith}
+use lib.Dec.{ltb}
+use borrow.Author.Tests.{lt-ltb, le-ltb, ltb-false}
+use Rattle.units.specs.Limits.{maxKwh}
+use Rattle.units.specs.Folds.{anyBelow, firstBelow}
+use Rattle.units.proofs.Bools.{or-neither}
+use Rattle.units.proofs.Folds.{any-zero, any-step, any-of, any-cong, none-at, none-of, first-is}
+use Rattle.sheet_text.specs.Lines.{places}
+use Rattle.sheet_text.specs.Reading.{someAbove, firstAbove}
+use Rattle.sheet_text.specs.Steps.{placeAbove}
+
+first-within : (n : ℕ) (p : ℕ → Bool) → anyBelow n p ≡ true → firstBelow n p < n
+unfolding anyBelow firstBelow
+first-within zero p some = absurd (true≢false (sym some))
+first-within (suc n) p some = by-test (anyBelow n p) refl (first-within n p)
+  where
+    by-test : (t : Bool) → anyBelow n p ≡ t → (anyBelow n p ≡ true → firstBelow n p < n) → cond t (firstBelow n p) n < suc n
+    by-test true e before = omega (arith, before e)
+    by-test false e before = omega arith
+
+module _ (kwh : ℕ → ℕ) where
+  abbrev pub NoneBefore : ℕ → Type 0
+  NoneBefore p = anyBelow p (λ i. ltb maxKwh (kwh i)) ≡ false
+
+  pub none-before-first : NoneBefore 0
+  none-before-first = any-zero (λ i. ltb maxKwh (kwh i))
+
+  pub none-more : (p : ℕ) → NoneBefore p → kwh p ≤ maxKwh → NoneBefore (p + 1)
+  none-more p h l = any-step p (λ i. ltb maxKwh (kwh i)) ∙ or-neither h (le-ltb maxKwh (kwh p) l)
+
+  -- a number above the limit, none before it; none at all
+  pub some-above : (p : ℕ) → p < places → maxKwh < kwh p → someAbove kwh ≡ true
+  unfolding someAbove
+  some-above p l h = any-of places (λ i. ltb maxKwh (kwh i)) p l (lt-ltb maxKwh (kwh p) h)
+
+  pub above-found : (p : ℕ) → p < places → NoneBefore p → maxKwh < kwh p → p ≡ placeAbove kwh
+  unfolding placeAbove firstAbove
+  above-found p l none h =
+      rw (some-above p l h)
+      (first-is places (λ i. ltb maxKwh (kwh i)) p l (lt-ltb maxKwh (kwh p) h) (λ j b. none-at p (λ i. ltb maxKwh (kwh i)) none j b))
+
+  pub above-none : NoneBefore places → places ≡ placeAbove kwh
+  unfolding placeAbove someAbove
+  above-none none = rw none
+
+  pub none-above : someAbove kwh ≡ false → (p : ℕ) → p < places → kwh p ≤ maxKwh
+  unfolding someAbove
+  none-above none p l = ltb-false maxKwh (kwh p) (none-at places (λ i. ltb maxKwh (kwh i)) none p l)
+
+  pub all-within : ((p : ℕ) → p < places → kwh p ≤ maxKwh) → someAbove kwh ≡ false
+  unfolding someAbove
+  all-within h = none-of places (λ i. ltb maxKwh (kwh i)) (λ p l. le-ltb maxKwh (kwh p) (h p l))
+
+  first-above : someAbove kwh ≡ true → firstAbove kwh < places
+  unfolding someAbove firstAbove
+  first-above some = first-within places (λ i. ltb maxKwh (kwh i)) some
+
+  -- what the place that was found says
+  pub found-place : placeAbove kwh < places → (someAbove kwh ≡ true) × (placeAbove kwh ≡ firstAbove kwh)
+  unfolding placeAbove
+  found-place h = by-test (someAbove kwh) h
+    where
+      by-test : (t : Bool) → cond t (firstAbove kwh) places < places → (t ≡ true) × (cond t (firstAbove kwh) places ≡ firstAbove kwh)
+      by-test true l = (refl, refl)
+      by-test false l = let z : ⊥ = omega arith in absurd z
+
+  pub none-found : places ≤ placeAbove kwh → someAbove kwh ≡ false
+  unfolding placeAbove
+  none-found h = by-test (someAbove kwh) refl h
+    where
+      by-test : (t : Bool) → someAbove kwh ≡ t → places ≤ cond t (firstAbove kwh) places → t ≡ false
+      by-test true e l = let first = first-above e in let z : ⊥ = omega arith in absurd z
+      by-test false e l = refl
+
+first-same : (n : ℕ) (p q : ℕ → Bool) → ((i : ℕ) → i < n → p i ≡ q i) → firstBelow n p ≡ firstBelow n q
+unfolding firstBelow
+first-same zero p q h = refl
+first-same (suc n) p q h =
+    rw (any-cong n p q (λ i l. h i (omega arith)), first-same n p q (λ i l. h i (omega arith)))
+
+pub place-same : (f g : ℕ → ℕ) → ((p : ℕ) → p < places → ltb maxKwh (f p) ≡ ltb maxKwh (g p)) → placeAbove f ≡ placeAbove g
+unfolding placeAbove someAbove firstAbove
+place-same f g h =
+    ap₂ (λ (t : Bool) (p : ℕ). cond t p places) (any-cong places (λ i. ltb maxKwh (f i)) (λ i. ltb maxKwh (g i)) h)
+    (first-same places (λ i. ltb maxKwh (f i)) (λ i. ltb maxKwh (g i)) h)

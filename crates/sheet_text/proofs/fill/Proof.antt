@@ -1,0 +1,70 @@
+-- Month by month.
+use Prim.Native.Nat.{ℕ, _-_, _≤_}
+use mathlib.Core.Path.{_≡_, refl, ap, _∙_}
+use native.Mathlib.Omega.{arith}
+use borrow.Author.Needs.{needs}
+use denote.Ref.{now}
+use lib.ListN.{length}
+use Rattle.sheet_text.specs.Lines.{months, places}
+use Rattle.sheet_text.specs.Reading.{monthFilled, monthsFilled}
+use Rattle.sheet_text.specs.Steps.{yearOf}
+use Rattle.sheet_text.proofs.Filling.{months-none, months-next}
+use Rattle.sheet_text.proofs.fill.Statement.{statement}
+use Rattle.sheet_text.proofs.fill.Tie as tie
+
+abbrev Inv-loop : tie.InvT-loop
+Inv-loop sheet₀ year month₀ sheet month =
+    (month ≤ months) × ((length sheet ≡ length sheet₀) × (sheet ≡ monthsFilled (yearOf year) month sheet₀))
+
+abbrev μ-loop : tie.MeasureT-loop
+μ-loop sheet₀ year month₀ sheet month = months - month
+
+loop-holds : tie.Need-loop-holds Inv-loop μ-loop
+loop-holds c = (search needs, (refl, months-none (yearOf (c .before .args .year)) (now (c .before .args .sheet))))
+
+fill-month-requires : tie.Need-fill-month-requires Inv-loop μ-loop
+fill-month-requires c κs = (omega (arith, c .before .before .loop .inv .1 .0), omega arith)
+
+add-month : tie.Need-add-month Inv-loop μ-loop
+add-month c = search needs
+
+loop-less : tie.Need-loop-less Inv-loop μ-loop
+loop-less c = search needs
+
+loop-again : tie.Need-loop-again Inv-loop μ-loop
+loop-again c =
+    let l = c .before .before .before .before .before .loop in
+    let a = c .before .before .before .before .before .before .before .args in
+    let put = c .before .before .fill-month in (
+      search needs,
+      (
+        put .kept .0 ∙ l .inv .1 .0,
+        put .ensures
+            ∙ ap (monthFilled (yearOf (a .year) (l .month)) (l .month) places) (l .inv .1 .1)
+            ∙ months-next (yearOf (a .year)) (now (a .sheet)) (l .month),
+      ),
+    )
+
+same-length : tie.Need-same-length Inv-loop μ-loop
+same-length c = c .before .loop .inv .1 .0
+
+returns : tie.Need-returns Inv-loop μ-loop
+returns c =
+    let l = c .before .loop in
+    let a = c .before .before .before .args in
+    let end : l .month ≡ months = omega arith in
+    l .inv .1 .1 ∙ ap (λ (m : ℕ). monthsFilled (yearOf (a .year)) m (now (a .sheet))) end
+
+pub fill-spec : {M : Type 1} → statement M
+fill-spec =
+    tie.close
+    (tie.spec
+    Inv-loop
+    μ-loop
+    loop-holds
+    fill-month-requires
+    add-month
+    loop-less
+    loop-again
+    same-length
+    returns)

@@ -1,0 +1,65 @@
+-- The numbers are read one by one.
+use Prim.Native.Nat.{_-_, _≤_}
+use mathlib.Core.Path.{_≡_, refl}
+use native.Mathlib.Nat.{not-suc-le-zero}
+use native.Mathlib.Omega.{arith}
+use borrow.Author.Needs.{needs}
+use denote.Ref.{now}
+use lib.ListN.{length, length-set}
+use Rattle.units.proofs.Filled.{Filled, filled-next}
+use Rattle.sheet.specs.YearSheet.{word}
+use Rattle.sheet_text.specs.Lines.{places}
+use Rattle.sheet_text.proofs.month_of.Statement.{statement}
+use Rattle.sheet_text.proofs.month_of.Tie as tie
+
+abbrev Inv-loop : tie.InvT-loop
+Inv-loop sheet month kwh₀ place₀ kwh place = (place ≤ places) × ((length kwh ≡ places) × Filled 0 (word sheet month) place kwh)
+
+abbrev μ-loop : tie.MeasureT-loop
+μ-loop sheet month kwh₀ place₀ kwh place = places - place
+
+loop-holds : tie.Need-loop-holds Inv-loop μ-loop
+loop-holds c = (search needs, (refl, λ m l. absurd (not-suc-le-zero l)))
+
+number-at-requires : tie.Need-number-at-requires Inv-loop μ-loop
+number-at-requires c κs = search needs
+
+mul-kwh : tie.Need-mul-kwh Inv-loop μ-loop
+mul-kwh c = search needs
+
+array-write-kwh : tie.Need-array-write-kwh Inv-loop μ-loop
+array-write-kwh c = search needs
+
+add-place : tie.Need-add-place Inv-loop μ-loop
+add-place c = search needs
+
+loop-less : tie.Need-loop-less Inv-loop μ-loop
+loop-less c = search needs
+
+loop-again : tie.Need-loop-again Inv-loop μ-loop
+loop-again c =
+    let l = c .before .before .loop in
+    let a = c .before .before .before .before .args in
+    let n = c .number-at in
+    (search needs, (simp length-set (l .inv .1 .0), filled-next 0 (word (now (a .sheet)) (a .month)) (l .place) (l .kwh) (n .result) (omega arith) (n .ensures) (l .inv .1 .1)))
+
+returns : tie.Need-returns Inv-loop μ-loop
+returns c =
+    let l = c .before .loop in
+    let end : l .place ≡ places = omega arith in
+    λ p h. l .inv .1 .1 p (rw end h)
+
+pub month-of-spec : {M : Type 1} → statement M
+month-of-spec =
+    tie.close
+    (tie.spec
+    Inv-loop
+    μ-loop
+    loop-holds
+    number-at-requires
+    mul-kwh
+    array-write-kwh
+    add-place
+    loop-less
+    loop-again
+    returns)

@@ -1,0 +1,62 @@
+-- None of the places passed has a number above its limit.
+use Prim.Native.Nat.{_-_, _≤_}
+use mathlib.Core.Path.{_≡_}
+use native.Mathlib.Omega.{arith}
+use borrow.Author.Needs.{needs}
+use Rattle.sheet_text.specs.Lines.{places}
+use Rattle.sheet_text.specs.Steps.{kwhOf}
+use Rattle.sheet_text.proofs.Above.{NoneBefore, none-before-first, none-more, above-found, above-none}
+use Rattle.sheet_text.proofs.place_above.Statement.{statement}
+use Rattle.sheet_text.proofs.place_above.Tie as tie
+
+abbrev Inv-loop : tie.InvT-loop
+Inv-loop kwh place₀ place = (place ≤ places) × NoneBefore (kwhOf kwh) place
+
+abbrev μ-loop : tie.MeasureT-loop
+μ-loop kwh place₀ place = places - place
+
+loop-holds : tie.Need-loop-holds Inv-loop μ-loop
+loop-holds c = (search needs, none-before-first (kwhOf (c .args .t1)))
+
+mul-if1 : tie.Need-mul-if1 Inv-loop μ-loop
+mul-if1 c = search needs
+
+array-read-if1 : tie.Need-array-read-if1 Inv-loop μ-loop
+array-read-if1 c = search needs
+
+returns : tie.Need-returns Inv-loop μ-loop
+returns c =
+    let l = c .before .before .loop in
+    above-found (kwhOf (c .before .before .before .args .t1)) (l .place) (omega arith) (l .inv .1) (c .if1 .taken)
+
+add-place : tie.Need-add-place Inv-loop μ-loop
+add-place c = search needs
+
+loop-less : tie.Need-loop-less Inv-loop μ-loop
+loop-less c = search needs
+
+loop-again : tie.Need-loop-again Inv-loop μ-loop
+loop-again c =
+    let l = c .before .before .loop in
+    (search needs, none-more (kwhOf (c .before .before .before .args .t1)) (l .place) (l .inv .1) (c .if1 .left))
+
+returns-2 : tie.Need-returns-2 Inv-loop μ-loop
+returns-2 c =
+    let l = c .before .loop in
+    let end : l .place ≡ places = omega arith in
+    above-none (kwhOf (c .before .before .args .t1)) (rw end at (l .inv .1))
+
+pub place-above-spec : {M : Type 1} → statement M
+place-above-spec =
+    tie.close
+    (tie.spec
+    Inv-loop
+    μ-loop
+    loop-holds
+    mul-if1
+    array-read-if1
+    returns
+    add-place
+    loop-less
+    loop-again
+    returns-2)

@@ -1,0 +1,86 @@
+-- The numbers passed stand at their places, and those of the months before stay.
+use Prim.Native.Nat.{ℕ, _+_, _-_, _*_, _≤_, _<_}
+use mathlib.Core.Path.{_≡_, _∙_}
+use native.Mathlib.Omega.{arith}
+use borrow.Author.Count.{below-more}
+use borrow.Author.Needs.{needs}
+use lib.ListN.{length, getD, set, length-set}
+use lib.Seq.{getD-set-same, getD-set-other}
+use Rattle.sheet_text.specs.Lines.{places}
+use Rattle.sheet_text.specs.Steps.{kwhOf, yearOf}
+use Rattle.sheet_text.proofs.with_month.Statement.{statement}
+use Rattle.sheet_text.proofs.with_month.Tie as tie
+
+abbrev Inv-loop : tie.InvT-loop
+Inv-loop month kwh filled₀ place₀ filled place =
+    ((place ≤ places) × (length filled ≡ 72))
+    × (((p : ℕ) → p < place → yearOf filled month p ≡ kwhOf kwh p) × ((k : ℕ) → k < places * month → getD filled k 0 ≡ getD filled₀ k 0))
+
+abbrev μ-loop : tie.MeasureT-loop
+μ-loop month kwh filled₀ place₀ filled place = places - place
+
+loop-holds : tie.Need-loop-holds Inv-loop μ-loop
+loop-holds c = search needs
+
+mul-filled : tie.Need-mul-filled Inv-loop μ-loop
+mul-filled c = search needs
+
+array-read-filled : tie.Need-array-read-filled Inv-loop μ-loop
+array-read-filled c = search needs
+
+mul-filled-2 : tie.Need-mul-filled-2 Inv-loop μ-loop
+mul-filled-2 c = search needs
+
+add-filled : tie.Need-add-filled Inv-loop μ-loop
+add-filled c = search needs
+
+mul-filled-3 : tie.Need-mul-filled-3 Inv-loop μ-loop
+mul-filled-3 c = search needs
+
+array-write-filled : tie.Need-array-write-filled Inv-loop μ-loop
+array-write-filled c = search needs
+
+add-place : tie.Need-add-place Inv-loop μ-loop
+add-place c = search needs
+
+loop-less : tie.Need-loop-less Inv-loop μ-loop
+loop-less c = search needs
+
+loop-again : tie.Need-loop-again Inv-loop μ-loop
+loop-again c =
+    let l = c .before .loop in
+    let a = c .before .before .before .args in
+    let at = places * a .month + l .place in
+    let v = kwhOf (a .t3) (l .place) in (
+      (search needs, simp length-set (l .inv .0 .1)),
+      (
+        below-more (λ p. yearOf (set (l .filled) at v) (a .month) p ≡ kwhOf (a .t3) p) (l .place)
+            (λ p b. let other : places * a .month + p ≡ at → ⊥ = omega arith in getD-set-other (l .filled) at (places * a .month + p) v 0 other ∙ l .inv .1 .0 p b)
+            (getD-set-same (l .filled) at v 0 (omega (arith, l .inv .0 .1))),
+        λ k b. let other : k ≡ at → ⊥ = omega arith in getD-set-other (l .filled) at k v 0 other ∙ l .inv .1 .1 k b,
+      ),
+    )
+
+returns : tie.Need-returns Inv-loop μ-loop
+returns c =
+    let l = c .before .loop in
+    let end : l .place ≡ places = omega arith in
+    record { here = λ p b. l .inv .1 .0 p (rw end b); earlier = l .inv .1 .1 }
+
+pub with-month-spec : {M : Type 1} → statement M
+with-month-spec =
+    tie.close
+    (tie.spec
+    Inv-loop
+    μ-loop
+    loop-holds
+    mul-filled
+    array-read-filled
+    mul-filled-2
+    add-filled
+    mul-filled-3
+    array-write-filled
+    add-place
+    loop-less
+    loop-again
+    returns)

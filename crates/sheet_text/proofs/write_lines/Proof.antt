@@ -1,0 +1,100 @@
+-- Line by line, each where the one before it ends; the twelve of a sheet past 13 fit.
+use Prim.Native.Nat.{ℕ, _+_, _-_, _≤_}
+use mathlib.Core.Path.{_≡_, refl, sym, ap, ap₂, _∙_}
+use mathlib.Core.List.{List}
+use native.Mathlib.Omega.{arith}
+use borrow.Author.Needs.{needs}
+use denote.Ref.{now}
+use lib.ListN.{length}
+use Rattle.codec.specs.Bytes.{stored}
+use Rattle.codec.proofs.Pieces.{stored-none}
+use Rattle.sheet.specs.YearSheet.{word}
+use Rattle.sheet_text.specs.Lines.{months, line, lines}
+use Rattle.sheet_text.specs.Steps.{kwhOf}
+use Rattle.sheet_text.proofs.LineWriting.{line-same, lines-none, lines-length, lines-room, year-room, lines-written}
+use Rattle.sheet_text.proofs.SheetAbove.{sizes-of, sheet-within}
+use Rattle.sheet_text.proofs.write_lines.Statement.{statement}
+use Rattle.sheet_text.proofs.write_lines.Tie as tie
+
+abbrev Inv-loop : tie.InvT-loop
+Inv-loop sheet out₀ end₀ month₀ out end month =
+    ((month ≤ months) × (length out ≡ length out₀))
+    × ((end ≡ length (lines month (word sheet))) × (out ≡ stored 0 (lines month (word sheet)) out₀))
+
+abbrev μ-loop : tie.MeasureT-loop
+μ-loop sheet out₀ end₀ month₀ out end month = months - month
+
+loop-holds : tie.Need-loop-holds Inv-loop μ-loop
+loop-holds c =
+    let a = c .before .before .args in
+    let none = lines-none (word (now (a .sheet))) in
+    ((search needs, refl), (ap length none, sym (ap (λ (t : List ℕ). stored 0 t (now (a .out))) (sym none) ∙ stored-none 0 (now (a .out)))))
+
+month-of-requires : tie.Need-month-of-requires Inv-loop μ-loop
+month-of-requires c κs =
+    let start = c .before .before .before .before in
+    (sizes-of (now (start .args .sheet)) (now (start .args .out)) (start .pre .0) .0, omega arith)
+
+write-line-requires : tie.Need-write-line-requires Inv-loop μ-loop
+write-line-requires c κs =
+    let start = c .before .before .before .before .before .before in
+    let l = c .before .before .before .loop in
+    let s = now (start .args .sheet) in
+    let same = line-same (l .month + 1) (kwhOf (c .before .month-of .result)) (word s (l .month)) (c .before .month-of .ensures) in
+    let room = sizes-of s (now (start .args .out)) (start .pre .0) .1 in
+    (omega arith, omega (arith, ap length same, lines-room (l .month) (word s) (omega arith) (sheet-within s (start .pre .1)), l .inv .0 .1, l .inv .1 .0))
+
+add-month : tie.Need-add-month Inv-loop μ-loop
+add-month c = search needs
+
+loop-less : tie.Need-loop-less Inv-loop μ-loop
+loop-less c = search needs
+
+loop-again : tie.Need-loop-again Inv-loop μ-loop
+loop-again c =
+    let start = c .before .before .before .before .before .before .before .before .before in
+    let l = c .before .before .before .before .before .before .loop in
+    let s = now (start .args .sheet) in
+    let out = now (start .args .out) in
+    let six = c .before .before .before .before .month-of in
+    let w = c .before .before .write-line in
+    let same = line-same (l .month + 1) (kwhOf (six .result)) (word s (l .month)) (six .ensures) in
+    let room = sizes-of s out (start .pre .0) .1 in (
+      (search needs, w .kept .0 ∙ l .inv .0 .1),
+      (
+        omega (arith, ap length same, lines-length (l .month) (word s), w .ensures .0, l .inv .1 .0),
+        w .ensures .1
+            ∙ ap (λ (t : List ℕ). stored (l .end) t (l .out)) same
+            ∙ ap₂ (λ (e : ℕ) (o : List ℕ). stored e (line (l .month + 1) (word s (l .month))) o) (l .inv .1 .0) (l .inv .1 .1)
+            ∙ lines-written (l .month) (word s) out (omega arith) (sheet-within s (start .pre .1)) room,
+      ),
+    )
+
+same-length : tie.Need-same-length Inv-loop μ-loop
+same-length c = c .before .loop .inv .0 .1
+
+returns : tie.Need-returns Inv-loop μ-loop
+returns c =
+    let l = c .before .loop in
+    let start = c .before .before .before .before in
+    let s = now (start .args .sheet) in
+    let end : l .month ≡ months = omega arith in
+    let whole = l .inv .1 .0 ∙ ap (λ (m : ℕ). length (lines m (word s))) end in (
+      (whole, omega (arith, year-room (word s) (sheet-within s (start .pre .1)))),
+      l .inv .1 .1 ∙ ap (λ (m : ℕ). stored 0 (lines m (word s)) (now (start .args .out))) end,
+    )
+
+pub write-lines-spec : {M : Type 1} → statement M
+write-lines-spec =
+    tie.close
+    (tie.spec
+    Inv-loop
+    μ-loop
+    loop-holds
+    month-of-requires
+    write-line-requires
+    add-month
+    loop-less
+    loop-again
+    same-length
+    returns)
