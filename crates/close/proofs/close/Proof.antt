@@ -8,6 +8,7 @@ use Rattle.sheet.proofs.Limits.{passed-length}
 use Rattle.sheet.proofs.Faults.{untold-before}
 use Rattle.book.specs.Find.{findUser}
 use Rattle.calls.specs.Calls as calls
+use Rattle.answers.proofs.Answers.{damaged}
 use Rattle.answers.proofs.Rooms.{found-stands}
 use Rattle.close.proofs.Closing.{leaves, leaves-early, close-unread, close-absent, close-refused, close-booked, passed, year-fits}
 use borrow.Author.Needs.{needs}
@@ -33,7 +34,7 @@ returns c =
     let b = now (a .book) in
     let s = now (a .s) in
     let some = c .before .if1 .taken in
-    leaves b s (looked .result .reply) _ some (looked .ensures .damaged some (calls.close s) 0) (untold-before s _ (omega (arith, looked .ensures .to-2))) (c .without-sums .result) (c .without-sums .ensures)
+    leaves b s (looked .result .reply) _ some (damaged b (calls.close s) 0 (looked .ensures) some) (untold-before s _ (omega (arith, looked .ensures .to-2))) (c .without-sums .result) (c .without-sums .ensures)
 
 header-wrong-requires : tie.Need-header-wrong-requires
 header-wrong-requires c κs = search needs
