@@ -43,21 +43,21 @@ module _ (s : List ℕ) (month band : ℕ) where
       let f = has h in
       record { month = omega (arith, f .month-from, f .month-to); band-to-3 = omega (arith, f .band-from, f .band-to); single = λ e. omega (arith, f .single e) }
 
-  -- 13 or 19 by the earliest number at fault, then 23
+  -- 13 or 19 by the earliest number at fault, else 23
   abbrev Objects : Objection → Type 0
   Objects o = (o .refusal ≡ refusedBy (fieldRules s month band)) × Tells s (o .refusal) (o .position)
 
   module _ (o : Objection) (f : FaultTold s o) where
-    pub by-fault : (o .refusal ≡ 0 → ⊥) → Objects o
+    -- a number at fault, or a field that the reading has
+    pub by-fault : (o .refusal ≡ 0 → hasField s month band ≡ true) → Objects o
     unfolding refusedBy
-    by-fault some = (f .refusal-is ∙ by-tests (refused13 s) refl (refused19 s) refl, f .tells)
+    by-fault stands = (f .refusal-is ∙ by-tests (refused13 s) refl (refused19 s) refl, f .tells)
       where
         by-tests : (x : Bool) → refused13 s ≡ x → (y : Bool) → refused19 s ≡ y → cond x 13 (cond y 19 0) ≡ refusedBy (fieldRules s month band)
         by-tests true e y d = rw e refl
         by-tests false e true d = rw (e, d) refl
-        by-tests false e false d = absurd (some (f .refusal-is ∙ rw (e, d) refl))
+        by-tests false e false d = rw (e, d, stands (f .refusal-is ∙ rw (e, d) refl)) refl
 
-    pub by-field : o .refusal ≡ 0 → (t : Bool) → hasField s month band ≡ t → (r : Objection) → r ≡ objectionOf (cond t 0 23) → Objects r
+    pub by-field : o .refusal ≡ 0 → hasField s month band ≡ false → (r : Objection) → r ≡ objectionOf 23 → Objects r
     unfolding refusedBy
-    by-field none true e r is = let past = told-past s o f none in rw is (rw (past .0, past .1, e) refl, untold s 0 refl)
-    by-field none false e r is = let past = told-past s o f none in rw is (rw (past .0, past .1, e) refl, untold s 23 refl)
+    by-field none e r is = let past = told-past s o f none in rw is (rw (past .0, past .1, e) refl, untold s 23 refl)

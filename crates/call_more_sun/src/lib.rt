@@ -34,11 +34,11 @@ fn field_objection(s: &[u8], month: u32, band: u32) -> Objection
     ensures { λ r. ⌜ Tells (now (s .entry)) (r .refusal) (r .position) ⌝ }
 {
     let fault = sheet::first_fault(s);
-    if fault.refusal != 0 {
+    if has_field(s, month, band) {
         return fault;
     }
-    if has_field(s, month, band) {
-        return sheet::unplaced(0);
+    if fault.refusal != 0 {
+        return fault;
     }
     sheet::unplaced(23)
 }

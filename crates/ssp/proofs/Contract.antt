@@ -11,6 +11,9 @@ use Rattle.advance.specs.Advances.{ticksAnswered}
 use Rattle.close.specs.Closings.{sumsAnswered}
 use Rattle.statement.specs.Stated.{sumsStated}
 use Rattle.ssp.specs.Flat.{interfaceNumber, detailsOf, positionOf, flatClosed, flatSums}
+use Rattle.answers.specs.Answers.{AnsweredBy}
+use Rattle.call_more_sun.specs.Asked.{moreSunOrder, additionAnswered}
+use Rattle.ssp.specs.FlatSun.{flatSun}
 use Rattle.ssp.proofs.ssp_interface.Reads as interface-of
 use Rattle.ssp.proofs.ssp_fresh.Reads as fresh-of
 use Rattle.ssp.proofs.ssp_enrol.Reads as enrol-of
@@ -20,6 +23,7 @@ use Rattle.ssp.proofs.ssp_close.Reads as close-of
 use Rattle.ssp.proofs.ssp_statement.Reads as statement-of
 use Rattle.ssp.proofs.ssp_archive.Reads as archive-of
 use Rattle.ssp.proofs.ssp_restore.Reads as restore-of
+use Rattle.ssp.proofs.ssp_more_sun.Reads as more-sun-of
 
 pub interface-says : (κs : _) (a : _) (r : _) (s : _) → interface-of.Post κs a r s → r ≡ interfaceNumber
 interface-says κs a r s said = said
@@ -58,3 +62,9 @@ archive-says κs a r s said = said
 pub restore-says : (κs : _) (a : _) (r : _) (s : _) → restore-of.Post κs a r s
     → (r ≡ answer (now (a .0)) (now (a .1 .0))) × (now (s .1 .0) ≡ sheetAfter (now (a .0)) (now (a .1 .0)))
 restore-says κs a r s said = said
+
+pub more-sun-says : (κs : _) (a : _) (r : _) (s : _) → more-sun-of.Post κs a r s
+    → AnsweredBy (now (a .0)) (moreSunOrder (now (a .0)) (now (a .1 .0)) (a .1 .1 .0) (a .1 .1 .1 .0)) 0 (r .refusal) (r .«record»)
+    × (Tells (now (a .1 .0)) (r .refusal) (positionOf (r .month) (r .place))
+    × (r ≡ flatSun (r .refusal) (r .«record») (positionOf (r .month) (r .place)) (additionAnswered (now (a .0)) (now (a .1 .0)) (a .1 .1 .0) (a .1 .1 .1 .0) (r .refusal))))
+more-sun-says κs a r s said = said

@@ -8,24 +8,21 @@ use Rattle.sheet_more_sun.proofs.least_addition.Tie as tie
 returns : tie.Need-returns
 returns c =
     let h = c .before .before .before in
-    nothing-added (h .args .cost .0) (h .args .value .0) (h .args .price .0) (h .args .field .0) (h .pre) (c .if1 .taken)
+    nothing-added (h .args .cost .0) (h .args .value .0) (h .args .price .0) (h .args .field .0) (h .pre) (omega arith)
 
 returns-2 : tie.Need-returns-2
 returns-2 c =
     let h = c .before .before .before .before .before in
-    worth-nothing (h .args .cost .0) (h .args .value .0) (h .args .price .0) (h .args .field .0) (h .pre) (c .before .before .if1 .left) (c .if2 .taken)
+    worth-nothing (h .args .cost .0) (h .args .value .0) (h .args .price .0) (h .args .field .0) (h .pre) (omega arith) (omega arith)
 
-sub-t9 : tie.Need-sub-t9
-sub-t9 c = search needs
+sub-if3 : tie.Need-sub-if3
+sub-if3 c = search needs
 
 worth-requires : tie.Need-worth-requires
 worth-requires c κs = search needs
 
-sub-room : tie.Need-sub-room
-sub-room c = search needs
-
-cast-room : tie.Need-cast-room
-cast-room c = search needs
+room-in-requires : tie.Need-room-in-requires
+room-in-requires c κs = search needs
 
 returns-3 : tie.Need-returns-3
 returns-3 c =
@@ -33,8 +30,8 @@ returns-3 c =
     let w = c .before .before .before .worth in
     past-the-limit (h .args .cost .0) (h .args .value .0) (h .args .price .0) (h .args .field .0) (h .pre) (omega arith) (w .result .0) (w .ensures) (omega arith)
 
-cast-t11 : tie.Need-cast-t11
-cast-t11 c = search needs
+cast-t10 : tie.Need-cast-t10
+cast-t10 c = search needs
 
 returns-4 : tie.Need-returns-4
 returns-4 c =
@@ -48,10 +45,9 @@ least-addition-spec =
     (tie.spec
     returns
     returns-2
-    sub-t9
+    sub-if3
     worth-requires
-    sub-room
-    cast-room
+    room-in-requires
     returns-3
-    cast-t11
+    cast-t10
     returns-4)
