@@ -1,7 +1,7 @@
 -- A new book is never longer than the longest buffer.
 use Prim.Native.Nat.{ℕ, _≤_}
 use mathlib.Core.Path.{_≡_, refl}
-use mathlib.Core.Bool.{Bool, true, false, cond, false≢true}
+use mathlib.Core.Bool.{Bool, true, false, cond, _&&_, false≢true}
 use mathlib.Core.List.{List, [], _∷_}
 use native.Mathlib.Omega.{arith}
 use borrow.Author.Tests.{leb-true}
@@ -15,7 +15,7 @@ use Rattle.text.specs.declared.Number.the-variants as number
 use Rattle.text.specs.Text.{fieldAt, afterFields}
 use Rattle.script.specs.declared.Order.{Order}
 use Rattle.script.specs.declared.Order.the-variants as order
-use Rattle.script.specs.Orders.{newWord, loadWord, freshWord, enrolWord, electWord, advanceWord, closeWord, statementWord, archiveWord, restoreWord, dumpWord, listWord, longestBook, longestLine, begins, isAtMost, valueOf, numbersFit, numberOf, bytesFit, wordsAt, newOrder, enrolOrder, electOrder, advanceOrder, statementOrder, loadOrder, closeOrder, archiveOrder, restoreOrder, sheetOrder, aloneOrder, callOrder, bookOrder, orderOf, enrolMost, electMost, advanceMost, most32}
+use Rattle.script.specs.Orders.{newWord, loadWord, freshWord, enrolWord, electWord, advanceWord, closeWord, statementWord, archiveWord, restoreWord, moreSunWord, dumpWord, listWord, longestBook, longestLine, begins, isAtMost, valueOf, numbersFit, numberOf, bytesFit, wordAt, wordsAt, newOrder, enrolOrder, electOrder, advanceOrder, statementOrder, loadOrder, closeOrder, archiveOrder, restoreOrder, sheetOrder, moreSunOrder, askingOrder, aloneOrder, callOrder, bookOrder, orderOf, enrolMost, electMost, advanceMost, most32}
 
 abbrev pub NewFits : Order → Type 0
 NewFits (order.New n) = n ≤ longestBook
@@ -28,6 +28,7 @@ NewFits (order.Close at) = Unit {0}
 NewFits (order.Statement number) = Unit {0}
 NewFits (order.Archive sheet buffer) = Unit {0}
 NewFits (order.Restore archive buffer) = Unit {0}
+NewFits (order.MoreSun sheet month band) = Unit {0}
 NewFits order.Dump = Unit {0}
 NewFits order.List = Unit {0}
 NewFits order.Wrong = Unit {0}
@@ -61,15 +62,16 @@ unfolding aloneOrder
 alone-fits line word asked h = either (eqb (length line) (length word)) asked order.Wrong h tt
 
 call-fits : (line : List ℕ) → NewFits (callOrder line)
-unfolding callOrder enrolOrder electOrder advanceOrder closeOrder statementOrder sheetOrder archiveOrder restoreOrder
+unfolding callOrder enrolOrder electOrder advanceOrder closeOrder statementOrder askingOrder moreSunOrder sheetOrder archiveOrder restoreOrder
 call-fits line =
     either (begins line enrolWord) _ _ (either (numbersFit line (length enrolWord) enrolMost) _ _ tt tt)
     (either (begins line electWord) _ _ (either (numbersFit line (length electWord) electMost) _ _ tt tt)
     (either (begins line advanceWord) _ _ (either (numbersFit line (length advanceWord) advanceMost) _ _ tt tt)
     (either (begins line closeWord) _ _ (either (bytesFit line (length closeWord)) _ _ tt tt)
     (either (begins line statementWord) _ _ (either (numbersFit line (length statementWord) (most32 ∷ [])) _ _ tt tt)
+    (either (begins line moreSunWord) _ _ (either (wordAt line (length moreSunWord) .fit && numbersFit line (wordAt line (length moreSunWord) .digits .to) (most32 ∷ most32 ∷ [])) _ _ tt tt)
     (either (begins line archiveWord) _ _ (either (wordsAt line (length archiveWord) .fit) _ _ tt tt)
-    (either (begins line restoreWord) _ _ (either (wordsAt line (length restoreWord) .fit) _ _ tt tt) tt))))))
+    (either (begins line restoreWord) _ _ (either (wordsAt line (length restoreWord) .fit) _ _ tt tt) tt)))))))
 
 pub new-fits : (line : List ℕ) → NewFits (orderOf line)
 unfolding orderOf bookOrder loadOrder

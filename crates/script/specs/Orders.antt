@@ -47,6 +47,9 @@ archiveWord = 97 ∷ 114 ∷ 99 ∷ 104 ∷ 105 ∷ 118 ∷ 101 ∷ []
 abbrev pub restoreWord : List ℕ
 restoreWord = 114 ∷ 101 ∷ 115 ∷ 116 ∷ 111 ∷ 114 ∷ 101 ∷ []
 
+abbrev pub moreSunWord : List ℕ
+moreSunWord = 109 ∷ 111 ∷ 114 ∷ 101 ∷ 115 ∷ 117 ∷ 110 ∷ []
+
 abbrev pub dumpWord : List ℕ
 dumpWord = 100 ∷ 117 ∷ 109 ∷ 112 ∷ []
 
@@ -177,14 +180,24 @@ restoreOrder line =
     let words : Words = wordsAt line (length restoreWord) in
     cond (words .fit) (order.Restore (words .first) (words .second)) order.Wrong
 
+-- a sheet, a month and a band
+unfoldable pub moreSunOrder : List ℕ → Order
+moreSunOrder line =
+    let word : Word = wordAt line (length moreSunWord) in
+    let at : ℕ = word .digits .to in
+    cond (word .fit && numbersFit line at (most32 ∷ most32 ∷ [])) (order.MoreSun (word .digits) (numberOf line at 0) (numberOf line at 1)) order.Wrong
+
 -- a word alone
 unfoldable pub aloneOrder : List ℕ → List ℕ → Order → Order
 aloneOrder line word asked = cond (eqb (length line) (length word)) asked order.Wrong
 
--- the calls on sheets alone, and those on the book
+-- the calls on sheets alone, the one that asks of a book and a sheet, and those on the book
 unfoldable pub sheetOrder : List ℕ → Order
 sheetOrder line =
     cond (begins line archiveWord) (archiveOrder line) (cond (begins line restoreWord) (restoreOrder line) order.Wrong)
+
+unfoldable pub askingOrder : List ℕ → Order
+askingOrder line = cond (begins line moreSunWord) (moreSunOrder line) (sheetOrder line)
 
 unfoldable pub callOrder : List ℕ → Order
 callOrder line =
@@ -192,7 +205,7 @@ callOrder line =
     (cond (begins line electWord) (electOrder line)
     (cond (begins line advanceWord) (advanceOrder line)
     (cond (begins line closeWord) (closeOrder line)
-    (cond (begins line statementWord) (statementOrder line) (sheetOrder line)))))
+    (cond (begins line statementWord) (statementOrder line) (askingOrder line)))))
 
 unfoldable pub bookOrder : List ℕ → Order
 bookOrder line =

@@ -5,6 +5,7 @@ ghost use Prim.Native.Nat.{_≤_};
 ghost use lib.ListN.{length};
 ghost use Rattle.script.specs.Orders.{begins, bytesFit, NumbersRead, newOrder, enrolOrder, electOrder, advanceOrder, statementOrder, loadOrder, closeOrder, aloneOrder, callOrder, bookOrder, orderOf};
 ghost use Rattle.script.specs.Orders.{isNoBytes, isSomeBytes, wordAt, wordsAt, archiveOrder, restoreOrder, sheetOrder};
+ghost use Rattle.script.specs.Orders.{moreSunOrder, askingOrder};
 
 // Where the digits of a word of bytes stand: none for `-`.
 pub struct Digits {
@@ -51,6 +52,11 @@ pub enum Order {
     Restore {
         archive: Digits,
         buffer: Digits,
+    },
+    MoreSun {
+        sheet: Digits,
+        month: u32,
+        band: u32,
     },
     Dump,
     List,
@@ -306,6 +312,25 @@ fn restore_order(line: &[u8]) -> Order
     }
 }
 
+// A sheet, a month and a band.
+fn more_sun_order(line: &[u8]) -> Order
+    ensures { λ r. ⌜ r ≡ moreSunOrder (now (line .entry)) ⌝ }
+{
+    let word = word_at(line, 7);
+    let sheet = word.digits;
+    let read = numbers_at(line, sheet.to, &[MOST32, MOST32]);
+    let n = read.values;
+    if word.fit & read.fit {
+        Order::MoreSun {
+            sheet,
+            month: n[0] as u32,
+            band: n[1] as u32,
+        }
+    } else {
+        Order::Wrong
+    }
+}
+
 // The order of a word that stands alone.
 fn alone_order(line: &[u8], word: &[u8], asked: Order) -> Order
     ensures { λ r. ⌜ r ≡ aloneOrder (now (line .entry)) (now (word .entry)) asked ⌝ }
@@ -330,7 +355,17 @@ fn sheet_order(line: &[u8]) -> Order
     Order::Wrong
 }
 
-// The five calls on the book, and else one on sheets.
+// The call that asks of a book and a sheet, and else one on sheets.
+fn asking_order(line: &[u8]) -> Order
+    ensures { λ r. ⌜ r ≡ askingOrder (now (line .entry)) ⌝ }
+{
+    if begins(line, b"moresun") {
+        return more_sun_order(line);
+    }
+    sheet_order(line)
+}
+
+// The five calls on the book, and else another one.
 fn call_order(line: &[u8]) -> Order
     ensures { λ r. ⌜ r ≡ callOrder (now (line .entry)) ⌝ }
 {
@@ -349,7 +384,7 @@ fn call_order(line: &[u8]) -> Order
     if begins(line, b"statement") {
         return statement_order(line);
     }
-    sheet_order(line)
+    asking_order(line)
 }
 
 // What concerns the whole book, and else a call.

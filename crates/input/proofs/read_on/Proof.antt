@@ -8,10 +8,10 @@ use Rattle.input.proofs.read_on.Statement.{statement}
 use Rattle.input.proofs.read_on.Tie as tie
 
 abbrev Inv-loop : tie.InvT-loop
-Inv-loop held₀ filled turn₀ held turn = Kept held₀ filled held
+Inv-loop from held₀ filled turn₀ held turn = Kept held₀ filled held
 
 abbrev μ-loop : tie.MeasureT-loop
-μ-loop held₀ filled turn₀ held turn = 2 ^ 64 - turn
+μ-loop from held₀ filled turn₀ held turn = 2 ^ 64 - turn
 
 loop-holds : tie.Need-loop-holds Inv-loop μ-loop
 loop-holds c = (refl, refl)
