@@ -92,7 +92,7 @@ fn meaning(got: isize, error: i32, rest: &[u8]) -> Got
 }
 
 // One read of an open file after the bytes that are held.
-fn read_once(from: i32, held: &mut [u8], filled: usize) -> Got
+fn read_once(held: &mut [u8], filled: usize, from: i32) -> Got
     requires { ⌜ filled ≤ length (now held) ⌝ }
     ensures { λ r. ⌜ ReadOnce (now (held .entry)) filled (now (held .exit)) r ⌝ }
 {
@@ -102,12 +102,12 @@ fn read_once(from: i32, held: &mut [u8], filled: usize) -> Got
 }
 
 // Reads on after the bytes that are held. A proved loop has to end: the reads are counted to a number that no input needs.
-fn read_on(from: i32, held: &mut [u8], filled: usize) -> Read
+fn read_on(held: &mut [u8], filled: usize, from: i32) -> Read
     requires { ⌜ filled ≤ length (now held) ⌝ }
     ensures { λ r. ⌜ ReadOn (now (held .entry)) filled (now (held .exit)) r ⌝ }
 {
     for turn in 0..u64::MAX {
-        match read_once(from, held, filled) {
+        match read_once(held, filled, from) {
             Got::Bytes(count) => {
                 return Read::More(filled + count);
             }
@@ -124,7 +124,7 @@ fn read_on(from: i32, held: &mut [u8], filled: usize) -> Read
 }
 
 // Reads on after the bytes that are held, to the end of the input or until the buffer is full.
-fn read_rest(from: i32, held: &mut [u8], kept: usize) -> Input
+fn read_rest(held: &mut [u8], kept: usize, from: i32) -> Input
     requires { ⌜ kept ≤ length (now held) ⌝ }
     ensures { λ r. ⌜ RestRead (now (held .entry)) kept (now (held .exit)) r ⌝ }
 {
@@ -133,7 +133,7 @@ fn read_rest(from: i32, held: &mut [u8], kept: usize) -> Input
         if filled == held.len() {
             return Input::Read(filled);
         }
-        match read_on(from, held, filled) {
+        match read_on(held, filled, from) {
             Read::More(more) => {
                 filled = more;
             }
@@ -152,7 +152,7 @@ fn read_rest(from: i32, held: &mut [u8], kept: usize) -> Input
 pub fn read_book(book: &mut [u8]) -> Input
     ensures { λ r. ⌜ RestRead (now (book .entry)) 0 (now (book .exit)) r ⌝ }
 {
-    read_rest(STDIN_FILENO, book, 0)
+    read_rest(book, 0, STDIN_FILENO)
 }
 
 // Reads a file by its name in the same way.
@@ -163,7 +163,7 @@ pub fn read_file(path: &[u8], held: &mut [u8]) -> Input
     if file < 0 {
         return Input::Failed;
     }
-    let read = read_rest(file, held, 0);
+    let read = read_rest(held, 0, file);
     libc::close(file);
     read
 }
@@ -244,7 +244,7 @@ fn pass_line(held: &mut [u8]) -> Line
     ensures { λ r. ⌜ LinePassed (now (held .entry)) (now (held .exit)) r ⌝ }
 {
     for turn in 0..u64::MAX {
-        match read_on(STDIN_FILENO, held, 0) {
+        match read_on(held, 0, STDIN_FILENO) {
             Read::More(more) => {
                 let to = line_end(&held[..more], 0);
                 if to < more {
@@ -273,7 +273,7 @@ fn read_line(held: &mut [u8], kept: usize) -> Line
         if filled == held.len() {
             return pass_line(held);
         }
-        match read_on(STDIN_FILENO, held, filled) {
+        match read_on(held, filled, STDIN_FILENO) {
             Read::More(more) => {
                 let to = line_end(&held[..more], filled);
                 if to < more {

@@ -52,6 +52,8 @@ pub enum Refusal {
         /// Its place in the month.
         place: Place,
     },
+    /// 23: the month is not 1 to 12, or the band is none of the injected reading.
+    NoField,
     /// 27: a buffer is not of a sheet's 1,184 bytes.
     BufferSize,
     /// A number that this crate has no name for: the library is newer than the crate.
@@ -85,6 +87,7 @@ impl Refusal {
             13 => Refusal::AboveLimit { month, place },
             14 => Refusal::DomesticMonth,
             19 => Refusal::StrayBand { month, place },
+            23 => Refusal::NoField,
             27 => Refusal::BufferSize,
             other => Refusal::Other(other),
         })
@@ -108,6 +111,7 @@ impl Refusal {
             Refusal::AboveLimit { .. } => 13,
             Refusal::DomesticMonth => 14,
             Refusal::StrayBand { .. } => 19,
+            Refusal::NoField => 23,
             Refusal::BufferSize => 27,
             Refusal::Other(number) => number,
         }
@@ -139,6 +143,7 @@ impl fmt::Display for Refusal {
             Refusal::StrayBand { month, place } => {
                 return write!(f, "month {month}: {place} is filled, but the reading is single");
             }
+            Refusal::NoField => "the month is not 1 to 12, or the band is none of the injected reading",
             Refusal::BufferSize => "a buffer is not of a sheet's 1,184 bytes",
             Refusal::Other(number) => return write!(f, "refusal {number}"),
         })
@@ -156,7 +161,7 @@ mod tests {
         for number in 1..=30 {
             let refusal = Refusal::check(number, 5).expect_err("not 0");
             assert_eq!(refusal.number(), number);
-            let named = number <= 14 || number == 19 || number == 27;
+            let named = number <= 14 || number == 19 || number == 23 || number == 27;
             assert_eq!(refusal != Refusal::Other(number), named, "refusal {number} has a name");
         }
         assert_eq!(Refusal::check(0, 0), Ok(()));
