@@ -2,3 +2,4 @@ pub mod Lift
 pub mod Possible
 pub mod Theorem
 pub mod Archives
+pub mod LeastAnswered

@@ -1,1 +1,1 @@
-// The third demand and the archive's round trips over the exported functions: a crate of definitions and proofs.
+// The third demand, the archive's round trips and the least addition over the exported functions: a crate of definitions and proofs.
