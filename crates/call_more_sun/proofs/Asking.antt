@@ -74,13 +74,10 @@ module _ (b s : List ℕ) (month band : ℕ) where
         unfolding refusedBy lookAt
         past-user = rw (right, ne-eqb (findUser b (sheetUser s)) 0 (λ z. some (index-is ∙ z))) refl
 
-        module _ (part : List ℕ) (whole : part ≡ s) (refusal : ℕ) (judged : refusal ≡ refusedBy (fieldRules part month band)) where
-          by-field : refusal ≡ refusedBy (fieldRules s month band)
-          by-field = judged ∙ ap (λ (x : List ℕ). refusedBy (fieldRules x month band)) whole
-
-          pub leaves-field : (refusal ≡ 0 → ⊥) → (p : Position) → Tells part refusal p → (reply : Reply) → reply ≡ refusedWith refusal
+        module _ (refusal : ℕ) (by-field : refusal ≡ refusedBy (fieldRules s month band)) where
+          pub leaves-field : (refusal ≡ 0 → ⊥) → (p : Position) → Tells s refusal p → (reply : Reply) → reply ≡ refusedWith refusal
               → (r : MoreSun) → r ≡ refusedSun reply p → Said r
-          leaves-field other p told = leaves-by refusal p (by-field ∙ sym past-user) other (rw whole at told)
+          leaves-field other p told = leaves-by refusal p (by-field ∙ sym past-user) other told
 
           module _ (none : refusal ≡ 0) where
             met : (n : ℕ) → testOf n (fieldRules s month band) ≡ true

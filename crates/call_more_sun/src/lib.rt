@@ -1,7 +1,8 @@
 // How much more sun (document 02, ticket 10), asked for the user of a sheet: refusals 1 2 11 6 13 19 23, then the least addition
 // to the injected field of a month and a band. The book is only read.
 ghost use mathlib.Core.Path.{_≡_};
-ghost use Rattle.sheet.specs.YearSheet.{Tells};
+ghost use lib.ListN.{length};
+ghost use Rattle.sheet.specs.YearSheet.{sheetLength, Tells};
 ghost use Rattle.calls.specs.Rules.{refusedBy};
 ghost use Rattle.answers.specs.Answers.{AnsweredBy};
 ghost use Rattle.call_more_sun.specs.Asked.{hasField, fieldRules, moreSunOrder, additionAnswered};
@@ -30,10 +31,11 @@ fn has_field(s: &[u8], month: u32, band: u32) -> bool
 
 // 13 19 23, of a sheet whose header is right.
 fn field_objection(s: &[u8], month: u32, band: u32) -> Objection
+    requires { ⌜ length (now s) ≡ sheetLength ⌝ }
     ensures { λ r. ⌜ r .refusal ≡ refusedBy (fieldRules (now (s .entry)) month band) ⌝ }
     ensures { λ r. ⌜ Tells (now (s .entry)) (r .refusal) (r .position) ⌝ }
 {
-    let fault = sheet::first_fault(s);
+    let fault = refusals::sheet_fault(s);
     if has_field(s, month, band) {
         return fault;
     }
@@ -71,7 +73,7 @@ pub fn more_sun(book: &[u8], s: &[u8], month: u32, band: u32) -> MoreSun
     if user.0 == 0 {
         return nothing_added(answers::refused(6), NOWHERE);
     }
-    let objection = field_objection(sheet::whole(s), month, band);
+    let objection = field_objection(s, month, band);
     if objection.refusal != 0 {
         return nothing_added(answers::refused(objection.refusal), objection.position);
     }

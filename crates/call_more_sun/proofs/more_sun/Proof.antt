@@ -66,12 +66,9 @@ returns-3 c =
     let reply = c .before .refused2 in
     leaves-absent b s (a .month) (a .band) (looked .is-sound none) right _ there (c .before .before .if3 .taken) (reply .result) (reply .ensures) (c .nothing-added3 .result) (c .nothing-added3 .ensures)
 
-whole-requires : tie.Need-whole-requires
-whole-requires c κs =
-    passed-length (now (c .before .before .before .before .before .before .before .before .before .before .before .before .args .s)) (sym (c .before .before .before .before .header-wrong .ensures) ∙ c .before .before .before .if2 .left)
-
 field-objection-requires : tie.Need-field-objection-requires
-field-objection-requires c κs = search needs
+field-objection-requires c κs =
+    passed-length (now (c .before .before .before .before .before .before .before .before .before .before .before .before .args .s)) (sym (c .before .before .before .before .header-wrong .ensures) ∙ c .before .before .before .if2 .left)
 
 refused-requires-3 : tie.Need-refused-requires-3
 refused-requires-3 c κs = search needs
@@ -81,7 +78,7 @@ nothing-added-requires-4 c κs = search needs
 
 returns-4 : tie.Need-returns-4
 returns-4 c =
-    let e = c .before .before .before .before .before .before .before .before .before .before .before in
+    let e = c .before .before .before .before .before .before .before .before .before .before in
     let a = e .before .before .before .before .before .before .before .args in
     let b = now (a .book) in
     let s = now (a .s) in
@@ -89,15 +86,15 @@ returns-4 c =
     let none = e .if1 .left in
     let there = looked .found none ∙ ap (λ (n : UserNumber). recordIndex (findUser b (n .0))) (e .before .before .before .before .user .ensures) in
     let f = c .before .before .before .before in
-    let right = sym (f .before .before .before .before .before .before .header-wrong .ensures) ∙ f .before .before .before .before .before .if2 .left in
-    let some = f .before .before .if3 .left in
+    let right = sym (f .before .before .before .before .before .header-wrong .ensures) ∙ f .before .before .before .before .if2 .left in
+    let some = f .before .if3 .left in
     let reply = c .before .refused3 in
-    leaves-field b s (a .month) (a .band) (looked .is-sound none) right _ there some _ (f .before .whole .ensures) (f .field-objection .result .refusal) (f .field-objection .ensures .0) (c .before .before .if4 .taken)
+    leaves-field b s (a .month) (a .band) (looked .is-sound none) right _ there some (f .field-objection .result .refusal) (f .field-objection .ensures .0) (c .before .before .if4 .taken)
     (f .field-objection .result .position) (f .field-objection .ensures .1) (reply .result) (reply .ensures) (c .nothing-added4 .result) (c .nothing-added4 .ensures)
 
 account-at-requires : tie.Need-account-at-requires
 account-at-requires c κs =
-    let e = c .before .before .before .before .before .before .before .before .before in
+    let e = c .before .before .before .before .before .before .before .before in
     let a = e .before .before .before .before .before .before .before .args in
     let b = now (a .book) in
     let s = now (a .s) in
@@ -107,7 +104,7 @@ account-at-requires c κs =
 
 sub-more-sun : tie.Need-sub-more-sun
 sub-more-sun c =
-    let e = c .before .before .before .before .before .before .before .before .before .before in
+    let e = c .before .before .before .before .before .before .before .before .before in
     let a = e .before .before .before .before .before .before .before .args in
     let b = now (a .book) in
     let s = now (a .s) in
@@ -115,13 +112,13 @@ sub-more-sun c =
     let none = e .if1 .left in
     let there = looked .found none ∙ ap (λ (n : UserNumber). recordIndex (findUser b (n .0))) (e .before .before .before .before .user .ensures) in
     let f = c .before .before .before in
-    let right = sym (f .before .before .before .before .before .before .header-wrong .ensures) ∙ f .before .before .before .before .before .if2 .left in
-    let some = f .before .before .if3 .left in
-    has s (a .month) (a .band) (field-met b s (a .month) (a .band) (looked .is-sound none) right _ there some _ (f .before .whole .ensures) (f .field-objection .result .refusal) (f .field-objection .ensures .0) (c .before .if4 .left)) .month-from
+    let right = sym (f .before .before .before .before .before .header-wrong .ensures) ∙ f .before .before .before .before .if2 .left in
+    let some = f .before .if3 .left in
+    has s (a .month) (a .band) (field-met b s (a .month) (a .band) (looked .is-sound none) right _ there some (f .field-objection .result .refusal) (f .field-objection .ensures .0) (c .before .if4 .left)) .month-from
 
 sub-more-sun-2 : tie.Need-sub-more-sun-2
 sub-more-sun-2 c =
-    let e = c .before .before .before .before .before .before .before .before .before .before in
+    let e = c .before .before .before .before .before .before .before .before .before in
     let a = e .before .before .before .before .before .before .before .args in
     let b = now (a .book) in
     let s = now (a .s) in
@@ -129,13 +126,13 @@ sub-more-sun-2 c =
     let none = e .if1 .left in
     let there = looked .found none ∙ ap (λ (n : UserNumber). recordIndex (findUser b (n .0))) (e .before .before .before .before .user .ensures) in
     let f = c .before .before .before in
-    let right = sym (f .before .before .before .before .before .before .header-wrong .ensures) ∙ f .before .before .before .before .before .if2 .left in
-    let some = f .before .before .if3 .left in
-    has s (a .month) (a .band) (field-met b s (a .month) (a .band) (looked .is-sound none) right _ there some _ (f .before .whole .ensures) (f .field-objection .result .refusal) (f .field-objection .ensures .0) (c .before .if4 .left)) .band-from
+    let right = sym (f .before .before .before .before .before .header-wrong .ensures) ∙ f .before .before .before .before .if2 .left in
+    let some = f .before .if3 .left in
+    has s (a .month) (a .band) (field-met b s (a .month) (a .band) (looked .is-sound none) right _ there some (f .field-objection .result .refusal) (f .field-objection .ensures .0) (c .before .if4 .left)) .band-from
 
 more-sun-requires : tie.Need-more-sun-requires
 more-sun-requires c κs =
-    let e = c .before .before .before .before .before .before .before .before .before .before in
+    let e = c .before .before .before .before .before .before .before .before .before in
     let a = e .before .before .before .before .before .before .before .args in
     let b = now (a .book) in
     let s = now (a .s) in
@@ -143,14 +140,14 @@ more-sun-requires c κs =
     let none = e .if1 .left in
     let there = looked .found none ∙ ap (λ (n : UserNumber). recordIndex (findUser b (n .0))) (e .before .before .before .before .user .ensures) in
     let f = c .before .before .before in
-    let right = sym (f .before .before .before .before .before .before .header-wrong .ensures) ∙ f .before .before .before .before .before .if2 .left in
-    let some = f .before .before .if3 .left in
+    let right = sym (f .before .before .before .before .before .header-wrong .ensures) ∙ f .before .before .before .before .if2 .left in
+    let some = f .before .if3 .left in
     let z = c .before .if4 .left in
-    (passed b s (a .month) (a .band) (looked .is-sound none) right _ there some _ (f .before .whole .ensures) (f .field-objection .result .refusal) (f .field-objection .ensures .0) z, field-stands s (a .month) (a .band) (field-met b s (a .month) (a .band) (looked .is-sound none) right _ there some _ (f .before .whole .ensures) (f .field-objection .result .refusal) (f .field-objection .ensures .0) z))
+    (passed b s (a .month) (a .band) (looked .is-sound none) right _ there some (f .field-objection .result .refusal) (f .field-objection .ensures .0) z, field-stands s (a .month) (a .band) (field-met b s (a .month) (a .band) (looked .is-sound none) right _ there some (f .field-objection .result .refusal) (f .field-objection .ensures .0) z))
 
 returns-5 : tie.Need-returns-5
 returns-5 c =
-    let e = c .before .before .before .before .before .before .before .before .before .before .before in
+    let e = c .before .before .before .before .before .before .before .before .before .before in
     let a = e .before .before .before .before .before .before .before .args in
     let b = now (a .book) in
     let s = now (a .s) in
@@ -158,9 +155,9 @@ returns-5 c =
     let none = e .if1 .left in
     let there = looked .found none ∙ ap (λ (n : UserNumber). recordIndex (findUser b (n .0))) (e .before .before .before .before .user .ensures) in
     let f = c .before .before .before .before in
-    let right = sym (f .before .before .before .before .before .before .header-wrong .ensures) ∙ f .before .before .before .before .before .if2 .left in
-    let some = f .before .before .if3 .left in
-    answers b s (a .month) (a .band) (looked .is-sound none) right _ there some _ (f .before .whole .ensures) (f .field-objection .result .refusal) (f .field-objection .ensures .0) (c .before .before .if4 .left)
+    let right = sym (f .before .before .before .before .before .header-wrong .ensures) ∙ f .before .before .before .before .if2 .left in
+    let some = f .before .if3 .left in
+    answers b s (a .month) (a .band) (looked .is-sound none) right _ there some (f .field-objection .result .refusal) (f .field-objection .ensures .0) (c .before .before .if4 .left)
     (c .before .account-at .result) (c .before .account-at .ensures) (c .more-sun .result) (c .more-sun .ensures)
 
 pub more-sun-spec : {M : Type 1} → statement M
@@ -178,7 +175,6 @@ more-sun-spec =
     refused-requires-2
     nothing-added-requires-3
     returns-3
-    whole-requires
     field-objection-requires
     refused-requires-3
     nothing-added-requires-4

@@ -1,6 +1,7 @@
 -- By the look at the book, the sheet's header, the user found, then the other rules of a closing.
 use native.Mathlib.Omega.{arith}
 use denote.Ref.{now}
+use lib.ListN.{length}
 use mathlib.Core.Path.{ap, sym, _∙_}
 use Rattle.units.specs.declared.UserNumber.{UserNumber}
 use Rattle.units.specs.Units.{recordIndex}
@@ -96,7 +97,8 @@ whole-requires : tie.Need-whole-requires
 whole-requires c κs = passed-length (now (c .before .before .before .before .before .before .before .before .before .before .before .before .before .before .before .before .before .args .s)) (sym (c .before .before .before .before .before .before .before .before .header-wrong .ensures) ∙ c .before .before .before .before .before .before .before .if2 .left)
 
 close-objection-requires : tie.Need-close-objection-requires
-close-objection-requires c κs = search needs
+close-objection-requires c κs =
+    ap length (c .whole .ensures) ∙ passed-length (now (c .before .before .before .before .before .before .before .before .before .before .before .before .before .before .before .before .before .before .args .s)) (sym (c .before .before .before .before .before .before .before .before .before .header-wrong .ensures) ∙ c .before .before .before .before .before .before .before .before .if2 .left)
 
 refused-requires-3 : tie.Need-refused-requires-3
 refused-requires-3 c κs = search needs
