@@ -1,7 +1,7 @@
 -- The answer by the look at the book, the sheet's header, the user found, the rules of the sheet's numbers, then the least addition.
 use Prim.Native.Nat.{ℕ, _-_}
-use mathlib.Core.Path.{_≡_, refl, sym, ap, ap₂, _∙_}
-use mathlib.Core.Bool.{Bool, true, false, not}
+use mathlib.Core.Path.{_≡_, refl, sym, _∙_}
+use mathlib.Core.Bool.{true, false}
 use mathlib.Core.List.{List}
 use native.Mathlib.Omega.{arith}
 use borrow.Author.Tests.{eq-eqb, ne-eqb, not-true}
@@ -9,13 +9,13 @@ use Rattle.units.specs.declared.RecordIndex.{RecordIndex}
 use Rattle.units.specs.Units.{recordIndex}
 use Rattle.sheet.specs.declared.Position.{Position}
 use Rattle.sheet.specs.YearSheet.{sheetUser, refused11, refused13, refused19, nowhere, Tells, Passed}
-use Rattle.sheet.proofs.Faults.{untold, untold-before}
+use Rattle.sheet.proofs.Faults.{untold-before}
 use Rattle.accounts.specs.declared.Account.{Account}
 use Rattle.book.specs.Book.{accountAt}
 use Rattle.book.specs.Find.{findUser}
 use Rattle.soundness.specs.Verdicts.{Accepted}
 use Rattle.calls.specs.Rules.{refusedBy, testOf}
-use Rattle.calls.specs.Refusals.{lookAt, userAt}
+use Rattle.calls.specs.Refusals.{lookAt}
 use Rattle.calls.specs.Calls.{recordNamed}
 use Rattle.calls.proofs.Rules.{passes}
 use Rattle.answers.specs.declared.Reply.{Reply}

@@ -6,7 +6,6 @@ use input::Input;
 use output::Row;
 use sheet::Position;
 use sheet_more_sun::Addition;
-use units::Kwh;
 ghost use Prim.Native.Nat.{_≤_};
 
 // The width of the months, and of a column of kWh.

@@ -1,11 +1,9 @@
 -- The sheet with more in one injected field: that number, every other number, the header and O.
-use Prim.Native.Nat.{ℕ, _+_, _*_, _^_, _≤_, _<_}
-use mathlib.Core.Path.{_≡_, refl, sym, ap, _∙_}
-use mathlib.Core.Bool.{Bool, true, false, cond}
+use Prim.Native.Nat.{ℕ, _+_, _*_, _≤_, _<_}
+use mathlib.Core.Path.{_≡_, ap}
 use mathlib.Core.List.{List}
 use native.Mathlib.Decide.{decLt}
 use native.Mathlib.Omega.{arith}
-use lib.Dec.{lit<}
 use lib.ListN.{length}
 use Rattle.units.specs.Limits.{maxKwh}
 use Rattle.units.specs.Folds.{sumBelow}
@@ -13,10 +11,10 @@ use Rattle.units.proofs.Folds.{sum-cong}
 use Rattle.codec.specs.Bytes.{littleEndian, bytesOf, part, number, stored}
 use Rattle.codec.proofs.Numbers.{length-bytes}
 use Rattle.codec.proofs.Stores.{length-stored, part-before, part-after, number-stored}
-use Rattle.sheet.specs.YearSheet.{sheetLength, word, withdrawnReading, injectedReading, byBands, withdrawn, pun, punMean, injected}
+use Rattle.sheet.specs.YearSheet.{sheetLength, word, withdrawnReading, injectedReading, injected}
 use Rattle.prices.specs.ValueAndCost.{costIn, costOf}
 use Rattle.sheet_more_sun.specs.MoreSun.{withMore}
-use Rattle.sheet_more_sun.specs.Laws.{OneFieldMore, ChangesOneField}
+use Rattle.sheet_more_sun.specs.Laws.{ChangesOneField}
 
 module _ (s : List ℕ) (m band added : ℕ) (long : length s ≡ sheetLength) (lm : m < 12) (lb : band < 3) where
   abbrev at : ℕ

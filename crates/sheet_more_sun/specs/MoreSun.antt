@@ -2,9 +2,9 @@
 -- months and bands are counted from 0.
 use Prim.Native.Nat.{ℕ, _+_, _-_, _*_, _<_}
 use mathlib.Core.Path.{_≡_}
-use mathlib.Core.Bool.{Bool, true, false, _||_}
+use mathlib.Core.Bool.{Bool, true, false}
 use mathlib.Core.List.{List}
-use lib.Dec.{leb, eqb}
+use lib.Dec.{leb}
 use Rattle.units.specs.Units.{kwh}
 use Rattle.units.specs.Limits.{maxKwh}
 use Rattle.units.specs.Folds.{anyBelow, firstBelow}

@@ -1,15 +1,15 @@
 -- What the exported function says, and that what it says is the least.
 use Prim.Native.Nat.{ℕ, _-_, _<_}
-use mathlib.Core.Path.{_≡_, sym, ap, subst, _∙_}
+use mathlib.Core.Path.{_≡_, sym, ap, _∙_}
 use mathlib.Core.Bool.{Bool, true, false}
 use mathlib.Core.List.{List}
 use native.Mathlib.Omega.{arith}
 use denote.Ref.{now}
 use Rattle.sheet.specs.declared.Position.{Position}
-use Rattle.sheet.specs.YearSheet.{sheetUser, injected}
+use Rattle.sheet.specs.YearSheet.{sheetUser}
 use Rattle.calls.specs.Refusals.{userAt}
 use Rattle.sheet_more_sun.specs.declared.Addition.{Addition}
-use Rattle.sheet_more_sun.specs.MoreSun.{additions, reaches, moreSun}
+use Rattle.sheet_more_sun.specs.MoreSun.{additions}
 use Rattle.sheet_more_sun.specs.Laws.{IsLeast}
 use Rattle.sheet_more_sun.proofs.Least.{answers-least}
 use Rattle.call_more_sun.specs.Asked.{additionAnswered}
