@@ -86,14 +86,7 @@ unsafe extern "C" {
     ) -> Advanced;
     pub fn ssp_close(book: *mut u8, len: usize, sheet: *const u8, sheet_len: usize) -> Closed;
     pub fn ssp_statement(book: *const u8, len: usize, number: u32) -> Sums;
-    pub fn ssp_more_sun(
-        book: *const u8,
-        len: usize,
-        sheet: *const u8,
-        sheet_len: usize,
-        month: u32,
-        band: u32,
-    ) -> Sun;
+    pub fn ssp_more_sun(book: *const u8, len: usize, sheet: *const u8, sheet_len: usize, month: u32, band: u32) -> Sun;
     pub fn ssp_archive(sheet: *const u8, sheet_len: usize, archive: *mut u8, archive_len: usize) -> u32;
     pub fn ssp_restore(archive: *const u8, archive_len: usize, sheet: *mut u8, sheet_len: usize) -> u32;
 }

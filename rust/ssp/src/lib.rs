@@ -258,7 +258,14 @@ impl<'a> Book<'a> {
     pub fn more_sun(&self, sheet: &[u8], month: u32, band: u32) -> Result<Option<Kwh>, Refusal> {
         // SAFETY: the pointers and the lengths are those of two slices that are borrowed for the whole call, and only read.
         let sun = unsafe {
-            ffi::ssp_more_sun(self.bytes.as_ptr(), self.bytes.len(), sheet.as_ptr(), sheet.len(), month, band)
+            ffi::ssp_more_sun(
+                self.bytes.as_ptr(),
+                self.bytes.len(),
+                sheet.as_ptr(),
+                sheet.len(),
+                month,
+                band,
+            )
         };
         Refusal::check_sheet(sun.refusal, sun.record, sun.month, sun.place)?;
         Ok((sun.found == 1).then_some(Kwh(sun.added)))

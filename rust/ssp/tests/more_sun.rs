@@ -28,7 +28,11 @@ fn tables() {
             let month = month.parse().expect("a month");
             for (band, cell) in (1..).zip(cells.split_ascii_whitespace()) {
                 let added = cell.parse().ok().map(Kwh);
-                assert_eq!(book.more_sun(&sheet, month, band), Ok(added), "{name}, month {month}, band {band}");
+                assert_eq!(
+                    book.more_sun(&sheet, month, band),
+                    Ok(added),
+                    "{name}, month {month}, band {band}"
+                );
             }
         }
     }
@@ -89,7 +93,10 @@ fn least_in_a_closing() {
                     zero += 1;
                 } else {
                     found += 1;
-                    assert!(!reaches(&bytes, &sheet, month, band, before + added - 1), "{added} is the least");
+                    assert!(
+                        !reaches(&bytes, &sheet, month, band, before + added - 1),
+                        "{added} is the least"
+                    );
                 }
             }
             None => {
@@ -98,7 +105,10 @@ fn least_in_a_closing() {
             }
         }
     }
-    assert!(zero > 1000 && found > 1000 && none > 1000, "{zero}, {found} and {none} are enough of each");
+    assert!(
+        zero > 1000 && found > 1000 && none > 1000,
+        "{zero}, {found} and {none} are enough of each"
+    );
     println!("30,000 fields: {zero} that need nothing, {found} with a least addition, {none} without one");
 }
 
@@ -112,7 +122,11 @@ fn fields_that_a_reading_has() {
             for band in [0, 1, 2, 3, 4, 1 + 256, 1 + 65_536, u32::MAX] {
                 let there = (1..=12).contains(&month) && (1..=bands).contains(&band);
                 let answer = book.more_sun(&sheet, month, band);
-                assert_eq!(answer == Err(Refusal::NoField), !there, "{name}, month {month}, band {band}: {answer:?}");
+                assert_eq!(
+                    answer == Err(Refusal::NoField),
+                    !there,
+                    "{name}, month {month}, band {band}: {answer:?}"
+                );
             }
         }
     }
