@@ -1,6 +1,7 @@
 /*
- * Three years of one user, the first advance of another, calls that are refused, a sheet to its archive and back, raw injected
- * readings, and a sheet to the grid operator's text and back: every field of every answer is printed.
+ * Three years of one user, the first advance of another, calls that are refused, how much more sun is needed, a sheet to its
+ * archive and back, raw injected readings, and a sheet to the grid operator's text and back: every field of every answer is
+ * printed.
  *
  *     gcc -std=c11 -Wall -Wextra -Werror -Iinclude include/example.c target/staticlib/libssp.a -o example
  *
@@ -141,6 +142,23 @@ static void statement(const char *call, uint32_t number)
     amount("closed_advances", sums.closed_advances);
 }
 
+static void more_sun(const char *call, uint32_t month, uint32_t band)
+{
+    struct ssp_sun sun = ssp_more_sun(book, sizeof book, sheet, sizeof sheet, month, band);
+    answer(call, sun.refusal, sun.record);
+    printf("  %-16s %" PRIu32 ", %" PRIu32 "\n", "month, place", sun.month, sun.place);
+    printf("  %-16s %" PRIu32 ", %" PRIu32 "\n", "found, added", sun.found, sun.added);
+}
+
+/* A year sheet of the plant that costs more than it is worth: more is withdrawn each month, and in May F3 has no price. */
+static void write_costly_sheet(void)
+{
+    write_sheet(2016);
+    for (int m = 0; m < 12; m++)
+        put(sheet + HEADER + 4 * (NUMBERS_A_MONTH * m + SSP_WITHDRAWN_F1 - 1), 200003, 4);
+    put(sheet + HEADER + 4 * (NUMBERS_A_MONTH * 4 + SSP_ZONE_F3 - 1), 0, 4);
+}
+
 /* A sheet to its archive and back. The kWh injected in F1, the fourth column of the archive, were 9 less in February. */
 static void archive_and_restore(void)
 {
@@ -246,6 +264,15 @@ int main(void)
     statement("statement of the household", HOUSEHOLD);
     statement("statement of nobody", 8);
 
+    /* What is to be injected more, so that the year is worth what it costs. Neither month nor band is cut to 16 bits. */
+    write_costly_sheet();
+    more_sun("more sun in March, F2", 3, 2);
+    more_sun("more sun in May, F3", 5, 3);
+    more_sun("more sun in a month beyond 16 bits", 3 + BEYOND_16, 2);
+    more_sun("more sun in a band beyond 16 bits", 3, 2 + BEYOND_16);
+    put(sheet + HEADER + 4 * (NUMBERS_A_MONTH * 10 + SSP_SYSTEM_TIER_2 - 1), 500001, 4);
+    more_sun("more sun with a rate above its limit", 3, 2);
+
     /* A byte of record 3, the first advance, that must be zero: the book is damaged, and every call names the record. */
     book[3 * RECORD + 79] = 1;
     enrol("enrol in a damaged book", 8, 2, 1, SSP_CREDIT, 3000, 10, 1);
@@ -253,6 +280,7 @@ int main(void)
     advance("advance in a damaged book", HYDRO, 2016, SSP_OCTOBER, 23011, 1, 2);
     close_year("close in a damaged book", 2016);
     statement("statement in a damaged book", HYDRO);
+    more_sun("more sun in a damaged book", 3, 2);
 
     archive_and_restore();
 

@@ -47,6 +47,8 @@
  *       missing or stands behind the twelfth.
  *   19  A single reading has kWh in F2 or F3: at `month` and `place`. The earliest number at fault decides between 13 and 19,
  *       and where it has both faults, 13 is answered.
+ *   23  The month is not 1 to 12, or the band is none of the injected reading: a reading by bands has 1 to 3, a single one 1
+ *       alone.
  *   26  The factor of ssp_raise is above 200 thousandths.
  *   27  A buffer of ssp_archive or ssp_restore is not of SSP_SHEET_LENGTH bytes.
  *
@@ -70,7 +72,7 @@
 #include <stdint.h>
 
 /* Header and library belong together, since answers grow: this is to be the number that ssp_interface() answers. */
-#define SSP_INTERFACE 5
+#define SSP_INTERFACE 6
 
 #ifdef __cplusplus
 extern "C" {
@@ -172,6 +174,16 @@ struct ssp_raised {
     uint32_t rest3; /* of F3 */
 };
 
+/* How much more is to be injected in a month and a band. */
+struct ssp_sun {
+    uint32_t refusal;
+    uint32_t record;
+    uint32_t month; /* after 13 or 19, 1 to 12; else 0 */
+    uint32_t place; /* after 13 or 19, one of enum ssp_place; else 0 */
+    uint32_t found; /* 1 if an addition within the field's limit does it, else 0 */
+    uint32_t added; /* the least that does, in kWh; 0 where C reaches O already, and where none does */
+};
+
 /* The number of the interface that the library was built for: SSP_INTERFACE of its own header. */
 uint32_t ssp_interface(void);
 
@@ -237,6 +249,19 @@ struct ssp_closed ssp_close(uint8_t *book, size_t len, const uint8_t *sheet, siz
 
 /* States a user's account. Never writes. Refusals in the order 1 2 6. */
 struct ssp_sums ssp_statement(const uint8_t *book, size_t len, uint32_t number);
+
+/*
+ * Finds the least kWh that, added to the injected reading of one month and band of a year sheet, bring C, the value of the energy
+ * injected, to O, the cost of the energy withdrawn, or above. It is priced for the user that the sheet names: by its plant, and
+ * on an island by the PUN. The field with the addition stays within 20,000,000 kWh; `found` tells whether any such addition
+ * does. Never writes. The sheet's year may be any. Refusals in the order 1 2 11 6 13 23, with 19 at the place of 13.
+ *
+ *   sheet  as for ssp_close
+ *   month  1 to 12
+ *   band   1 to 3; 1 alone for a single reading
+ */
+struct ssp_sun ssp_more_sun(const uint8_t *book, size_t len, const uint8_t *sheet, size_t sheet_len, uint32_t month,
+                            uint32_t band);
 
 /*
  * Writes the archive of a year sheet: the header, then 24 columns of twelve, one for each quantity over the year, each number

@@ -3,6 +3,7 @@
 use Prim.Native.Nat.{ℕ}
 use mathlib.Core.Path.{_≡_}
 use mathlib.Core.List.{List}
+use Rattle.calls.specs.Rules.{Rule, refusedBy}
 use Rattle.calls.specs.Calls.{Call, refusalOf, bookAfter, recordNamed}
 
 -- the call c on the book b, which names the record `answered` if it is accepted
@@ -10,3 +11,8 @@ pub record Answered (b : List ℕ) (c : Call) (answered : ℕ) (refusal named : 
   pub refusal-is : refusal ≡ refusalOf b c
   pub record-is : named ≡ recordNamed b refusal answered
   pub book-is : after ≡ bookAfter b c
+
+-- the same of a call that reads only, by the order of its rules
+pub record AnsweredBy (b : List ℕ) (order : List Rule) (answered : ℕ) (refusal named : ℕ) : Type 0 where
+  pub refusal-is : refusal ≡ refusedBy order
+  pub record-is : named ≡ recordNamed b refusal answered

@@ -2,16 +2,21 @@
 -- number, 0 for none, is found.
 use Prim.Native.Nat.{ℕ, _≤_}
 use mathlib.Core.Path.{_≡_}
-use mathlib.Core.List.{List}
+use mathlib.Core.List.{List, _∷_}
 use Rattle.units.specs.declared.RecordIndex.{RecordIndex}
 use Rattle.units.specs.Units.{recordIndex}
 use Rattle.soundness.specs.Verdicts.{Accepted}
+use Rattle.book.specs.Book.{lengthFits, sound}
 use Rattle.book.specs.Find.{findUser}
-use Rattle.calls.specs.Calls.{Call}
-use Rattle.answers.specs.Answers.{Answered}
+use Rattle.calls.specs.Rules.{Rule, _unless_}
+use Rattle.answers.specs.Answers.{AnsweredBy}
+
+-- an order whose first rules are 1 and 2
+abbrev pub lookFirst : List ℕ → List Rule → List Rule
+lookFirst b rules = (1 unless lengthFits b) ∷ (2 unless sound b) ∷ rules
 
 pub record LookedAt (b : List ℕ) (n refusal named : ℕ) (user : RecordIndex) : Type 0 where
-  pub damaged : (refusal ≡ 0 → ⊥) → (c : Call) (answered : ℕ) → Answered b c answered refusal named b
+  pub damaged : (refusal ≡ 0 → ⊥) → (rules : List Rule) (answered : ℕ) → AnsweredBy b (lookFirst b rules) answered refusal named
   pub to-2 : refusal ≤ 2
   pub is-sound : refusal ≡ 0 → Accepted b
   pub found : refusal ≡ 0 → user ≡ recordIndex (findUser b n)

@@ -1,4 +1,4 @@
-// Standard input as every program reads it, a line at a time or a whole book. A read that a signal interrupted is made again,
+// Standard input as every program reads it, a line at a time or a whole book, and a file by its name. A read that a signal interrupted is made again,
 // and one that failed is told from the end of the input.
 use libc::EINTR;
 use libc::STDIN_FILENO;
@@ -55,7 +55,7 @@ pub struct Line {
     pub filled: usize,
 }
 
-// What was read of standard input: so many bytes, all of it where they do not fill the buffer; or it cannot be read.
+// What was read of the input: so many bytes, all of it where they do not fill the buffer; or it cannot be read.
 pub enum Input {
     Read(usize),
     Failed,
@@ -91,23 +91,23 @@ fn meaning(got: isize, error: i32, rest: &[u8]) -> Got
     Got::Bytes(count)
 }
 
-// One read after the bytes that are held.
-fn read_once(held: &mut [u8], filled: usize) -> Got
+// One read of an open file after the bytes that are held.
+fn read_once(held: &mut [u8], filled: usize, from: i32) -> Got
     requires { ⌜ filled ≤ length (now held) ⌝ }
     ensures { λ r. ⌜ ReadOnce (now (held .entry)) filled (now (held .exit)) r ⌝ }
 {
     let rest = &mut held[filled..];
-    let got = libc::read(STDIN_FILENO, rest);
+    let got = libc::read(from, rest);
     meaning(got, os::errno(), rest)
 }
 
 // Reads on after the bytes that are held. A proved loop has to end: the reads are counted to a number that no input needs.
-fn read_on(held: &mut [u8], filled: usize) -> Read
+fn read_on(held: &mut [u8], filled: usize, from: i32) -> Read
     requires { ⌜ filled ≤ length (now held) ⌝ }
     ensures { λ r. ⌜ ReadOn (now (held .entry)) filled (now (held .exit)) r ⌝ }
 {
     for turn in 0..u64::MAX {
-        match read_once(held, filled) {
+        match read_once(held, filled, from) {
             Got::Bytes(count) => {
                 return Read::More(filled + count);
             }
@@ -124,7 +124,7 @@ fn read_on(held: &mut [u8], filled: usize) -> Read
 }
 
 // Reads on after the bytes that are held, to the end of the input or until the buffer is full.
-fn read_rest(held: &mut [u8], kept: usize) -> Input
+fn read_rest(held: &mut [u8], kept: usize, from: i32) -> Input
     requires { ⌜ kept ≤ length (now held) ⌝ }
     ensures { λ r. ⌜ RestRead (now (held .entry)) kept (now (held .exit)) r ⌝ }
 {
@@ -133,7 +133,7 @@ fn read_rest(held: &mut [u8], kept: usize) -> Input
         if filled == held.len() {
             return Input::Read(filled);
         }
-        match read_on(held, filled) {
+        match read_on(held, filled, from) {
             Read::More(more) => {
                 filled = more;
             }
@@ -152,7 +152,20 @@ fn read_rest(held: &mut [u8], kept: usize) -> Input
 pub fn read_book(book: &mut [u8]) -> Input
     ensures { λ r. ⌜ RestRead (now (book .entry)) 0 (now (book .exit)) r ⌝ }
 {
-    read_rest(book, 0)
+    read_rest(book, 0, STDIN_FILENO)
+}
+
+// Reads a file by its name in the same way.
+pub fn read_file(path: &[u8], held: &mut [u8]) -> Input
+    ensures { λ r. ⌜ RestRead (now (held .entry)) 0 (now (held .exit)) r ⌝ }
+{
+    let file = os::open_read(path);
+    if file < 0 {
+        return Input::Failed;
+    }
+    let read = read_rest(held, 0, file);
+    libc::close(file);
+    read
 }
 
 // Where the line that a place stands in ends: at its line feed, or where the text ends.
@@ -231,7 +244,7 @@ fn pass_line(held: &mut [u8]) -> Line
     ensures { λ r. ⌜ LinePassed (now (held .entry)) (now (held .exit)) r ⌝ }
 {
     for turn in 0..u64::MAX {
-        match read_on(held, 0) {
+        match read_on(held, 0, STDIN_FILENO) {
             Read::More(more) => {
                 let to = line_end(&held[..more], 0);
                 if to < more {
@@ -260,7 +273,7 @@ fn read_line(held: &mut [u8], kept: usize) -> Line
         if filled == held.len() {
             return pass_line(held);
         }
-        match read_on(held, filled) {
+        match read_on(held, filled, STDIN_FILENO) {
             Read::More(more) => {
                 let to = line_end(&held[..more], filled);
                 if to < more {

@@ -75,7 +75,7 @@ fn rate_at(s: &[u8], at: usize) -> Rate
 }
 
 // The prices of a month, by band; the price of a single reading stands at F1.
-fn price_row(s: &[u8], bands: bool, island: bool, photovoltaic: bool, month: usize) -> [Rate; 3]
+pub fn price_row(s: &[u8], bands: bool, island: bool, photovoltaic: bool, month: usize) -> [Rate; 3]
     requires { ⌜ (length (now s) ≡ sheetLength) × (month < 12) ⌝ }
     ensures { λ r. ⌜ r ≡ priceRow (now (s .entry)) bands island photovoltaic month ⌝ }
 {

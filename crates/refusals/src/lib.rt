@@ -3,7 +3,9 @@ ghost use mathlib.Core.Path.{_≡_};
 ghost use Prim.Native.Nat.{ℕ};
 ghost use mathlib.Core.Bool.{Bool, cond, false};
 ghost use Rattle.accounts.specs.declared.Account.{Account as AccountOf};
-ghost use Rattle.sheet.specs.YearSheet.{Tells};
+ghost use lib.ListN.{length};
+ghost use Rattle.sheet.specs.YearSheet.{sheetLength, Tells};
+ghost use Rattle.sheet.specs.Objections.{FaultTold};
 ghost use Rattle.calls.specs.Rules.{refusedBy};
 ghost use Rattle.calls.specs.Refusals.{lookOf, hasRoom, dayAndOption, electionOpen, runOpen, orderFits, yearOpen};
 ghost use Rattle.calls.specs.Calls.{enrol, elect, advance, sheetRules, rulesOf};
@@ -116,15 +118,25 @@ pub fn advance_objection(
     refuse(run_open(a, year, run), 9, order)
 }
 
+// 13 19, of a sheet whose header is right. Every call that takes a sheet asks here, where its length is known, so that no read of
+// a number has to look for the end.
+pub fn sheet_fault(s: &[u8]) -> Objection
+    requires { ⌜ length (now s) ≡ sheetLength ⌝ }
+    ensures { λ r. ⌜ FaultTold (now (s .entry)) r ⌝ }
+{
+    sheet::first_fault(sheet::whole(s))
+}
+
 // 12 13 19 14 3, of a sheet whose header is right. What 14 adds up is known to have passed 13.
 pub fn close_objection(s: &[u8], a: Account, room: bool) -> Objection
+    requires { ⌜ length (now s) ≡ sheetLength ⌝ }
     ensures { λ r. ⌜ ((user : ℕ) → (user ≡ 0 → ⊥) → r .refusal ≡ refusedBy (sheetRules (lookOf user a room) (now (s .entry)))) ⌝ }
     ensures { λ r. ⌜ Tells (now (s .entry)) (r .refusal) (r .position) ⌝ }
 {
     if !year_open(a, sheet::year(s)) {
         return sheet::unplaced(12);
     }
-    let fault = sheet::first_fault(s);
+    let fault = sheet_fault(s);
     if fault.refusal != 0 {
         return fault;
     }

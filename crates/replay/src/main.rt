@@ -4,6 +4,7 @@ use accounts::Balance;
 use accounts::ClosingSums;
 use advance::Advanced;
 use answers::Reply;
+use call_more_sun::MoreSun;
 use close::Closed;
 use input::Found;
 use listing_text::Listed;
@@ -13,6 +14,7 @@ use script::Order;
 use sheet::Position;
 use sheet_losses::Raised;
 use sheet_losses::Rests;
+use sheet_more_sun::Addition;
 use sheet_text::Read;
 use sheet_text::Written;
 use statement::Stated;
@@ -167,6 +169,35 @@ fn close_year(book: &mut [u8], line: &[u8], at: usize) -> bool {
         return say_error();
     };
     say_closed(close::close(book, &sheet[..count]))
+}
+
+// 1 and the least addition, or zeros where there is none.
+fn put_addition(row: Row, addition: Addition) -> Row {
+    match addition {
+        Addition::Found(added) => output::put_field(output::put_field(row, 1), added.0 as u64),
+        Addition::None => output::put_field(output::put_field(row, 0), 0),
+    }
+}
+
+fn say_more_sun(answer: MoreSun) -> bool {
+    if answer.reply.refusal == 2 {
+        return say_record(answer.reply);
+    }
+    if answer.position.month != 0 {
+        return say(put_position(refusal_of(answer.reply), answer.position));
+    }
+    let addition = answer.addition;
+    say(put_addition(refusal_of(answer.reply), addition))
+}
+
+// Asks how much more sun the user of a sheet needs.
+fn ask_more_sun(book: &[u8], line: &[u8], digits: Digits, month: u32, band: u32) -> bool {
+    let mut sheet = io::large_buffer();
+    let Bytes::Read(count) = text::hex_from(text::front(line, digits.to), digits.from, &mut sheet)
+    else {
+        return say_error();
+    };
+    say_more_sun(call_more_sun::more_sun(book, &sheet[..count], month, band))
 }
 
 // The number of an accepted call, and a blank.
@@ -417,6 +448,7 @@ fn call(order: Order, line: &[u8], book: &mut [u8], out: &mut [u8]) -> bool
         Order::Raise { sheet, factor } => raise(line, sheet, factor, out),
         Order::ReadMeasures { sheet, text } => rearrange(line, text, sheet, Work::Read, out),
         Order::WriteMeasures { sheet, buffer } => rearrange(line, sheet, buffer, Work::Write, out),
+        Order::MoreSun { sheet, month, band } => ask_more_sun(book, line, sheet, month, band),
         Order::Dump => say_hex(book, out, 0),
         Order::List => list(book, out),
         Order::New(_) => say_error(),

@@ -56,6 +56,9 @@ restoreWord = 114 ∷ 101 ∷ 115 ∷ 116 ∷ 111 ∷ 114 ∷ 101 ∷ []
 abbrev pub raiseWord : List ℕ
 raiseWord = 114 ∷ 97 ∷ 105 ∷ 115 ∷ 101 ∷ []
 
+abbrev pub moreSunWord : List ℕ
+moreSunWord = 109 ∷ 111 ∷ 114 ∷ 101 ∷ 115 ∷ 117 ∷ 110 ∷ []
+
 abbrev pub dumpWord : List ℕ
 dumpWord = 100 ∷ 117 ∷ 109 ∷ 112 ∷ []
 
@@ -203,11 +206,18 @@ writeMeasuresOrder line =
     let words : Words = wordsAt line (length writeMeasuresWord) in
     cond (words .fit) (order.WriteMeasures (words .first) (words .second)) order.Wrong
 
+-- a sheet, a month and a band
+unfoldable pub moreSunOrder : List ℕ → Order
+moreSunOrder line =
+    let word : Word = wordAt line (length moreSunWord) in
+    let at : ℕ = word .digits .to in
+    cond (word .fit && numbersFit line at (most32 ∷ most32 ∷ [])) (order.MoreSun (word .digits) (numberOf line at 0) (numberOf line at 1)) order.Wrong
+
 -- a word alone
 unfoldable pub aloneOrder : List ℕ → List ℕ → Order → Order
 aloneOrder line word asked = cond (eqb (length line) (length word)) asked order.Wrong
 
--- the calls on the operator's text, those on sheets alone, and those on the book
+-- the calls on the operator's text, those on sheets alone, the one that asks of a book and a sheet, and those on the book
 unfoldable pub textOrder : List ℕ → Order
 textOrder line =
     cond (begins line readMeasuresWord) (readMeasuresOrder line)
@@ -218,13 +228,16 @@ sheetOrder line =
     cond (begins line archiveWord) (archiveOrder line)
     (cond (begins line restoreWord) (restoreOrder line) (cond (begins line raiseWord) (raiseOrder line) (textOrder line)))
 
+unfoldable pub askingOrder : List ℕ → Order
+askingOrder line = cond (begins line moreSunWord) (moreSunOrder line) (sheetOrder line)
+
 unfoldable pub callOrder : List ℕ → Order
 callOrder line =
     cond (begins line enrolWord) (enrolOrder line)
     (cond (begins line electWord) (electOrder line)
     (cond (begins line advanceWord) (advanceOrder line)
     (cond (begins line closeWord) (closeOrder line)
-    (cond (begins line statementWord) (statementOrder line) (sheetOrder line)))))
+    (cond (begins line statementWord) (statementOrder line) (askingOrder line)))))
 
 unfoldable pub bookOrder : List ℕ → Order
 bookOrder line =

@@ -6,6 +6,7 @@ ghost use lib.ListN.{length};
 ghost use Rattle.script.specs.Orders.{begins, bytesFit, NumbersRead, newOrder, enrolOrder, electOrder, advanceOrder, statementOrder, loadOrder, closeOrder, aloneOrder, callOrder, bookOrder, orderOf};
 ghost use Rattle.script.specs.Orders.{isNoBytes, isSomeBytes, wordAt, wordsAt, archiveOrder, restoreOrder, raiseOrder, sheetOrder};
 ghost use Rattle.script.specs.Orders.{readMeasuresOrder, writeMeasuresOrder, textOrder};
+ghost use Rattle.script.specs.Orders.{moreSunOrder, askingOrder};
 
 // Where the digits of a word of bytes stand: none for `-`.
 pub struct Digits {
@@ -64,6 +65,11 @@ pub enum Order {
     WriteMeasures {
         sheet: Digits,
         buffer: Digits,
+    },
+    MoreSun {
+        sheet: Digits,
+        month: u32,
+        band: u32,
     },
     Dump,
     List,
@@ -336,6 +342,25 @@ fn raise_order(line: &[u8]) -> Order
     }
 }
 
+// A sheet, a month and a band.
+fn more_sun_order(line: &[u8]) -> Order
+    ensures { λ r. ⌜ r ≡ moreSunOrder (now (line .entry)) ⌝ }
+{
+    let word = word_at(line, 7);
+    let sheet = word.digits;
+    let read = numbers_at(line, sheet.to, &[MOST32, MOST32]);
+    let n = read.values;
+    if word.fit & read.fit {
+        Order::MoreSun {
+            sheet,
+            month: n[0] as u32,
+            band: n[1] as u32,
+        }
+    } else {
+        Order::Wrong
+    }
+}
+
 fn read_measures_order(line: &[u8]) -> Order
     ensures { λ r. ⌜ r ≡ readMeasuresOrder (now (line .entry)) ⌝ }
 {
@@ -402,7 +427,17 @@ fn sheet_order(line: &[u8]) -> Order
     text_order(line)
 }
 
-// The five calls on the book, and else one on sheets.
+// The call that asks of a book and a sheet, and else one on sheets.
+fn asking_order(line: &[u8]) -> Order
+    ensures { λ r. ⌜ r ≡ askingOrder (now (line .entry)) ⌝ }
+{
+    if begins(line, b"moresun") {
+        return more_sun_order(line);
+    }
+    sheet_order(line)
+}
+
+// The five calls on the book, and else another one.
 fn call_order(line: &[u8]) -> Order
     ensures { λ r. ⌜ r ≡ callOrder (now (line .entry)) ⌝ }
 {
@@ -421,7 +456,7 @@ fn call_order(line: &[u8]) -> Order
     if begins(line, b"statement") {
         return statement_order(line);
     }
-    sheet_order(line)
+    asking_order(line)
 }
 
 // What concerns the whole book, and else a call.

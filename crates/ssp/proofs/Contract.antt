@@ -14,6 +14,9 @@ use Rattle.advance.specs.Advances.{ticksAnswered}
 use Rattle.close.specs.Closings.{sumsAnswered}
 use Rattle.statement.specs.Stated.{sumsStated}
 use Rattle.ssp.specs.Flat.{interfaceNumber, detailsOf, positionOf, flatClosed, flatSums, flatRead, flatWritten, flatRaised}
+use Rattle.answers.specs.Answers.{AnsweredBy}
+use Rattle.call_more_sun.specs.Asked.{moreSunOrder, additionAnswered}
+use Rattle.ssp.specs.FlatSun.{flatSun}
 use Rattle.ssp.proofs.ssp_interface.Reads as interface-of
 use Rattle.ssp.proofs.ssp_fresh.Reads as fresh-of
 use Rattle.ssp.proofs.ssp_enrol.Reads as enrol-of
@@ -26,6 +29,7 @@ use Rattle.ssp.proofs.ssp_restore.Reads as restore-of
 use Rattle.ssp.proofs.ssp_raise.Reads as raise-of
 use Rattle.ssp.proofs.ssp_read_measures.Reads as read-of
 use Rattle.ssp.proofs.ssp_write_measures.Reads as write-of
+use Rattle.ssp.proofs.ssp_more_sun.Reads as more-sun-of
 
 pub interface-says : (κs : _) (a : _) (r : _) (s : _) → interface-of.Post κs a r s → r ≡ interfaceNumber
 interface-says κs a r s said = said
@@ -76,3 +80,9 @@ read-says κs a r s said = said
 pub write-says : (κs : _) (a : _) (r : _) (s : _) → write-of.Post κs a r s
     → (r ≡ flatWritten (writeAnswer (now (a .0)) (now (a .1 .0)))) × (now (s .1 .0) ≡ bufferAfter (now (a .0)) (now (a .1 .0)))
 write-says κs a r s said = said
+
+pub more-sun-says : (κs : _) (a : _) (r : _) (s : _) → more-sun-of.Post κs a r s
+    → AnsweredBy (now (a .0)) (moreSunOrder (now (a .0)) (now (a .1 .0)) (a .1 .1 .0) (a .1 .1 .1 .0)) 0 (r .refusal) (r .«record»)
+    × (Tells (now (a .1 .0)) (r .refusal) (positionOf (r .month) (r .place))
+    × (r ≡ flatSun (r .refusal) (r .«record») (positionOf (r .month) (r .place)) (additionAnswered (now (a .0)) (now (a .1 .0)) (a .1 .1 .0) (a .1 .1 .1 .0) (r .refusal))))
+more-sun-says κs a r s said = said

@@ -10,17 +10,21 @@ ghost use Rattle.soundness.specs.Verdicts.{freshAnswer, freshAfter};
 ghost use Rattle.sheet.specs.YearSheet.{Tells};
 ghost use Rattle.calls.specs.Calls.{enrol, elect, advance, close, statement};
 ghost use Rattle.answers.specs.Answers.{Answered};
+ghost use Rattle.answers.specs.Answers.{AnsweredBy};
+ghost use Rattle.call_more_sun.specs.Asked.{moreSunOrder, additionAnswered};
 ghost use Rattle.advance.specs.Advances.{ticksAnswered};
 ghost use Rattle.close.specs.Closings.{sumsAnswered};
 ghost use Rattle.statement.specs.Stated.{sumsStated};
 ghost use Rattle.ssp.specs.Flat.{interfaceNumber, detailsOf, positionOf, flatClosed, flatSums, flatRead, flatWritten, flatRaised};
+ghost use Rattle.ssp.specs.FlatSun.{flatSun};
+use sheet_more_sun::Addition;
 use units::Rate;
 use units::UserNumber;
 use units::WideKwh;
 use values::Details;
 
 // The number of this interface, SSP_INTERFACE of the header: it rises with each landing that changes a struct or a function.
-const INTERFACE: u32 = 5;
+const INTERFACE: u32 = 6;
 
 #[repr(C)]
 pub struct Booked {
@@ -91,6 +95,16 @@ pub struct Written {
     pub length: u32,
     pub month: u32,
     pub place: u32,
+}
+
+#[repr(C)]
+pub struct Sun {
+    pub refusal: u32,
+    pub record: u32,
+    pub month: u32,
+    pub place: u32,
+    pub found: u32,
+    pub added: u32,
 }
 
 fn flat_closed(closed: close::Closed) -> Closed
@@ -167,6 +181,31 @@ fn flat_written(written: sheet_text::Written) -> Written
         length: written.length,
         month: written.month,
         place: written.place,
+    }
+}
+
+// 1 and the least addition, or zeros where there is none.
+fn flat_sun(answer: call_more_sun::MoreSun) -> Sun
+    ensures { λ r. ⌜ r ≡ flatSun (answer .reply .refusal) (answer .reply .record .0) (answer .position) (answer .addition) ⌝ }
+{
+    let addition = answer.addition;
+    match addition {
+        Addition::Found(added) => Sun {
+            refusal: answer.reply.refusal,
+            record: answer.reply.record.0,
+            month: answer.position.month,
+            place: answer.position.place,
+            found: 1,
+            added: added.0,
+        },
+        Addition::None => Sun {
+            refusal: answer.reply.refusal,
+            record: answer.reply.record.0,
+            month: answer.position.month,
+            place: answer.position.place,
+            found: 0,
+            added: 0,
+        },
     }
 }
 
@@ -316,4 +355,13 @@ pub extern "C" fn ssp_write_measures(sheet: &[u8], text: &mut [u8]) -> Written
     ensures { λ _. ⌜ now (text .exit) ≡ bufferAfter (now (sheet .entry)) (now (text .entry)) ⌝ }
 {
     flat_written(sheet_text::write_measures(sheet, text))
+}
+
+#[no_mangle]
+pub extern "C" fn ssp_more_sun(book: &[u8], sheet: &[u8], month: u32, band: u32) -> Sun
+    ensures { λ r. ⌜ AnsweredBy (now (book .entry)) (moreSunOrder (now (book .entry)) (now (sheet .entry)) month band) 0 (r .refusal) (r .record) ⌝ }
+    ensures { λ r. ⌜ Tells (now (sheet .entry)) (r .refusal) (positionOf (r .month) (r .place)) ⌝ }
+    ensures { λ r. ⌜ r ≡ flatSun (r .refusal) (r .record) (positionOf (r .month) (r .place)) (additionAnswered (now (book .entry)) (now (sheet .entry)) month band (r .refusal)) ⌝ }
+{
+    flat_sun(call_more_sun::more_sun(book, sheet, month, band))
 }

@@ -4,3 +4,4 @@ pub mod Theorem
 pub mod Archives
 pub mod Raises
 pub mod Measures
+pub mod LeastAnswered

@@ -1,7 +1,7 @@
 //! The exported functions of libssp.a, as `include/ssp.h` declares them.
 
 /// `SSP_INTERFACE` of the header that these declarations follow.
-pub const INTERFACE: u32 = 5;
+pub const INTERFACE: u32 = 6;
 
 #[repr(C)]
 pub struct Booked {
@@ -74,6 +74,16 @@ pub struct Written {
     pub place: u32,
 }
 
+#[repr(C)]
+pub struct Sun {
+    pub refusal: u32,
+    pub record: u32,
+    pub month: u32,
+    pub place: u32,
+    pub found: u32,
+    pub added: u32,
+}
+
 unsafe extern "C" {
     pub fn ssp_interface() -> u32;
     pub fn ssp_fresh(book: *mut u8, len: usize) -> u32;
@@ -102,6 +112,7 @@ unsafe extern "C" {
     ) -> Advanced;
     pub fn ssp_close(book: *mut u8, len: usize, sheet: *const u8, sheet_len: usize) -> Closed;
     pub fn ssp_statement(book: *const u8, len: usize, number: u32) -> Sums;
+    pub fn ssp_more_sun(book: *const u8, len: usize, sheet: *const u8, sheet_len: usize, month: u32, band: u32) -> Sun;
     pub fn ssp_archive(sheet: *const u8, sheet_len: usize, archive: *mut u8, archive_len: usize) -> u32;
     pub fn ssp_restore(archive: *const u8, archive_len: usize, sheet: *mut u8, sheet_len: usize) -> u32;
     pub fn ssp_raise(sheet: *mut u8, sheet_len: usize, factor: u32) -> Raised;
@@ -114,7 +125,8 @@ mod tests {
     use std::ptr::{null, null_mut};
 
     use super::{
-        ssp_archive, ssp_close, ssp_fresh, ssp_raise, ssp_read_measures, ssp_restore, ssp_statement, ssp_write_measures,
+        ssp_archive, ssp_close, ssp_fresh, ssp_more_sun, ssp_raise, ssp_read_measures, ssp_restore, ssp_statement,
+        ssp_write_measures,
     };
 
     /// "With length 0 no byte is read or written and the pointer may be NULL."
@@ -128,6 +140,8 @@ mod tests {
             assert_eq!(ssp_close(null_mut(), 0, null(), 0).refusal, 1);
             assert_eq!(ssp_fresh(book.as_mut_ptr(), book.len()), 0);
             assert_eq!(ssp_close(book.as_mut_ptr(), book.len(), null(), 0).refusal, 11);
+            assert_eq!(ssp_more_sun(null(), 0, null(), 0, 1, 1).refusal, 1);
+            assert_eq!(ssp_more_sun(book.as_ptr(), book.len(), null(), 0, 1, 1).refusal, 11);
             assert_eq!(ssp_archive(null(), 0, null_mut(), 0), 27);
             assert_eq!(ssp_restore(null(), 0, null_mut(), 0), 27);
             assert_eq!(ssp_raise(null_mut(), 0, 0).refusal, 11);

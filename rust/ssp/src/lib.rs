@@ -31,6 +31,7 @@
 mod amount;
 mod answers;
 mod archive;
+mod energy;
 mod ffi;
 mod losses;
 mod measures;
@@ -40,6 +41,7 @@ mod refusal;
 pub use amount::{Balance, Ticks};
 pub use answers::{Closing, Statement};
 pub use archive::{archive_sheet, archive_sheet_into, restore_sheet, restore_sheet_into};
+pub use energy::Kwh;
 pub use losses::{Rests, raise_injected};
 pub use measures::{read_measures, write_measures, write_measures_into};
 pub use place::Place;
@@ -234,5 +236,44 @@ impl<'a> Book<'a> {
         let sums = unsafe { ffi::ssp_statement(self.bytes.as_ptr(), self.bytes.len(), number) };
         Refusal::check(sums.refusal, sums.record)?;
         Ok(sums.into())
+    }
+
+    /// The least energy that, added to the injected reading of one month and band of a year sheet, brings the value of the energy
+    /// injected to the cost of the energy withdrawn or above; none where no addition within the field's limit does. It is priced
+    /// for the user that the sheet names, whatever the sheet's year. Refusals in the order 1 2 11 6 13 23, with 19 at the place of
+    /// 13.
+    ///
+    /// ```
+    /// use ssp_book::{Book, Enrolment, Kwh, Refusal, option};
+    ///
+    /// let mut bytes = [0; 2 * Book::RECORD];
+    /// let mut book = Book::fresh(&mut bytes)?;
+    /// let (number, option) = (7, option::CREDIT);
+    /// book.enrol(Enrolment { number, class: 2, plant: 2, option, power: 3000, year: 2013, month: 1, island: 0 })?;
+    ///
+    /// // A single reading: 10 kWh withdrawn at a PUN mean of 7, and injected ones that have a zone mean of 4 in March.
+    /// let mut sheet = [0; Book::SHEET];
+    /// sheet[0] = 7;
+    /// let [withdrawn, pun_mean, zone_mean] = [0, 9, 13].map(|place| 32 + 96 * 2 + 4 * place);
+    /// (sheet[withdrawn], sheet[pun_mean], sheet[zone_mean]) = (10, 7, 4);
+    /// assert_eq!(book.more_sun(&sheet, 3, 1)?, Some(Kwh(18)));
+    /// assert_eq!(book.more_sun(&sheet, 4, 1)?, None);
+    /// assert_eq!(book.more_sun(&sheet, 3, 2), Err(Refusal::NoField));
+    /// # Ok::<(), Refusal>(())
+    /// ```
+    pub fn more_sun(&self, sheet: &[u8], month: u32, band: u32) -> Result<Option<Kwh>, Refusal> {
+        // SAFETY: the pointers and the lengths are those of two slices that are borrowed for the whole call, and only read.
+        let sun = unsafe {
+            ffi::ssp_more_sun(
+                self.bytes.as_ptr(),
+                self.bytes.len(),
+                sheet.as_ptr(),
+                sheet.len(),
+                month,
+                band,
+            )
+        };
+        Refusal::check_sheet(sun.refusal, sun.record, sun.month, sun.place)?;
+        Ok((sun.found == 1).then_some(Kwh(sun.added)))
     }
 }

@@ -57,6 +57,8 @@ pub enum Refusal {
         /// Its place in the month.
         place: Place,
     },
+    /// 23: the month is not 1 to 12, or the band is none of the injected reading.
+    NoField,
     /// 26: the factor is above 200 thousandths.
     Factor,
     /// 27: a buffer is not of a sheet's 1,184 bytes.
@@ -94,6 +96,7 @@ impl Refusal {
             14 => Refusal::DomesticMonth,
             17 => Refusal::Line { line },
             19 => Refusal::StrayBand { month, place },
+            23 => Refusal::NoField,
             26 => Refusal::Factor,
             27 => Refusal::BufferSize,
             other => Refusal::Other(other),
@@ -119,6 +122,7 @@ impl Refusal {
             Refusal::DomesticMonth => 14,
             Refusal::Line { .. } => 17,
             Refusal::StrayBand { .. } => 19,
+            Refusal::NoField => 23,
             Refusal::Factor => 26,
             Refusal::BufferSize => 27,
             Refusal::Other(number) => number,
@@ -157,6 +161,7 @@ impl fmt::Display for Refusal {
             Refusal::StrayBand { month, place } => {
                 return write!(f, "month {month}: {place} is filled, but the reading is single");
             }
+            Refusal::NoField => "the month is not 1 to 12, or the band is none of the injected reading",
             Refusal::Factor => "the factor is above 200 thousandths",
             Refusal::BufferSize => "a buffer is not of a sheet's 1,184 bytes",
             Refusal::Other(number) => return write!(f, "refusal {number}"),
@@ -175,7 +180,7 @@ mod tests {
         for number in 1..=30 {
             let refusal = Refusal::check(number, 5).expect_err("not 0");
             assert_eq!(refusal.number(), number);
-            let named = number <= 14 || matches!(number, 17 | 19 | 26 | 27);
+            let named = number <= 14 || matches!(number, 17 | 19 | 23 | 26 | 27);
             assert_eq!(refusal != Refusal::Other(number), named, "refusal {number} has a name");
         }
         assert_eq!(Refusal::check(0, 0), Ok(()));

@@ -307,3 +307,22 @@ fn line() {
         "the sheet's length, header or a zero word is wrong",
     );
 }
+
+#[test]
+fn no_field() {
+    let text = "the month is not 1 to 12, or the band is none of the injected reading";
+    for (month, band) in [(0, 1), (13, 1), (1, 0), (1, 2)] {
+        let refusal = refused(|book| book.more_sun(&sheet(7, 2013, 0, 0), month, band).err());
+        is(refusal, Refusal::NoField, 23, text);
+    }
+    // 11, 6, 13 and 19 go before it, and neither 12, 14 nor 3 is asked
+    for (sheet, number) in [
+        (vec![0; 1183], 11),
+        (sheet(8, 2013, 0, 0), 6),
+        (sheet(7, 2013, 22, 500_001), 13),
+        (sheet(7, 2013, 4, 1), 19),
+        (sheet(7, 2100, 0, 4_000_001), 23),
+    ] {
+        assert_eq!(refused(|book| book.more_sun(&sheet, 0, 4).err()).number(), number);
+    }
+}

@@ -2,7 +2,7 @@
 use native.Mathlib.Omega.{arith}
 use denote.Ref.{now}
 use Rattle.calls.specs.Calls as calls
-use Rattle.answers.proofs.Answers.{refuses}
+use Rattle.answers.proofs.Answers.{damaged, refuses}
 use Rattle.answers.proofs.Rooms.{found-stands}
 use Rattle.advance.proofs.Advancing.{leaves, advance-absent, advance-refused, advance-booked, halves-fit, order-fits, run-fits, ticks-answered}
 use borrow.Author.Needs.{needs}
@@ -19,7 +19,7 @@ returns : tie.Need-returns
 returns c =
     let a = c .before .before .before .before .before .before .args in
     let some = c .if1 .taken in
-    leaves (now (a .book)) (a .number .0) (a .year) (a .run) (a .price .0) (a .estimate1 .0) (a .estimate2 .0) (c .before .before .before .look .result .reply) some (c .before .before .before .look .ensures .damaged some (calls.advance (a .number .0) (a .year) (a .run) (a .price .0) (a .estimate1 .0) (a .estimate2 .0)) 0)
+    leaves (now (a .book)) (a .number .0) (a .year) (a .run) (a .price .0) (a .estimate1 .0) (a .estimate2 .0) (c .before .before .before .look .result .reply) some (damaged (now (a .book)) (calls.advance (a .number .0) (a .year) (a .run) (a .price .0) (a .estimate1 .0) (a .estimate2 .0)) 0 (c .before .before .before .look .ensures) some)
 
 refused-requires : tie.Need-refused-requires
 refused-requires c κs = search needs

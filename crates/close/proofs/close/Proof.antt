@@ -1,6 +1,7 @@
 -- By the look at the book, the sheet's header, the user found, then the other rules of a closing.
 use native.Mathlib.Omega.{arith}
 use denote.Ref.{now}
+use lib.ListN.{length}
 use mathlib.Core.Path.{ap, sym, _∙_}
 use Rattle.units.specs.declared.UserNumber.{UserNumber}
 use Rattle.units.specs.Units.{recordIndex}
@@ -8,6 +9,7 @@ use Rattle.sheet.proofs.Limits.{passed-length}
 use Rattle.sheet.proofs.Faults.{untold-before}
 use Rattle.book.specs.Find.{findUser}
 use Rattle.calls.specs.Calls as calls
+use Rattle.answers.proofs.Answers.{damaged}
 use Rattle.answers.proofs.Rooms.{found-stands}
 use Rattle.close.proofs.Closing.{leaves, leaves-early, close-unread, close-absent, close-refused, close-booked, passed, year-fits}
 use borrow.Author.Needs.{needs}
@@ -33,7 +35,7 @@ returns c =
     let b = now (a .book) in
     let s = now (a .s) in
     let some = c .before .if1 .taken in
-    leaves b s (looked .result .reply) _ some (looked .ensures .damaged some (calls.close s) 0) (untold-before s _ (omega (arith, looked .ensures .to-2))) (c .without-sums .result) (c .without-sums .ensures)
+    leaves b s (looked .result .reply) _ some (damaged b (calls.close s) 0 (looked .ensures) some) (untold-before s _ (omega (arith, looked .ensures .to-2))) (c .without-sums .result) (c .without-sums .ensures)
 
 header-wrong-requires : tie.Need-header-wrong-requires
 header-wrong-requires c κs = search needs
@@ -95,7 +97,8 @@ whole-requires : tie.Need-whole-requires
 whole-requires c κs = passed-length (now (c .before .before .before .before .before .before .before .before .before .before .before .before .before .before .before .before .before .args .s)) (sym (c .before .before .before .before .before .before .before .before .header-wrong .ensures) ∙ c .before .before .before .before .before .before .before .if2 .left)
 
 close-objection-requires : tie.Need-close-objection-requires
-close-objection-requires c κs = search needs
+close-objection-requires c κs =
+    ap length (c .whole .ensures) ∙ passed-length (now (c .before .before .before .before .before .before .before .before .before .before .before .before .before .before .before .before .before .before .args .s)) (sym (c .before .before .before .before .before .before .before .before .before .header-wrong .ensures) ∙ c .before .before .before .before .before .before .before .before .if2 .left)
 
 refused-requires-3 : tie.Need-refused-requires-3
 refused-requires-3 c κs = search needs

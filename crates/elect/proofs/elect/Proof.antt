@@ -1,6 +1,7 @@
 -- By the look at the book, the user found, then the rules of an election.
 use denote.Ref.{now}
 use Rattle.calls.specs.Calls as calls
+use Rattle.answers.proofs.Answers.{damaged}
 use Rattle.answers.proofs.Rooms.{found-stands}
 use Rattle.elect.proofs.Electing.{elect-absent, elect-refused, elect-booked}
 use borrow.Author.Needs.{needs}
@@ -16,7 +17,7 @@ same-length c = search needs
 returns : tie.Need-returns
 returns c =
     let a = c .before .before .before .before .before .before .args in
-    c .before .before .before .look .ensures .damaged (c .if1 .taken) (calls.elect (a .number .0) (a .option) (a .year) (a .month) (a .day)) 0
+    damaged (now (a .book)) (calls.elect (a .number .0) (a .option) (a .year) (a .month) (a .day)) 0 (c .before .before .before .look .ensures) (c .if1 .taken)
 
 refused-requires : tie.Need-refused-requires
 refused-requires c κs = search needs

@@ -2,6 +2,7 @@
 use denote.Ref.{now}
 use Rattle.book.specs.Book.{used}
 use Rattle.calls.specs.Calls as calls
+use Rattle.answers.proofs.Answers.{damaged}
 use Rattle.enrol.proofs.Enrolling.{enrol-refused, enrol-booked, enrol-room}
 use borrow.Author.Needs.{needs}
 use Rattle.enrol.proofs.enrol.Statement.{statement}
@@ -16,7 +17,7 @@ same-length c = search needs
 returns : tie.Need-returns
 returns c =
     let a = c .before .before .before .before .before .before .args in
-    c .before .before .before .look .ensures .damaged (c .if1 .taken) (calls.enrol (a .number .0) (a .details) (a .option)) (used (now (a .book)))
+    damaged (now (a .book)) (calls.enrol (a .number .0) (a .details) (a .option)) (used (now (a .book))) (c .before .before .before .look .ensures) (c .if1 .taken)
 
 has-room-requires : tie.Need-has-room-requires
 has-room-requires c κs = search needs

@@ -8,10 +8,10 @@ use Rattle.input.proofs.read_on.Statement.{statement}
 use Rattle.input.proofs.read_on.Tie as tie
 
 abbrev Inv-loop : tie.InvT-loop
-Inv-loop held₀ filled turn₀ held turn = Kept held₀ filled held
+Inv-loop held₀ filled from turn₀ held turn = Kept held₀ filled held
 
 abbrev μ-loop : tie.MeasureT-loop
-μ-loop held₀ filled turn₀ held turn = 2 ^ 64 - turn
+μ-loop held₀ filled from turn₀ held turn = 2 ^ 64 - turn
 
 loop-holds : tie.Need-loop-holds Inv-loop μ-loop
 loop-holds c = (refl, refl)
@@ -22,8 +22,8 @@ read-once-requires c κs = search needs
 enum-known-count : tie.Need-enum-known-count Inv-loop μ-loop
 enum-known-count c = search needs
 
-add-t9 : tie.Need-add-t9 Inv-loop μ-loop
-add-t9 c =
+add-t10 : tie.Need-add-t10 Inv-loop μ-loop
+add-t10 c =
     let r = c .before .before .before .before .before .read-once in
     let within = rw (c .before .count .given .1) at (r .ensures .within) in
     record { fits = omega (arith, within) }
@@ -92,7 +92,7 @@ read-on-spec =
     loop-holds
     read-once-requires
     enum-known-count
-    add-t9
+    add-t10
     same-length
     returns
     enum-told

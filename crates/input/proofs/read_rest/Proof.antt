@@ -8,10 +8,10 @@ use Rattle.input.proofs.read_rest.Statement.{statement}
 use Rattle.input.proofs.read_rest.Tie as tie
 
 abbrev Inv-loop : tie.InvT-loop
-Inv-loop held₀ kept filled₀ turn₀ held filled turn = Longer held₀ kept held filled
+Inv-loop held₀ kept from filled₀ turn₀ held filled turn = Longer held₀ kept held filled
 
 abbrev μ-loop : tie.MeasureT-loop
-μ-loop held₀ kept filled₀ turn₀ held filled turn = 2 ^ 64 - turn
+μ-loop held₀ kept from filled₀ turn₀ held filled turn = 2 ^ 64 - turn
 
 loop-holds : tie.Need-loop-holds Inv-loop μ-loop
 loop-holds c =

@@ -72,12 +72,12 @@ returns c =
     let shut = open-is (a .a) s (y .before .year .ensures) (y .year-open .ensures) (not-true _ (c .before .if1 .taken)) in
     plain (a .a) (a .room) s 12 (untold-before s 12 (omega arith)) (year-shut (a .a) (a .room) s shut) (c .unplaced .result) (c .unplaced .ensures)
 
-first-fault-requires : tie.Need-first-fault-requires
-first-fault-requires c κs = search needs
+sheet-fault-requires : tie.Need-sheet-fault-requires
+sheet-fault-requires c κs = c .before .before .before .before .pre
 
 returns-2 : tie.Need-returns-2
 returns-2 c =
-    let fault = c .before .before .first-fault in
+    let fault = c .before .before .sheet-fault in
     let y = c .before .before .before .before in
     let a = y .before .before .before .args in
     let s = now (a .s) in
@@ -86,7 +86,7 @@ returns-2 c =
 
 domestic-excess-requires : tie.Need-domestic-excess-requires
 domestic-excess-requires c κs =
-    let fault = c .before .before .first-fault in
+    let fault = c .before .before .sheet-fault in
     told-past (now (c .before .before .before .before .before .before .before .args .s)) (fault .result) (fault .ensures) (c .if2 .left)
 
 unplaced-requires-2 : tie.Need-unplaced-requires-2
@@ -95,7 +95,7 @@ unplaced-requires-2 c κs = search needs
 returns-3 : tie.Need-returns-3
 returns-3 c =
     let d = c .before .before in
-    let fault = d .before .before .before .first-fault in
+    let fault = d .before .before .before .sheet-fault in
     let y = d .before .before .before .before .before in
     let a = y .before .before .before .args in
     let s = now (a .s) in
@@ -113,7 +113,7 @@ returns-4 : tie.Need-returns-4
 returns-4 c =
     let room = c .before .refuse in
     let d = c .before .before .before in
-    let fault = d .before .before .before .first-fault in
+    let fault = d .before .before .before .sheet-fault in
     let y = d .before .before .before .before .before in
     let a = y .before .before .before .args in
     let s = now (a .s) in
@@ -130,7 +130,7 @@ close-objection-spec =
     year-open-requires
     unplaced-requires
     returns
-    first-fault-requires
+    sheet-fault-requires
     returns-2
     domestic-excess-requires
     unplaced-requires-2

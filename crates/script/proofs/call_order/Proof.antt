@@ -90,8 +90,8 @@ returns-5 c =
     let one = two .before .before .before in
     rw (sym (one .before .begins .ensures) ∙ one .if1 .left, sym (two .before .begins2 .ensures) ∙ two .if2 .left, sym (three .before .begins3 .ensures) ∙ three .if3 .left, sym (four .before .begins4 .ensures) ∙ four .if4 .left, sym (five .before .begins5 .ensures) ∙ five .if5 .taken) (c .statement-order .ensures)
 
-sheet-order-requires : tie.Need-sheet-order-requires
-sheet-order-requires c κs = search needs
+asking-order-requires : tie.Need-asking-order-requires
+asking-order-requires c κs = search needs
 
 returns-6 : tie.Need-returns-6
 unfolding callOrder
@@ -101,7 +101,7 @@ returns-6 c =
     let three = four .before .before .before in
     let two = three .before .before .before in
     let one = two .before .before .before in
-    rw (sym (one .before .begins .ensures) ∙ one .if1 .left, sym (two .before .begins2 .ensures) ∙ two .if2 .left, sym (three .before .begins3 .ensures) ∙ three .if3 .left, sym (four .before .begins4 .ensures) ∙ four .if4 .left, sym (five .before .begins5 .ensures) ∙ five .if5 .left) (c .sheet-order .ensures)
+    rw (sym (one .before .begins .ensures) ∙ one .if1 .left, sym (two .before .begins2 .ensures) ∙ two .if2 .left, sym (three .before .begins3 .ensures) ∙ three .if3 .left, sym (four .before .begins4 .ensures) ∙ four .if4 .left, sym (five .before .begins5 .ensures) ∙ five .if5 .left) (c .asking-order .ensures)
 
 pub call-order-spec : {M : Type 1} → statement M
 call-order-spec =
@@ -127,5 +127,5 @@ call-order-spec =
     begins-requires-5
     statement-order-requires
     returns-5
-    sheet-order-requires
+    asking-order-requires
     returns-6)

@@ -2,7 +2,7 @@
 use native.Mathlib.Omega.{arith}
 use denote.Ref.{now}
 use Rattle.calls.specs.Calls as calls
-use Rattle.answers.proofs.Answers.{refuses}
+use Rattle.answers.proofs.Answers.{damaged, refuses}
 use Rattle.statement.proofs.Stating.{leaves, unknown, known, known-user, sums-stated}
 use borrow.Author.Needs.{needs}
 use Rattle.statement.proofs.statement.Statement.{statement}
@@ -18,7 +18,7 @@ returns : tie.Need-returns
 returns c =
     let a = c .before .before .before .before .before .before .args in
     let some = c .before .if1 .taken in
-    leaves (now (a .book)) (a .number .0) (c .before .before .before .before .look .result .reply) some (c .before .before .before .before .look .ensures .damaged some (calls.statement (a .number .0)) 0) (c .no-sums .result) (c .no-sums .ensures)
+    leaves (now (a .book)) (a .number .0) (c .before .before .before .before .look .result .reply) some (damaged (now (a .book)) (calls.statement (a .number .0)) 0 (c .before .before .before .before .look .ensures) some) (c .no-sums .result) (c .no-sums .ensures)
 
 refused-requires : tie.Need-refused-requires
 refused-requires c κs = search needs

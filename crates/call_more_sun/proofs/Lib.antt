@@ -1,0 +1,4 @@
+pub mod Asking
+pub mod Contract
+pub mod Fields
+pub mod Orders

@@ -1,0 +1,186 @@
+-- By the look at the book, the sheet's header, the user found, the sheet's numbers and the field asked for.
+use denote.Ref.{now}
+use mathlib.Core.Path.{ap, sym, _∙_}
+use Rattle.units.specs.declared.UserNumber.{UserNumber}
+use Rattle.units.specs.Units.{recordIndex}
+use Rattle.sheet.proofs.Limits.{passed-length}
+use Rattle.book.specs.Find.{findUser}
+use Rattle.answers.proofs.Rooms.{found-stands}
+use Rattle.call_more_sun.proofs.Asking.{leaves-damaged, leaves-unread, leaves-absent, leaves-field, field-met, passed, answers}
+use Rattle.call_more_sun.proofs.Fields.{has, field-stands}
+use borrow.Author.Needs.{needs}
+use Rattle.call_more_sun.proofs.more_sun.Statement.{statement}
+use Rattle.call_more_sun.proofs.more_sun.Tie as tie
+
+user-requires : tie.Need-user-requires
+user-requires c κs = search needs
+
+look-requires : tie.Need-look-requires
+look-requires c κs = search needs
+
+nothing-added-requires : tie.Need-nothing-added-requires
+nothing-added-requires c κs = search needs
+
+returns : tie.Need-returns
+returns c =
+    let a = c .before .before .before .before .before .before .before .before .args in
+    let look = c .before .before .before .before .look in
+    leaves-damaged (now (a .book)) (now (a .s)) (a .month) (a .band) (look .result .reply) (look .ensures) (c .before .if1 .taken) (c .nothing-added .result) (c .nothing-added .ensures)
+
+header-wrong-requires : tie.Need-header-wrong-requires
+header-wrong-requires c κs = search needs
+
+refused-requires : tie.Need-refused-requires
+refused-requires c κs = search needs
+
+nothing-added-requires-2 : tie.Need-nothing-added-requires-2
+nothing-added-requires-2 c κs = search needs
+
+returns-2 : tie.Need-returns-2
+returns-2 c =
+    let e = c .before .before .before .before in
+    let a = e .before .before .before .before .before .before .before .args in
+    let b = now (a .book) in
+    let s = now (a .s) in
+    let looked = e .before .before .before .look .ensures in
+    let none = e .if1 .left in
+    let reply = c .before .refused in
+    leaves-unread b s (a .month) (a .band) (looked .is-sound none) (sym (c .before .before .before .header-wrong .ensures) ∙ c .before .before .if2 .taken) (reply .result) (reply .ensures) (c .nothing-added2 .result) (c .nothing-added2 .ensures)
+
+refused-requires-2 : tie.Need-refused-requires-2
+refused-requires-2 c κs = search needs
+
+nothing-added-requires-3 : tie.Need-nothing-added-requires-3
+nothing-added-requires-3 c κs = search needs
+
+returns-3 : tie.Need-returns-3
+returns-3 c =
+    let e = c .before .before .before .before .before .before .before in
+    let a = e .before .before .before .before .before .before .before .args in
+    let b = now (a .book) in
+    let s = now (a .s) in
+    let looked = e .before .before .before .look .ensures in
+    let none = e .if1 .left in
+    let there = looked .found none ∙ ap (λ (n : UserNumber). recordIndex (findUser b (n .0))) (e .before .before .before .before .user .ensures) in
+    let right = sym (c .before .before .before .before .before .before .header-wrong .ensures) ∙ c .before .before .before .before .before .if2 .left in
+    let reply = c .before .refused2 in
+    leaves-absent b s (a .month) (a .band) (looked .is-sound none) right _ there (c .before .before .if3 .taken) (reply .result) (reply .ensures) (c .nothing-added3 .result) (c .nothing-added3 .ensures)
+
+field-objection-requires : tie.Need-field-objection-requires
+field-objection-requires c κs =
+    passed-length (now (c .before .before .before .before .before .before .before .before .before .before .before .before .args .s)) (sym (c .before .before .before .before .header-wrong .ensures) ∙ c .before .before .before .if2 .left)
+
+refused-requires-3 : tie.Need-refused-requires-3
+refused-requires-3 c κs = search needs
+
+nothing-added-requires-4 : tie.Need-nothing-added-requires-4
+nothing-added-requires-4 c κs = search needs
+
+returns-4 : tie.Need-returns-4
+returns-4 c =
+    let e = c .before .before .before .before .before .before .before .before .before .before in
+    let a = e .before .before .before .before .before .before .before .args in
+    let b = now (a .book) in
+    let s = now (a .s) in
+    let looked = e .before .before .before .look .ensures in
+    let none = e .if1 .left in
+    let there = looked .found none ∙ ap (λ (n : UserNumber). recordIndex (findUser b (n .0))) (e .before .before .before .before .user .ensures) in
+    let f = c .before .before .before .before in
+    let right = sym (f .before .before .before .before .before .header-wrong .ensures) ∙ f .before .before .before .before .if2 .left in
+    let some = f .before .if3 .left in
+    let reply = c .before .refused3 in
+    leaves-field b s (a .month) (a .band) (looked .is-sound none) right _ there some (f .field-objection .result .refusal) (f .field-objection .ensures .0) (c .before .before .if4 .taken)
+    (f .field-objection .result .position) (f .field-objection .ensures .1) (reply .result) (reply .ensures) (c .nothing-added4 .result) (c .nothing-added4 .ensures)
+
+account-at-requires : tie.Need-account-at-requires
+account-at-requires c κs =
+    let e = c .before .before .before .before .before .before .before .before in
+    let a = e .before .before .before .before .before .before .before .args in
+    let b = now (a .book) in
+    let s = now (a .s) in
+    let looked = e .before .before .before .look .ensures in
+    let none = e .if1 .left in
+    found-stands b (looked .is-sound none) _ _ (looked .found none)
+
+sub-more-sun : tie.Need-sub-more-sun
+sub-more-sun c =
+    let e = c .before .before .before .before .before .before .before .before .before in
+    let a = e .before .before .before .before .before .before .before .args in
+    let b = now (a .book) in
+    let s = now (a .s) in
+    let looked = e .before .before .before .look .ensures in
+    let none = e .if1 .left in
+    let there = looked .found none ∙ ap (λ (n : UserNumber). recordIndex (findUser b (n .0))) (e .before .before .before .before .user .ensures) in
+    let f = c .before .before .before in
+    let right = sym (f .before .before .before .before .before .header-wrong .ensures) ∙ f .before .before .before .before .if2 .left in
+    let some = f .before .if3 .left in
+    has s (a .month) (a .band) (field-met b s (a .month) (a .band) (looked .is-sound none) right _ there some (f .field-objection .result .refusal) (f .field-objection .ensures .0) (c .before .if4 .left)) .month-from
+
+sub-more-sun-2 : tie.Need-sub-more-sun-2
+sub-more-sun-2 c =
+    let e = c .before .before .before .before .before .before .before .before .before in
+    let a = e .before .before .before .before .before .before .before .args in
+    let b = now (a .book) in
+    let s = now (a .s) in
+    let looked = e .before .before .before .look .ensures in
+    let none = e .if1 .left in
+    let there = looked .found none ∙ ap (λ (n : UserNumber). recordIndex (findUser b (n .0))) (e .before .before .before .before .user .ensures) in
+    let f = c .before .before .before in
+    let right = sym (f .before .before .before .before .before .header-wrong .ensures) ∙ f .before .before .before .before .if2 .left in
+    let some = f .before .if3 .left in
+    has s (a .month) (a .band) (field-met b s (a .month) (a .band) (looked .is-sound none) right _ there some (f .field-objection .result .refusal) (f .field-objection .ensures .0) (c .before .if4 .left)) .band-from
+
+more-sun-requires : tie.Need-more-sun-requires
+more-sun-requires c κs =
+    let e = c .before .before .before .before .before .before .before .before .before in
+    let a = e .before .before .before .before .before .before .before .args in
+    let b = now (a .book) in
+    let s = now (a .s) in
+    let looked = e .before .before .before .look .ensures in
+    let none = e .if1 .left in
+    let there = looked .found none ∙ ap (λ (n : UserNumber). recordIndex (findUser b (n .0))) (e .before .before .before .before .user .ensures) in
+    let f = c .before .before .before in
+    let right = sym (f .before .before .before .before .before .header-wrong .ensures) ∙ f .before .before .before .before .if2 .left in
+    let some = f .before .if3 .left in
+    let z = c .before .if4 .left in
+    (passed b s (a .month) (a .band) (looked .is-sound none) right _ there some (f .field-objection .result .refusal) (f .field-objection .ensures .0) z, field-stands s (a .month) (a .band) (field-met b s (a .month) (a .band) (looked .is-sound none) right _ there some (f .field-objection .result .refusal) (f .field-objection .ensures .0) z))
+
+returns-5 : tie.Need-returns-5
+returns-5 c =
+    let e = c .before .before .before .before .before .before .before .before .before .before in
+    let a = e .before .before .before .before .before .before .before .args in
+    let b = now (a .book) in
+    let s = now (a .s) in
+    let looked = e .before .before .before .look .ensures in
+    let none = e .if1 .left in
+    let there = looked .found none ∙ ap (λ (n : UserNumber). recordIndex (findUser b (n .0))) (e .before .before .before .before .user .ensures) in
+    let f = c .before .before .before .before in
+    let right = sym (f .before .before .before .before .before .header-wrong .ensures) ∙ f .before .before .before .before .if2 .left in
+    let some = f .before .if3 .left in
+    answers b s (a .month) (a .band) (looked .is-sound none) right _ there some (f .field-objection .result .refusal) (f .field-objection .ensures .0) (c .before .before .if4 .left)
+    (c .before .account-at .result) (c .before .account-at .ensures) (c .more-sun .result) (c .more-sun .ensures)
+
+pub more-sun-spec : {M : Type 1} → statement M
+more-sun-spec =
+    tie.close
+    (tie.spec
+    user-requires
+    look-requires
+    nothing-added-requires
+    returns
+    header-wrong-requires
+    refused-requires
+    nothing-added-requires-2
+    returns-2
+    refused-requires-2
+    nothing-added-requires-3
+    returns-3
+    field-objection-requires
+    refused-requires-3
+    nothing-added-requires-4
+    returns-4
+    account-at-requires
+    sub-more-sun
+    sub-more-sun-2
+    more-sun-requires
+    returns-5)

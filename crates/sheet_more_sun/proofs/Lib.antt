@@ -1,0 +1,4 @@
+pub mod Answer
+pub mod ChangedSheet
+pub mod Least
+pub mod Value
