@@ -1,17 +1,17 @@
 -- What the record at an index of a book reads where the image of a user, an advance or a closing stands there.
 use Prim.Native.Nat.{ℕ}
-use mathlib.Core.Path.{_≡_, ap, _∙_}
+use mathlib.Core.Path.{_≡_, ap, ap₂, _∙_}
 use mathlib.Core.Bool.{true}
 use mathlib.Core.List.{List}
-use Rattle.layout.specs.Fields.{get, allZero, unnamedOfUser, unnamedOfAdvance, unnamedOfClosing, recordAt, userKind, advanceKind, closingKind, nextField, kindField, numberField, firstEntryField, activationYearField, openYearField, yearField, ownerField}
+use Rattle.layout.specs.Fields.{get, allZero, unnamedOfUser, unnamedOfAdvance, unnamedOfClosing, recordAt, userKind, advanceKind, closingKind, nextField, kindField, numberField, firstEntryField, activationYearField, openYearField, ownerField}
 use Rattle.records.specs.declared.UserRecord.{UserRecord}
 use Rattle.records.specs.declared.AdvanceRecord.{AdvanceRecord}
 use Rattle.records.specs.declared.ClosingRecord.{ClosingRecord}
 use Rattle.records.specs.Records.{userImage, advanceImage, closingImage, accountIn, userIn, advanceIn, closingIn}
 use Rattle.records.proofs.Users.{UserFits, user-reads, user-back, user-unnamed}
 use Rattle.records.proofs.Advances.{AdvanceFits, advance-reads, advance-back, advance-unnamed}
-use Rattle.records.proofs.Closings.{ClosingFits, closing-reads, closing-back, closing-unnamed}
-use Rattle.book.specs.Book.{kindAt, nextOf, firstEntryOf, numberOf, activationOf, openYearOf, accountAt, ownerOf, levelIn, levelOf}
+use Rattle.records.proofs.Closings.{ClosingFits, closing-reads, closing-back, closing-unnamed, closing-not-noted}
+use Rattle.book.specs.Book.{kindAt, nextOf, firstEntryOf, numberOf, activationOf, openYearOf, accountAt, ownerOf, levelFrom, levelIn, levelOf}
 
 -- the user u stands at index i of b
 pub record UserAt (b : List ℕ) (i : ℕ) (u : UserRecord) : Type 0 where
@@ -39,7 +39,7 @@ user-at b i u e h =
       unnamed = ap (allZero unnamedOfUser) e ∙ user-unnamed u;
     }
 
--- what an entry of either kind reads: its next, its owner and its year
+-- what an entry of either kind reads: its next, its owner and its level
 pub record EntryAt (b : List ℕ) (i next owner year : ℕ) : Type 0 where
   pub next-is : nextOf b i ≡ next
   pub owner-is : ownerOf b i ≡ owner
@@ -47,7 +47,7 @@ pub record EntryAt (b : List ℕ) (i next owner year : ℕ) : Type 0 where
 
 pub record AdvanceAt (b : List ℕ) (i : ℕ) (a : AdvanceRecord) : Type 0 where
   pub kind : kindAt b i ≡ advanceKind
-  pub entry : EntryAt b i (a .next .0) (a .owner .0) (a .year)
+  pub entry : EntryAt b i (a .next .0) (a .owner .0) (levelFrom (a .year) (a .booked))
   pub advance : advanceIn (recordAt b i) ≡ a
   pub unnamed : allZero unnamedOfAdvance (recordAt b i) ≡ true
 
@@ -57,7 +57,12 @@ advance-at b i a e h =
     let r = advance-reads a h in
     record {
       kind = ap (get kindField) e ∙ r .kind;
-      entry = record { next-is = ap (get nextField) e ∙ r .next; owner-is = ap (get ownerField) e ∙ r .owner; year-is = ap (get yearField) e ∙ r .year };
+      entry =
+          record {
+            next-is = ap (get nextField) e ∙ r .next;
+            owner-is = ap (get ownerField) e ∙ r .owner;
+            year-is = ap levelIn e ∙ ap₂ levelFrom (r .year) (r .booked);
+          };
       advance = ap advanceIn e ∙ advance-back a h;
       unnamed = ap (allZero unnamedOfAdvance) e ∙ advance-unnamed a;
     }
@@ -69,12 +74,17 @@ pub record ClosingAt (b : List ℕ) (i : ℕ) (c : ClosingRecord) : Type 0 where
   pub unnamed : allZero unnamedOfClosing (recordAt b i) ≡ true
 
 pub closing-at : (b : List ℕ) (i : ℕ) (c : ClosingRecord) → recordAt b i ≡ closingImage c → ClosingFits c → ClosingAt b i c
-unfolding kindAt nextOf ownerOf levelOf levelIn
+unfolding kindAt nextOf ownerOf levelOf levelIn levelFrom
 closing-at b i c e h =
     let r = closing-reads c h in
     record {
       kind = ap (get kindField) e ∙ r .kind;
-      entry = record { next-is = ap (get nextField) e ∙ r .next; owner-is = ap (get ownerField) e ∙ r .owner; year-is = ap (get yearField) e ∙ r .year };
+      entry =
+          record {
+            next-is = ap (get nextField) e ∙ r .next;
+            owner-is = ap (get ownerField) e ∙ r .owner;
+            year-is = ap levelIn e ∙ ap₂ levelFrom (r .year) (closing-not-noted c);
+          };
       closing = ap closingIn e ∙ closing-back c h;
       unnamed = ap (allZero unnamedOfClosing) e ∙ closing-unnamed c;
     }
