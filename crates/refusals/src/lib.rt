@@ -1,11 +1,14 @@
 // The refusals of each call once the book is sound (document 01, "Who brings which number").
 ghost use mathlib.Core.Path.{_≡_};
-ghost use Prim.Native.Nat.{ℕ};
-ghost use mathlib.Core.Bool.{Bool, cond, false};
+ghost use Prim.Native.Nat.{ℕ, _<_, _^_};
+ghost use mathlib.Core.Bool.{Bool, cond, false, not, _&&_};
 ghost use Rattle.accounts.specs.declared.Account.{Account as AccountOf};
 ghost use Rattle.sheet.specs.YearSheet.{Tells};
 ghost use Rattle.calls.specs.Rules.{refusedBy};
-ghost use Rattle.calls.specs.Refusals.{lookOf, hasRoom, dayAndOption, electionOpen, runOpen, orderFits, yearOpen};
+ghost use Rattle.calls.specs.Refusals.{lookOf, hasRoom, dayAndOption, electionOpen, isOpen, runOpen, orderFits, yearOpen};
+ghost use Rattle.calendar.specs.ElectionAndAdvances.{halvesPaid, due};
+ghost use Rattle.accounts.specs.Account.{runsIn};
+ghost use Rattle.book.specs.Book.{isMade};
 ghost use Rattle.calls.specs.Calls.{enrol, elect, advance, sheetRules, rulesOf};
 use accounts::Account;
 use book::LAST_ACTIVATION;
@@ -48,11 +51,34 @@ fn election_open(a: Account, year: u32, month: u32, day: u32) -> bool
     calendar::in_window(a.open_year, year, month, day) & !(a.open_year == LAST_OPEN_YEAR)
 }
 
+// The open year, or the one after it.
+fn is_open(a: Account, year: u32) -> bool
+    ensures { λ r. ⌜ r ≡ isOpen a year ⌝ }
+{
+    (year == a.open_year as u32) | (year == a.open_year as u32 + 1)
+}
+
+// The runs made of either open year.
+fn runs_in(a: Account, year: u32) -> u8
+    ensures { λ r. ⌜ r ≡ runsIn year a ⌝ }
+{
+    if year == a.open_year as u32 { a.runs } else { a.later_runs }
+}
+
+// Whether a run of a year is due and not made.
+fn run_due(a: Account, year: u32, run: u8) -> bool
+    requires { ⌜ (year < 2 ^ 16) × (0 < run) ⌝ }
+    ensures { λ r. ⌜ r ≡ (due (halvesPaid (a .details .year) (a .details .month) year run) && not (isMade (runsIn year a) run)) ⌝ }
+{
+    let halves = calendar::halves_paid(a.details.year, a.details.month, year as u16, run);
+    calendar::due(halves) & !book::is_made(runs_in(a, year), run)
+}
+
 fn run_open(a: Account, year: u32, run: u8) -> bool
     ensures { λ r. ⌜ r ≡ runOpen a year run ⌝ }
 {
-    if (year == a.open_year as u32) & (year <= LAST_YEAR) & book::is_run(run) {
-        calendar::due(book::halves_of(a, run)) & !book::run_made(a, run)
+    if is_open(a, year) & (year <= LAST_YEAR) & book::is_run(run) {
+        run_due(a, year, run)
     } else {
         false
     }
