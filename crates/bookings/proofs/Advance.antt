@@ -8,7 +8,7 @@ use borrow.Author.Tests.{leb-true, le-leb, eq-eqb, ne-eqb, eqb-true, not-true}
 use lib.Dec.{eqb}
 use Rattle.units.proofs.Bools.{and-both, or-cases, cond-capped}
 use Rattle.units.specs.Units.{ticks}
-use Rattle.units.specs.Limits.{maxPrice, maxHalfKwh, maxHalfTicks, maxYearTicks}
+use Rattle.units.specs.Limits.{maxPrice, maxHalfKwh, maxHalfTicks, maxYearTicks, lastActivation}
 use Rattle.calendar.specs.declared.Halves.{Halves}
 use Rattle.calendar.specs.ElectionAndAdvances.{halvesPaid, halvesCount, due, amountOf}
 use Rattle.calendar.proofs.Amounts.{half-at-most, halves-at-most, run-of-shares}
@@ -44,6 +44,7 @@ open-years a year h =
 -- what an accepted run is
 pub record RunDue (a : Account) (year run : ℕ) : Type 0 where
   pub year-is : (year ≡ a .«open_year») ⊎ (year ≡ a .«open_year» + 1)
+  pub last : year ≤ lastActivation
   pub is : isRun run ≡ true
   pub due-then : due (halvesPaid (a .details .year) (a .details .month) year run) ≡ true
   pub unmade : isMade (runsIn year a) run ≡ false
@@ -53,6 +54,7 @@ unfolding runOpen
 run-due a year run h =
     record {
       year-is = open-years a year (search conjuncts);
+      last = search (conjuncts, leb-true);
       is = search conjuncts;
       due-then = search conjuncts;
       unmade = search (not-true, conjuncts);
