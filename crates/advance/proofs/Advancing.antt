@@ -128,7 +128,7 @@ module _ (b : List ℕ) (n y r p e₁ e₂ : ℕ) where
               let w = sums-within account y r p e₁ e₂ account-fits is-open order-fits in
               record {
                 entry = entry-fits b a (user .0) account read (rw there is-user) has-room;
-                year = halves-fit .0;
+                year-below = halves-fit .0;
                 runs = w .0;
                 advances = rw amount (w .1);
               }

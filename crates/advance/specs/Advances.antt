@@ -18,6 +18,6 @@ ticksAnswered b number year run rate estimate1 estimate2 refusal = ticks (cond (
 -- the run of the user i, whose account is a, fits into the account and its entry into the book
 pub record RunFits (b : List ℕ) (i : ℕ) (a : Account) (year run paid : ℕ) : Type 0 where
   pub entry : EntryFits b i a
-  pub year : year < 2 ^ 16
+  pub year-below : year < 2 ^ 16
   pub runs : runsIn year a + run ≤ 7
   pub advances : advancesIn year a + paid < 2 ^ 64
