@@ -53,8 +53,12 @@ fn run_amount(
 {
     let first = half_or_estimate(a, a.half1, estimate1);
     let second = half_or_estimate(a, a.half2, estimate2);
-    let halves = calendar::halves_paid(a.details.year, a.details.month, year as u16, run);
-    calendar::amount_of(halves, price, first, second)
+    calendar::amount_of(
+        refusals::halves_in(a, year as u16, run),
+        price,
+        first,
+        second,
+    )
 }
 
 // An entry of the later year notes the year that is open when it is booked.
@@ -76,10 +80,11 @@ fn book_run(
     requires { ⌜ RunFits (now book) (user .0) account year run (paid .0) ⌝ }
     ensures { λ _. ⌜ now (book .exit) ≡ applied (user .0) (enters (accountAdvanced year run (paid .0) account) (advanceEntry year (bookedIn account year) run paid)) (now (book .entry)) ⌝ }
 {
+    let named = year as u16;
     let entry = records::advance_image(AdvanceRecord {
         next: view::first_entry_of(book, user),
         run,
-        year: year as u16,
+        year: named,
         ticks: paid,
         owner: user,
         booked: booked_in(account, year),

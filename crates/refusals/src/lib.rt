@@ -8,12 +8,15 @@ ghost use Rattle.calls.specs.Rules.{refusedBy};
 ghost use Rattle.calls.specs.Refusals.{lookOf, hasRoom, dayAndOption, electionOpen, isOpen, runOpen, orderFits, yearOpen};
 ghost use Rattle.calendar.specs.ElectionAndAdvances.{halvesPaid, due};
 ghost use Rattle.accounts.specs.Account.{runsIn};
-ghost use Rattle.book.specs.Book.{isMade};
+ghost use Rattle.book.specs.Book.{isMade, isRun};
+ghost use Rattle.units.specs.Limits.{lastActivation};
+ghost use lib.Dec.{leb};
 ghost use Rattle.calls.specs.Calls.{enrol, elect, advance, sheetRules, rulesOf};
 use accounts::Account;
 use book::LAST_ACTIVATION;
 use book::LAST_OPEN_YEAR;
 use book::MAX_HALF_KWH;
+use calendar::Halves;
 use sheet::Objection;
 use units::MAX_PRICE;
 use units::Rate;
@@ -65,19 +68,32 @@ fn runs_in(a: Account, year: u32) -> u8
     if year == a.open_year as u32 { a.runs } else { a.later_runs }
 }
 
+// The halves that a run of a year pays.
+pub fn halves_in(a: Account, year: u16, run: u8) -> Halves
+    ensures { λ r. ⌜ r ≡ halvesPaid (a .details .year) (a .details .month) year run ⌝ }
+{
+    calendar::halves_paid(a.details.year, a.details.month, year, run)
+}
+
 // Whether a run of a year is due and not made.
 fn run_due(a: Account, year: u32, run: u8) -> bool
     requires { ⌜ (year < 2 ^ 16) × (0 < run) ⌝ }
     ensures { λ r. ⌜ r ≡ (due (halvesPaid (a .details .year) (a .details .month) year run) && not (isMade (runsIn year a) run)) ⌝ }
 {
-    let halves = calendar::halves_paid(a.details.year, a.details.month, year as u16, run);
-    calendar::due(halves) & !book::is_made(runs_in(a, year), run)
+    calendar::due(halves_in(a, year as u16, run)) & !book::is_made(runs_in(a, year), run)
+}
+
+// A run of an open year up to 2099.
+fn run_named(a: Account, year: u32, run: u8) -> bool
+    ensures { λ r. ⌜ r ≡ ((isOpen a year && leb year lastActivation) && isRun run) ⌝ }
+{
+    is_open(a, year) & (year <= LAST_YEAR) & book::is_run(run)
 }
 
 fn run_open(a: Account, year: u32, run: u8) -> bool
     ensures { λ r. ⌜ r ≡ runOpen a year run ⌝ }
 {
-    if is_open(a, year) & (year <= LAST_YEAR) & book::is_run(run) {
+    if run_named(a, year, run) {
         run_due(a, year, run)
     } else {
         false

@@ -9,11 +9,11 @@ use borrow.Author.Needs.{needs}
 use Rattle.advance.proofs.book_run.Statement.{statement}
 use Rattle.advance.proofs.book_run.Tie as tie
 
+cast-named : tie.Need-cast-named
+cast-named c = search needs
+
 first-entry-of-requires : tie.Need-first-entry-of-requires
 first-entry-of-requires c κs = search needs
-
-cast-t11 : tie.Need-cast-t11
-cast-t11 c = search needs
 
 booked-in-requires : tie.Need-booked-in-requires
 booked-in-requires c κs = search needs
@@ -49,8 +49,8 @@ pub book-run-spec : {M : Type 1} → statement M
 book-run-spec =
     tie.close
     (tie.spec
+    cast-named
     first-entry-of-requires
-    cast-t11
     booked-in-requires
     advance-image-requires
     advanced-requires

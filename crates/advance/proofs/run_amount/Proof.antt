@@ -10,11 +10,11 @@ half-or-estimate-requires c κs = search needs
 half-or-estimate-requires-2 : tie.Need-half-or-estimate-requires-2
 half-or-estimate-requires-2 c κs = search needs
 
-cast-halves-paid : tie.Need-cast-halves-paid
-cast-halves-paid c = search needs
+cast-halves-in : tie.Need-cast-halves-in
+cast-halves-in c = search needs
 
-halves-paid-requires : tie.Need-halves-paid-requires
-halves-paid-requires c κs = search needs
+halves-in-requires : tie.Need-halves-in-requires
+halves-in-requires c κs = search needs
 
 amount-of-requires : tie.Need-amount-of-requires
 amount-of-requires c κs =
@@ -25,7 +25,7 @@ amount-of-requires c κs =
 returns : tie.Need-returns
 returns c =
     let a = c .before .before .before .before .args in
-    run-paid (a .a) (a .price .0) (a .estimate1 .0) (a .estimate2 .0) (a .year) (a .run) (c .before .before .before .half-or-estimate .result .0) (c .before .before .half-or-estimate2 .result .0) (c .before .before .before .half-or-estimate .ensures) (c .before .before .half-or-estimate2 .ensures) (c .before .halves-paid .result) (c .before .halves-paid .ensures) (c .amount-of .result) (c .amount-of .ensures .0)
+    run-paid (a .a) (a .price .0) (a .estimate1 .0) (a .estimate2 .0) (a .year) (a .run) (c .before .before .before .half-or-estimate .result .0) (c .before .before .half-or-estimate2 .result .0) (c .before .before .before .half-or-estimate .ensures) (c .before .before .half-or-estimate2 .ensures) (c .before .halves-in .result) (c .before .halves-in .ensures) (c .amount-of .result) (c .amount-of .ensures .0)
 
 pub run-amount-spec : {M : Type 1} → statement M
 run-amount-spec =
@@ -33,7 +33,7 @@ run-amount-spec =
     (tie.spec
     half-or-estimate-requires
     half-or-estimate-requires-2
-    cast-halves-paid
-    halves-paid-requires
+    cast-halves-in
+    halves-in-requires
     amount-of-requires
     returns)

@@ -3,11 +3,11 @@ use borrow.Author.Needs.{needs}
 use Rattle.refusals.proofs.run_due.Statement.{statement}
 use Rattle.refusals.proofs.run_due.Tie as tie
 
-cast-halves-paid : tie.Need-cast-halves-paid
-cast-halves-paid c = search needs
+cast-halves-in : tie.Need-cast-halves-in
+cast-halves-in c = search needs
 
-halves-paid-requires : tie.Need-halves-paid-requires
-halves-paid-requires c κs = search needs
+halves-in-requires : tie.Need-halves-in-requires
+halves-in-requires c κs = search needs
 
 due-requires : tie.Need-due-requires
 due-requires c κs = search needs
@@ -22,4 +22,4 @@ returns : tie.Need-returns
 returns c = cc
 
 pub run-due-spec : {M : Type 1} → statement M
-run-due-spec = tie.close (tie.spec cast-halves-paid halves-paid-requires due-requires runs-in-requires is-made-requires returns)
+run-due-spec = tie.close (tie.spec cast-halves-in halves-in-requires due-requires runs-in-requires is-made-requires returns)
