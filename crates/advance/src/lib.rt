@@ -65,18 +65,15 @@ fn run_amount(
 fn booked_in(a: Account, year: u32) -> u16
     ensures { λ r. ⌜ r ≡ bookedIn a year ⌝ }
 {
-    if year == a.open_year as u32 { 0 } else { a.open_year }
+    if year == a.open_year as u32 {
+        0
+    } else {
+        a.open_year
+    }
 }
 
 // "Each run adds one entry, joins the advances field and sets its bit."
-fn book_run(
-    book: &mut [u8],
-    user: RecordIndex,
-    account: Account,
-    year: u32,
-    run: u8,
-    paid: Ticks,
-)
+fn book_run(book: &mut [u8], user: RecordIndex, account: Account, year: u32, run: u8, paid: Ticks)
     requires { ⌜ RunFits (now book) (user .0) account year run (paid .0) ⌝ }
     ensures { λ _. ⌜ now (book .exit) ≡ applied (user .0) (enters (accountAdvanced year run (paid .0) account) (advanceEntry year (bookedIn account year) run paid)) (now (book .entry)) ⌝ }
 {

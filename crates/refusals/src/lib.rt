@@ -65,7 +65,11 @@ fn is_open(a: Account, year: u32) -> bool
 fn runs_in(a: Account, year: u32) -> u8
     ensures { λ r. ⌜ r ≡ runsIn year a ⌝ }
 {
-    if year == a.open_year as u32 { a.runs } else { a.later_runs }
+    if year == a.open_year as u32 {
+        a.runs
+    } else {
+        a.later_runs
+    }
 }
 
 // The halves that a run of a year pays.
