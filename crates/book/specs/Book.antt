@@ -127,8 +127,7 @@ yearFits owner year = within (owner .details .year) (owner .«open_year») year
 unfoldable pub isRun : ℕ → Bool
 isRun run = (eqb run june || eqb run october) || eqb run january
 
--- The LEVEL of an entry is the year that was open when it was booked: its own year, or the one before it for an advance of the
--- later year, which notes it.
+-- An advance of the later year notes the year that was open when it was booked, the one before its own.
 unfoldable pub levelFrom : ℕ → ℕ → ℕ
 levelFrom year booked = cond (eqb booked 0) year booked
 
@@ -228,10 +227,11 @@ pointedOnce b i = eqb (pointersTo b i) 1
 -- "A user's first entry is an advance of the open year or the closing of the year before, or 0 if no year is closed. After
 -- an entry of year y stands an advance of y, or the closing of y − 1, or 0 if y is the activation year." With two open years "the
 -- chain rules let advances of both years stand mixed, so that some of the later year are older entries than the earlier closing"
--- (ticket 6): the rules go by the level of an entry, the year that was open when it was booked. An advance keeps that year open, a
--- closing ends it; e is what stands where entries of level y may follow.
+-- (ticket 6): the rules go by the LEVEL of an entry, the year that was open when it was booked. It is that which an advance notes;
+-- else, and of a closing always, its year. An advance keeps that year open, a closing ends it; e is what stands where entries of
+-- level y may follow.
 unfoldable pub levelIn : List ℕ → ℕ
-levelIn r = levelFrom (get yearField r) (get bookedField r)
+levelIn r = cond (eqb (get kindField r) closingKind) (get yearField r) (levelFrom (get yearField r) (get bookedField r))
 
 unfoldable pub levelOf : List ℕ → ℕ → ℕ
 levelOf b e = levelIn (recordAt b e)

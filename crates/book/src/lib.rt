@@ -286,7 +286,12 @@ pub fn is_entry_kind(kind: u8) -> bool
 pub fn level_of(r: &[u8]) -> u16
     ensures { λ n. ⌜ n ≡ levelIn (now (r .entry)) ⌝ }
 {
-    level_from(layout::year_of(r), layout::booked_of(r))
+    let year = layout::year_of(r);
+    if layout::kind_of(r) == CLOSING {
+        year
+    } else {
+        level_from(year, layout::booked_of(r))
+    }
 }
 
 // The years that an entry ends: a closing its own, any other entry none.

@@ -1,6 +1,6 @@
 -- What the record at an index of a book reads where the image of a user, an advance or a closing stands there.
 use Prim.Native.Nat.{ℕ}
-use mathlib.Core.Path.{_≡_, ap, ap₂, _∙_}
+use mathlib.Core.Path.{_≡_, ap, _∙_}
 use mathlib.Core.Bool.{true}
 use mathlib.Core.List.{List}
 use Rattle.layout.specs.Fields.{get, allZero, unnamedOfUser, unnamedOfAdvance, unnamedOfClosing, recordAt, userKind, advanceKind, closingKind, nextField, kindField, numberField, firstEntryField, activationYearField, openYearField, ownerField}
@@ -10,7 +10,7 @@ use Rattle.records.specs.declared.ClosingRecord.{ClosingRecord}
 use Rattle.records.specs.Records.{userImage, advanceImage, closingImage, accountIn, userIn, advanceIn, closingIn}
 use Rattle.records.proofs.Users.{UserFits, user-reads, user-back, user-unnamed}
 use Rattle.records.proofs.Advances.{AdvanceFits, advance-reads, advance-back, advance-unnamed}
-use Rattle.records.proofs.Closings.{ClosingFits, closing-reads, closing-back, closing-unnamed, closing-not-noted}
+use Rattle.records.proofs.Closings.{ClosingFits, closing-reads, closing-back, closing-unnamed}
 use Rattle.book.specs.Book.{kindAt, nextOf, firstEntryOf, numberOf, activationOf, openYearOf, accountAt, ownerOf, levelFrom, levelIn, levelOf}
 
 -- the user u stands at index i of b
@@ -61,7 +61,7 @@ advance-at b i a e h =
           record {
             next-is = ap (get nextField) e ∙ r .next;
             owner-is = ap (get ownerField) e ∙ r .owner;
-            year-is = ap levelIn e ∙ ap₂ levelFrom (r .year) (r .booked);
+            year-is = ap levelIn e ∙ rw (r .kind, r .year, r .booked);
           };
       advance = ap advanceIn e ∙ advance-back a h;
       unnamed = ap (allZero unnamedOfAdvance) e ∙ advance-unnamed a;
@@ -74,7 +74,7 @@ pub record ClosingAt (b : List ℕ) (i : ℕ) (c : ClosingRecord) : Type 0 where
   pub unnamed : allZero unnamedOfClosing (recordAt b i) ≡ true
 
 pub closing-at : (b : List ℕ) (i : ℕ) (c : ClosingRecord) → recordAt b i ≡ closingImage c → ClosingFits c → ClosingAt b i c
-unfolding kindAt nextOf ownerOf levelOf levelIn levelFrom
+unfolding kindAt nextOf ownerOf levelOf levelIn
 closing-at b i c e h =
     let r = closing-reads c h in
     record {
@@ -83,7 +83,7 @@ closing-at b i c e h =
           record {
             next-is = ap (get nextField) e ∙ r .next;
             owner-is = ap (get ownerField) e ∙ r .owner;
-            year-is = ap levelIn e ∙ ap₂ levelFrom (r .year) (closing-not-noted c);
+            year-is = ap levelIn e ∙ rw (r .kind, r .year);
           };
       closing = ap closingIn e ∙ closing-back c h;
       unnamed = ap (allZero unnamedOfClosing) e ∙ closing-unnamed c;

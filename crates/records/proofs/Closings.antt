@@ -1,19 +1,13 @@
 -- The image of a closing: its length and its zero bytes, what each field reads, and that the value read back is the one
 -- written. Each is the law of images at the list of its cells.
-use Prim.Native.Nat.{ℕ, _+_, _^_, _<_}
-use mathlib.Core.Path.{_≡_, refl, _∙_}
+use Prim.Native.Nat.{ℕ, _^_, _<_}
+use mathlib.Core.Path.{_≡_, refl}
 use mathlib.Core.Bool.{true}
 use mathlib.Core.List.{List}
-use native.Mathlib.Omega.{arith}
-use borrow.Author.Tests.{eqb-true}
-use lib.Dec.{eqb, lit<}
-use lib.ListN.{length, getD}
+use lib.Dec.{lit<}
+use lib.ListN.{length}
 use Rattle.units.specs.Units.{ticks, recordIndex}
-use Rattle.units.specs.Folds.{allBelow}
-use Rattle.units.proofs.Bools.{and-left}
-use Rattle.units.proofs.Folds.{all-at}
-use Rattle.codec.proofs.Numbers.{number-two}
-use Rattle.layout.specs.Fields.{recordLength, get, zeros, allZero, unnamedOfClosing, image, closingKind, balanceField, bookedField, closingOptionField, contributionField, costField, flatRateField, kindField, lapsedField, liquidationField, nextField, ownerField, valueField, yearField}
+use Rattle.layout.specs.Fields.{recordLength, get, allZero, unnamedOfClosing, image, closingKind, balanceField, closingOptionField, contributionField, costField, flatRateField, kindField, lapsedField, liquidationField, nextField, ownerField, valueField, yearField}
 use Rattle.layout.proofs.Cells.{cellAt, length-image, read-image, unnamed-image}
 use Rattle.layout.proofs.ByteRanges.{Bytes, bytes-image}
 use Rattle.records.specs.declared.ClosingRecord.{ClosingRecord}
@@ -62,16 +56,6 @@ module _ (c : ClosingRecord) where
   pub closing-unnamed : allZero unnamedOfClosing (closingImage c) ≡ true
   unfolding closingImage
   closing-unnamed = unnamed-image (closingCells c) refl unnamedOfClosing refl
-
-  -- nor does a closing note a year of booking: those bytes are among them
-  pub closing-not-noted : get bookedField (closingImage c) ≡ 0
-  unfolding get allZero zeros
-  closing-not-noted =
-      let r = closingImage c in
-      let zero = all-at 12 (λ i. eqb (getD r (68 + i) 0) 0) (and-left (allBelow 12 (λ i. eqb (getD r (68 + i) 0) 0)) true closing-unnamed) in
-      let low = eqb-true (getD r 76 0) 0 (zero 8 (omega arith)) in
-      let high = eqb-true (getD r 77 0) 0 (zero 9 (omega arith)) in
-      number-two 76 r ∙ rw (low, high)
 
   read : (n : ℕ) → cellAt (closingCells c) n .value < 256 ^ cellAt (closingCells c) n .field .size
       → get (cellAt (closingCells c) n .field) (image (closingCells c)) ≡ cellAt (closingCells c) n .value
