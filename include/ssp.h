@@ -36,8 +36,8 @@
  *    6  No user has the number.
  *    7  There is no such day, or the option is neither 0 nor 1.
  *    8  The day is outside the election's window, or the user's open year is 2100.
- *    9  The year of the advance is not the user's open year or is above 2099, or the run is not one of the three, is not due in
- *       that year, or was made already.
+ *    9  The year of the advance is neither the user's open year nor the one after it, or is above 2099, or the run is not one of
+ *       the three, is not due in that year, or was made for that year already.
  *   10  The rate is above 500,000, or an estimate is above 360,000,000 kWh.
  *   11  The sheet's length, its header or one of its zero words is wrong; of ssp_read_measures and ssp_write_measures a length.
  *   12  The sheet's year is not the user's open year, or is above 2099.
@@ -160,7 +160,7 @@ struct ssp_sums {
     uint64_t liquidation;
     uint64_t lapsed;
     int64_t balance;
-    uint64_t advances;        /* of all years, the open one included */
+    uint64_t advances;        /* of all years; less those of closed years, it is what was paid for the two open ones */
     uint64_t closed_advances; /* of the closed years */
 };
 
@@ -222,12 +222,13 @@ struct ssp_booked ssp_elect(uint8_t *book, size_t len, uint32_t number, uint8_t 
                             uint32_t day);
 
 /*
- * Books a run of advances for the open year. June pays for the first half of the year and October for the second; in the year
+ * Books a run of advances for the open year or for the one after it: measures come late, and a run need not wait for the closing.
+ * Each of the two years has its own runs and advances, and a closing moves the later year's up. June pays for the first half of the year and October for the second; in the year
  * of activation, October pays for both halves if the plant started in March to August, January for both if it started in
  * September to November, and there is no run if it started in December. The amount is the rate times the kWh exchanged in that
- * half of the last closed year, or times the estimate if no year is closed. Refusals in the order 1 2 6 9 10 3.
+ * half of the last closed year, for either year, or times the estimate if no year is closed. Refusals in the order 1 2 6 9 10 3.
  *
- *   year                  the open year, at most 2099
+ *   year                  the open year or the one after it, at most 2099
  *   run                   SSP_JUNE, SSP_OCTOBER or SSP_JANUARY
  *   rate                  0 to 500,000, in 0.00001 EUR per kWh
  *   estimate1, estimate2  of the halves, 0 to 360,000,000 kWh; both are checked even where they are not used

@@ -17,7 +17,7 @@ use Rattle.book.specs.Find.{findUser}
 use Rattle.bookings.proofs.Numbers.{found}
 use Rattle.statements.specs.declared.Sums.{Sums}
 use Rattle.statements.specs.Walk.{sumsOf}
-use Rattle.units.specs.Limits.{mostYears}
+use Rattle.units.specs.Limits.{mostYears, lastOpenYear}
 use Rattle.conservation.specs.Conservation.{Small}
 use Rattle.conservation.proofs.Sizes.{small-sums}
 
@@ -30,6 +30,10 @@ module _ (b : List ℕ) (a : Accepted b) (i : ℕ) (user : isUser b i ≡ true) 
   years-closed activation open-year e o =
       let y = user-years b faultless i user in
       (omega (arith, y .ordered), omega (arith, y .activation, y .latest))
+
+  pub year-fits : (open-year : ℕ) → open-year ≡ openYearOf b i → open-year ≤ lastOpenYear
+  unfolding openYearOf accountIn
+  year-fits open-year o = omega (arith, user-years b faultless i user .latest)
 
   pub sums-fit : (s : Sums) → s ≡ sumsOf (statementAt b i) → Small s
   sums-fit s e = subst Small (sym e) (small-sums (statementAt b i) (sums-small b faultless (a .fits) i user))

@@ -170,6 +170,25 @@ fn say_open_year(year: u64) -> bool {
     say(output::put_number(output::put_text(output::no_text(), b"\nopen year "), year))
 }
 
+fn say_advances_of(year: u16, advances: Ticks) -> bool {
+    let mut row = output::put_text(output::no_text(), b"advances of ");
+    row = output::put_number(row, year as u64);
+    say(put_paid(output::put(row, b' '), advances))
+}
+
+// What is paid in the open year and, while it is open, in the year after it.
+fn say_open_years(book: &[u8], user: RecordIndex) -> bool
+    requires { ⌜ Accepted (now book) ⌝ }
+    requires { ⌜ isUser (now book) (user .0) ≡ true ⌝ }
+{
+    let open = view::open_year_of(book, user);
+    if !say_advances_of(open, history::advances_of(book, user, open)) {
+        return false;
+    }
+    let later = open + 1;
+    say_advances_of(later, history::advances_of(book, user, later))
+}
+
 fn say_advances(advances: Ticks) -> bool {
     say(put_paid(
         output::put_text(output::no_text(), b"all advances     "),
@@ -184,13 +203,10 @@ fn say_conserved(sum: Balance) -> bool {
     ))
 }
 
-// The open year, what is paid in it, and whether the account keeps its sum.
+// What is paid in all, and whether the account keeps its sum.
 fn say_rest(sums: Sums) -> bool
     requires { ⌜ Small sums ⌝ }
 {
-    if !say_open_year(sums.open_year) {
-        return false;
-    }
     if !say_advances(sums.advances) {
         return false;
     }
@@ -215,6 +231,12 @@ fn say_account(book: &[u8], user: RecordIndex) -> bool
     }
     let sums = statements::statement_of(book, user);
     if !say_totals(sums) {
+        return false;
+    }
+    if !say_open_year(sums.open_year) {
+        return false;
+    }
+    if !say_open_years(book, user) {
         return false;
     }
     say_rest(sums)

@@ -2,3 +2,4 @@ pub mod Closing
 pub mod Outcomes
 pub mod Balances
 pub mod Settlements
+pub mod TwoYears

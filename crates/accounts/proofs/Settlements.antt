@@ -32,9 +32,11 @@ module _ (v : YearValues) (a : Account) where
         details = a .details;
         option = a .option;
         «open_year» = a .«open_year» + 1;
-        runs = 0;
+        runs = a .«later_runs»;
+        «later_runs» = 0;
         credit = credit;
-        advances = ticks 0;
+        advances = a .«later_advances»;
+        «later_advances» = ticks 0;
         half1 = v .half1;
         half2 = v .half2;
       }

@@ -1,6 +1,7 @@
 -- An account by value, and what an election, an advance and a closing make of it ("Closing", "Election and advances").
 use Prim.Native.Nat.{ℕ, _+_, _*_, _≤_, _<_}
 use mathlib.Core.Bool.{cond}
+use lib.Dec.{eqb}
 use lib.IntN.{ℤ}
 use mir.Syntax.{w64}
 use mir.Val.{ofZ}
@@ -56,29 +57,41 @@ accountElected option a =
       option = option;
       «open_year» = a .«open_year»;
       runs = a .runs;
+      «later_runs» = a .«later_runs»;
       credit = a .credit;
       advances = a .advances;
+      «later_advances» = a .«later_advances»;
       half1 = a .half1;
       half2 = a .half2;
     }
 
--- "Each run adds one entry, joins the advances field and sets its bit." The bit is not set before.
-unfoldable pub accountAdvanced : ℕ → ℕ → Account → Account
-accountAdvanced run paid a =
+-- "An account may have two open years, and a run names either. Each year has its own runs and advances" (ticket 6): those of the
+-- open year if that is the year, else of the one after it
+unfoldable pub runsIn : ℕ → Account → ℕ
+runsIn year a = cond (eqb year (a .«open_year»)) (a .runs) (a .«later_runs»)
+
+unfoldable pub advancesIn : ℕ → Account → ℕ
+advancesIn year a = cond (eqb year (a .«open_year»)) (a .advances .0) (a .«later_advances» .0)
+
+-- "Each run adds one entry, joins the advances field and sets its bit.", of the year that it names. The bit is not set before.
+unfoldable pub accountAdvanced : ℕ → ℕ → ℕ → Account → Account
+accountAdvanced year run paid a =
     record {
       number = a .number;
       details = a .details;
       option = a .option;
       «open_year» = a .«open_year»;
-      runs = a .runs + run;
+      runs = cond (eqb year (a .«open_year»)) (a .runs + run) (a .runs);
+      «later_runs» = cond (eqb year (a .«open_year»)) (a .«later_runs») (a .«later_runs» + run);
       credit = a .credit;
-      advances = ticks (a .advances .0 + paid);
+      advances = ticks (cond (eqb year (a .«open_year»)) (a .advances .0 + paid) (a .advances .0));
+      «later_advances» = ticks (cond (eqb year (a .«open_year»)) (a .«later_advances» .0) (a .«later_advances» .0 + paid));
       half1 = a .half1;
       half2 = a .half2;
     }
 
 -- "Then A and the runs become 0, the halves become the sums of the months' exchanged kWh, and the open year rises by
--- one."
+-- one." What the later year has is "moved up by a closing" (ticket 6): that year is now the open one.
 unfoldable pub accountClosed : YearValues → Account → Account
 accountClosed v a =
     record {
@@ -86,9 +99,11 @@ accountClosed v a =
       details = a .details;
       option = a .option;
       «open_year» = a .«open_year» + 1;
-      runs = 0;
+      runs = a .«later_runs»;
+      «later_runs» = 0;
       credit = ticks (creditAfter (a .option) (a .credit .0) (v .value .0) (v .cost .0));
-      advances = ticks 0;
+      advances = a .«later_advances»;
+      «later_advances» = ticks 0;
       half1 = v .half1;
       half2 = v .half2;
     }

@@ -11,7 +11,7 @@ ghost use mir.Syntax.{w64};
 ghost use mir.Val.{toZ};
 ghost use Rattle.units.specs.Limits.{maxYearTicks, maxFlatRate};
 ghost use Rattle.accounts.specs.Closing.{contributionOf, balanceOf};
-ghost use Rattle.accounts.specs.Account.{balanceBits, outcomeOf, liquidationIn, lapsedIn, creditIn, settlementOf, accountElected, accountAdvanced, closedOf, SumsInRange, InRange};
+ghost use Rattle.accounts.specs.Account.{balanceBits, outcomeOf, liquidationIn, lapsedIn, creditIn, settlementOf, accountElected, runsIn, advancesIn, accountAdvanced, closedOf, SumsInRange, InRange};
 
 // The option that pays a year's surplus out ("Book": 0 credit, 1 liquidation).
 const LIQUIDATION: u8 = 1;
@@ -25,8 +25,10 @@ pub struct Account {
     pub option: u8,
     pub open_year: u16,
     pub runs: u8,
+    pub later_runs: u8,
     pub credit: Ticks,
     pub advances: Ticks,
+    pub later_advances: Ticks,
     pub half1: Kwh,
     pub half2: Kwh,
 }
@@ -182,16 +184,24 @@ impl Account {
         self
     }
 
-    // "Each run adds one entry, joins the advances field and sets its bit." The bit is not set before.
-    pub fn advanced(mut self, run: u8, paid: Ticks) -> Account
-        requires { ⌜ self .runs + run ≤ 7 ⌝ }
-        requires { ⌜ self .advances .0 + paid .0 < 2 ^ 64 ⌝ }
-        ensures { λ r. ⌜ r ≡ accountAdvanced run (paid .0) self ⌝ }
+    // "Each run adds one entry, joins the advances field and sets its bit.", of the open year or of the one after it. The bit is
+    // not set before.
+    pub fn advanced(mut self, year: u32, run: u8, paid: Ticks) -> Account
+        requires { ⌜ runsIn year self + run ≤ 7 ⌝ }
+        requires { ⌜ advancesIn year self + paid .0 < 2 ^ 64 ⌝ }
+        ensures { λ r. ⌜ r ≡ accountAdvanced year run (paid .0) self ⌝ }
     {
-        let advances = Ticks(self.advances.0 + paid.0);
-        self.runs = self.runs + run;
-        self.advances = advances;
-        self
+        if year == self.open_year as u32 {
+            let advances = Ticks(self.advances.0 + paid.0);
+            self.runs = self.runs + run;
+            self.advances = advances;
+            self
+        } else {
+            let advances = Ticks(self.later_advances.0 + paid.0);
+            self.later_runs = self.later_runs + run;
+            self.later_advances = advances;
+            self
+        }
     }
 
     // The account after the closing of its open year, and what the closing came to.
@@ -202,13 +212,16 @@ impl Account {
         let settlement = settle(self.option, self.credit, self.advances, values);
         let outcome = settlement.outcome;
         let credit = credit_after(outcome);
-        let advances = Ticks(0);
+        let advances = self.later_advances;
+        let nothing = Ticks(0);
         let half1 = values.half1;
         let half2 = values.half2;
         self.open_year = self.open_year + 1;
-        self.runs = 0;
+        self.runs = self.later_runs;
+        self.later_runs = 0;
         self.credit = credit;
         self.advances = advances;
+        self.later_advances = nothing;
         self.half1 = half1;
         self.half2 = half2;
         Closed {

@@ -2,29 +2,32 @@
 use Prim.Native.Nat.{ℕ, _+_, _^_, _≤_, _<_}
 use mathlib.Core.Path.{_≡_, refl, ap, sym, _∙_}
 use mathlib.Core.Bool.{Bool, true}
+use mathlib.Core.Logic.{_⊎_, inl, inr}
 use mathlib.Core.List.{List}
 use native.Mathlib.Omega.{arith}
-use borrow.Author.Tests.{ne-eqb}
+use borrow.Author.Tests.{eq-eqb, ne-eqb}
 use Rattle.units.specs.declared.RecordIndex.{RecordIndex}
 use Rattle.units.specs.declared.Ticks.{Ticks}
 use Rattle.units.specs.Units.{recordIndex, ticks}
+use Rattle.units.specs.Limits.{maxYearTicks}
 use Rattle.accounts.specs.declared.Account.{Account}
-use Rattle.accounts.specs.Account.{accountAdvanced}
+use Rattle.accounts.specs.Account.{runsIn, advancesIn, accountAdvanced}
+use Rattle.accounts.proofs.TwoYears.{runs-open, advances-open, runs-later, advances-later}
 use Rattle.book.specs.Book.{isUser, accountAt, accountFits, halvesFit}
 use Rattle.book.proofs.Faultless.{sound-faultless}
 use Rattle.soundness.specs.Verdicts.{Accepted}
 use Rattle.records.specs.Entries.{advanceEntry}
-use Rattle.calls.specs.Changes.{enters, applied, runAmount}
+use Rattle.calls.specs.Changes.{enters, applied, bookedIn, runAmount}
 use Rattle.book.specs.Find.{findUser}
 use Rattle.calls.specs.Rules.{testOf, refusedBy as refusedBy}
 use Rattle.calls.specs.Refusals.{lookOf, lookAt, hasRoom, runOpen, orderFits}
 use Rattle.calls.specs.Calls.{Call, advance, namedBy, rulesOf, refusalOf, changeOf, booked}
 use Rattle.bookings.proofs.Ranges.{account-good}
-use Rattle.bookings.proofs.Widths.{account-within}
+use Rattle.bookings.proofs.Widths.{AccountWithin, account-within}
 use Rattle.calls.proofs.Orders.{fact}
 use Rattle.bookings.proofs.CallsFit.{named-user}
 use Rattle.bookings.proofs.Accounts.{advanced-fits}
-use Rattle.bookings.proofs.Advance.{run-due, run-at-most}
+use Rattle.bookings.proofs.Advance.{RunDue, run-due, run-at-most}
 use Rattle.answers.specs.declared.Reply.{Reply}
 use Rattle.answers.specs.Answers.{Answered}
 use Rattle.answers.specs.Replies.{refusedWith}
@@ -34,14 +37,31 @@ use Rattle.advance.specs.Advances.{RunFits, ticksAnswered}
 
 -- the account after a run that is due has its sums in range
 sums-within : (a : Account) (y r p e₁ e₂ : ℕ) → accountFits a ≡ true → runOpen a y r ≡ true → orderFits p e₁ e₂ ≡ true
-    → (a .runs + r ≤ 7) × (a .advances .0 + runAmount a (a .«open_year») r p e₁ e₂ < 2 ^ 64)
+    → (runsIn y a + r ≤ 7) × (advancesIn y a + runAmount a y r p e₁ e₂ < 2 ^ 64)
 unfolding accountAdvanced
-sums-within a y r p e₁ e₂ fits is-open order =
-    let d = run-due a y r is-open in
-    let paid = runAmount a (a .«open_year») r p e₁ e₂ in
-    let most = run-at-most a (a .«open_year») r p e₁ e₂ fits refl order in
-    let w = account-within (accountAdvanced r paid a) (advanced-fits a r paid fits (d .is) (d .unmade) (d .due-now) most) in
-    (omega (arith, w .runs), omega (arith, w .advances))
+sums-within a y r p e₁ e₂ fits is-open order = by-year (d .year-is)
+  where
+    d : RunDue a y r
+    d = run-due a y r is-open
+
+    paid : ℕ
+    paid = runAmount a y r p e₁ e₂
+
+    after : AccountWithin (accountAdvanced y r paid a)
+    after = account-within (accountAdvanced y r paid a) (advanced-fits a y r paid fits (d .year-is) (d .is) (d .unmade) (d .due-then) (run-at-most a y r p e₁ e₂ fits order))
+
+    by-year : (y ≡ a .«open_year») ⊎ (y ≡ a .«open_year» + 1) → (runsIn y a + r ≤ 7) × (advancesIn y a + paid < 2 ^ 64)
+    by-year (inl same) =
+        let now-open = eq-eqb y (a .«open_year») same in
+        let runs : a .runs + r < 8 = rw now-open at (after .runs) in
+        let sum : a .advances .0 + paid ≤ maxYearTicks = rw now-open at (after .advances) in
+        (omega (arith, runs-open y a same), omega (arith, advances-open y a same))
+    by-year (inr later) =
+        let other : y ≡ a .«open_year» → ⊥ = λ e. omega arith in
+        let not-open = ne-eqb y (a .«open_year») other in
+        let runs : a .«later_runs» + r ≤ 3 = rw not-open at (after .«later_runs») in
+        let sum : a .«later_advances» .0 + paid ≤ maxYearTicks = rw not-open at (after .«later_advances») in
+        (omega (arith, runs-later y a other), omega (arith, advances-later y a other))
 
 module _ (b : List ℕ) (n y r p e₁ e₂ : ℕ) where
   abbrev call : Call
@@ -85,11 +105,8 @@ module _ (b : List ℕ) (n y r p e₁ e₂ : ℕ) where
         unfolding testOf rulesOf lookAt namedBy
         is-open = rw account-is (fact b call none-refused 9)
 
-        year-is : y ≡ account .«open_year»
-        year-is = run-due account y r is-open .year-is
-
-        pub halves-fit : halvesFit account ≡ true
-        halves-fit = account-good account account-fits .halves
+        pub halves-fit : (y < 2 ^ 16) × (halvesFit account ≡ true)
+        halves-fit = (omega (arith, run-due account y r is-open .last), account-good account account-fits .halves)
 
         pub order-fits : orderFits p e₁ e₂ ≡ true
         unfolding testOf rulesOf lookAt namedBy
@@ -99,27 +116,27 @@ module _ (b : List ℕ) (n y r p e₁ e₂ : ℕ) where
         unfolding testOf rulesOf lookAt namedBy
         has-room = fact b call none-refused 3
 
-        module _ (paid : Ticks) (amount : paid ≡ ticks (runAmount account (account .«open_year») r p e₁ e₂)) where
+        module _ (paid : Ticks) (amount : paid ≡ ticks (runAmount account y r p e₁ e₂)) where
           paid-is : paid .0 ≡ runAmount (accountAt b (findUser b n)) y r p e₁ e₂
-          paid-is = rw (amount, year-is, account-is)
+          paid-is = rw (amount, account-is)
 
           paid-ticks : paid ≡ ticks (runAmount (accountAt b (findUser b n)) y r p e₁ e₂)
           paid-ticks = ap ticks paid-is
 
-          pub run-fits : RunFits b (user .0) account r (paid .0)
+          pub run-fits : RunFits b (user .0) account y r (paid .0)
           run-fits =
               let w = sums-within account y r p e₁ e₂ account-fits is-open order-fits in
               record {
                 entry = entry-fits b a (user .0) account read (rw there is-user) has-room;
+                year-below = halves-fit .0;
                 runs = w .0;
                 advances = rw amount (w .1);
               }
 
-          pub advance-booked : (after : List ℕ) → after ≡ applied (user .0) (enters (accountAdvanced r (paid .0) account) (advanceEntry (account .«open_year») r paid)) b → Answered b call 0 0 0 after
+          pub advance-booked : (after : List ℕ)
+              → after ≡ applied (user .0) (enters (accountAdvanced y r (paid .0) account) (advanceEntry y (bookedIn account y) r paid)) b → Answered b call 0 0 0 after
           unfolding booked changeOf namedBy
-          advance-booked after e =
-              let in-year = ap (λ (z : ℕ). applied (user .0) (enters (accountAdvanced r (paid .0) account) (advanceEntry z r paid)) b) (sym year-is) in
-              accepted b call 0 after none-refused (e ∙ in-year ∙ rw (paid-ticks, account-is, there))
+          advance-booked after e = accepted b call 0 after none-refused (e ∙ rw (paid-ticks, account-is, there))
 
           pub ticks-answered : paid ≡ ticksAnswered b n y r p e₁ e₂ 0
           unfolding ticksAnswered

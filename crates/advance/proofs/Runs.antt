@@ -11,13 +11,13 @@ use Rattle.units.specs.declared.Ticks.{Ticks}
 use Rattle.units.specs.Units.{recordIndex, ticks}
 use Rattle.units.specs.Limits.{maxPrice, maxHalfKwh}
 use Rattle.calendar.specs.declared.Halves.{Halves}
-use Rattle.calendar.specs.ElectionAndAdvances.{amountOf}
+use Rattle.calendar.specs.ElectionAndAdvances.{halvesPaid, amountOf}
 use Rattle.accounts.specs.declared.Account.{Account}
 use Rattle.accounts.specs.Account.{accountAdvanced}
 use Rattle.records.specs.Records.{advanceImage}
-use Rattle.book.specs.Book.{halvesFit, halvesOf, firstEntryOf}
+use Rattle.book.specs.Book.{halvesFit, firstEntryOf}
 use Rattle.records.specs.Entries.{advanceEntry, entryImage}
-use Rattle.calls.specs.Changes.{enters, withEntry, applied, runAmount}
+use Rattle.calls.specs.Changes.{enters, withEntry, applied, bookedIn, runAmount}
 use Rattle.calls.specs.Refusals.{orderFits}
 use Rattle.bookings.proofs.Ranges.{conjuncts}
 
@@ -44,15 +44,16 @@ module _ (a : Account) (p e₁ e₂ : ℕ) where
       let half2 : a .half2 .0 ≤ maxHalfKwh = search (conjuncts, leb-true) in
       (price, (rw f (cond-capped none estimate1 half1), rw s (cond-capped none estimate2 half2)))
 
-  pub run-paid : (run first second : ℕ) → first ≡ paidFor e₁ (a .half1 .0) → second ≡ paidFor e₂ (a .half2 .0) → (h : Halves) → h ≡ halvesOf a run → (paid : Ticks)
-      → paid ≡ ticks (amountOf h p first second) → paid ≡ ticks (runAmount a (a .«open_year») run p e₁ e₂)
-  unfolding runAmount halvesOf
-  run-paid run first second f s h e paid amount = rw (amount, e, f, s)
+  pub run-paid : (year run first second : ℕ) → first ≡ paidFor e₁ (a .half1 .0) → second ≡ paidFor e₂ (a .half2 .0) → (h : Halves)
+      → h ≡ halvesPaid (a .details .year) (a .details .month) year run → (paid : Ticks) → paid ≡ ticks (amountOf h p first second)
+      → paid ≡ ticks (runAmount a year run p e₁ e₂)
+  unfolding runAmount
+  run-paid year run first second f s h e paid amount = rw (amount, e, f, s)
 
-pub run-booked : (b : List ℕ) (user : RecordIndex) (a : Account) (run : ℕ) (paid : Ticks) (first : RecordIndex)
-    → first ≡ recordIndex (firstEntryOf b (user .0)) → (entry : List ℕ)
-    → entry ≡ advanceImage (record { next = first; run = run; year = a .«open_year»; ticks = paid; owner = user }) → (next : Account)
-    → next ≡ accountAdvanced run (paid .0) a → (after : List ℕ) → after ≡ withEntry (user .0) next entry b
-    → after ≡ applied (user .0) (enters (accountAdvanced run (paid .0) a) (advanceEntry (a .«open_year») run paid)) b
+pub run-booked : (b : List ℕ) (user : RecordIndex) (a : Account) (year run : ℕ) (paid : Ticks) (first : RecordIndex)
+    → first ≡ recordIndex (firstEntryOf b (user .0)) → (booked : ℕ) → booked ≡ bookedIn a year → (entry : List ℕ)
+    → entry ≡ advanceImage (record { next = first; run = run; year = year; ticks = paid; owner = user; booked = booked }) → (next : Account)
+    → next ≡ accountAdvanced year run (paid .0) a → (after : List ℕ) → after ≡ withEntry (user .0) next entry b
+    → after ≡ applied (user .0) (enters (accountAdvanced year run (paid .0) a) (advanceEntry year (bookedIn a year) run paid)) b
 unfolding applied entryImage
-run-booked b user a run paid first f entry e next n after w = rw (w, n, e, f)
+run-booked b user a year run paid first f booked k entry e next n after w = rw (w, n, e, f, k)

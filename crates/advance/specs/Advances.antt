@@ -6,6 +6,7 @@ use lib.Dec.{eqb}
 use Rattle.units.specs.Units.{ticks}
 use Rattle.units.specs.declared.Ticks.{Ticks}
 use Rattle.accounts.specs.declared.Account.{Account}
+use Rattle.accounts.specs.Account.{runsIn, advancesIn}
 use Rattle.calls.specs.Refusals.{userAt}
 use Rattle.calls.specs.Changes.{runAmount}
 use Rattle.answers.specs.Rooms.{EntryFits}
@@ -15,7 +16,8 @@ unfoldable pub ticksAnswered : List ℕ → ℕ → ℕ → ℕ → ℕ → ℕ 
 ticksAnswered b number year run rate estimate1 estimate2 refusal = ticks (cond (eqb refusal 0) (runAmount (userAt b number) year run rate estimate1 estimate2) 0)
 
 -- the run of the user i, whose account is a, fits into the account and its entry into the book
-pub record RunFits (b : List ℕ) (i : ℕ) (a : Account) (run paid : ℕ) : Type 0 where
+pub record RunFits (b : List ℕ) (i : ℕ) (a : Account) (year run paid : ℕ) : Type 0 where
   pub entry : EntryFits b i a
-  pub runs : a .runs + run ≤ 7
-  pub advances : a .advances .0 + paid < 2 ^ 64
+  pub year-below : year < 2 ^ 16
+  pub runs : runsIn year a + run ≤ 7
+  pub advances : advancesIn year a + paid < 2 ^ 64

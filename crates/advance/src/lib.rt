@@ -1,12 +1,13 @@
 // Advances (document 01, "Election and advances"): refusals 1 2 6 9 10 3, then the run's entry in front of the user's chain.
 ghost use mathlib.Core.Path.{_≡_};
 ghost use mathlib.Core.Bool.{true, cond};
+ghost use Prim.Native.Nat.{_<_, _^_};
 ghost use lib.Dec.{eqb};
 ghost use Rattle.units.specs.Units.{ticks};
 ghost use Rattle.book.specs.Book.{halvesFit};
 ghost use Rattle.accounts.specs.Account.{accountAdvanced};
 ghost use Rattle.records.specs.Entries.{advanceEntry};
-ghost use Rattle.calls.specs.Changes.{enters, applied, runAmount};
+ghost use Rattle.calls.specs.Changes.{enters, applied, bookedIn, runAmount};
 ghost use Rattle.calls.specs.Refusals.{orderFits};
 ghost use Rattle.calls.specs.Calls.{advance};
 ghost use Rattle.answers.specs.Answers.{Answered};
@@ -37,30 +38,55 @@ fn half_or_estimate(a: Account, half: Kwh, estimate: WideKwh) -> WideKwh
     }
 }
 
-// What a run of the open year pays.
-fn run_amount(a: Account, run: u8, price: Rate, estimate1: WideKwh, estimate2: WideKwh) -> Ticks
-    requires { ⌜ halvesFit a ≡ true ⌝ }
+// What a run of a year pays.
+fn run_amount(
+    a: Account,
+    year: u32,
+    run: u8,
+    price: Rate,
+    estimate1: WideKwh,
+    estimate2: WideKwh,
+) -> Ticks
+    requires { ⌜ (year < 2 ^ 16) × (halvesFit a ≡ true) ⌝ }
     requires { ⌜ orderFits (price .0) (estimate1 .0) (estimate2 .0) ≡ true ⌝ }
-    ensures { λ r. ⌜ r ≡ ticks (runAmount a (a .«open_year») run (price .0) (estimate1 .0) (estimate2 .0)) ⌝ }
+    ensures { λ r. ⌜ r ≡ ticks (runAmount a year run (price .0) (estimate1 .0) (estimate2 .0)) ⌝ }
 {
     let first = half_or_estimate(a, a.half1, estimate1);
     let second = half_or_estimate(a, a.half2, estimate2);
-    calendar::amount_of(book::halves_of(a, run), price, first, second)
+    calendar::amount_of(
+        refusals::halves_in(a, year as u16, run),
+        price,
+        first,
+        second,
+    )
+}
+
+// An entry of the later year notes the year that is open when it is booked.
+fn booked_in(a: Account, year: u32) -> u16
+    ensures { λ r. ⌜ r ≡ bookedIn a year ⌝ }
+{
+    if year == a.open_year as u32 {
+        0
+    } else {
+        a.open_year
+    }
 }
 
 // "Each run adds one entry, joins the advances field and sets its bit."
-fn book_run(book: &mut [u8], user: RecordIndex, account: Account, run: u8, paid: Ticks)
-    requires { ⌜ RunFits (now book) (user .0) account run (paid .0) ⌝ }
-    ensures { λ _. ⌜ now (book .exit) ≡ applied (user .0) (enters (accountAdvanced run (paid .0) account) (advanceEntry (account .«open_year») run paid)) (now (book .entry)) ⌝ }
+fn book_run(book: &mut [u8], user: RecordIndex, account: Account, year: u32, run: u8, paid: Ticks)
+    requires { ⌜ RunFits (now book) (user .0) account year run (paid .0) ⌝ }
+    ensures { λ _. ⌜ now (book .exit) ≡ applied (user .0) (enters (accountAdvanced year run (paid .0) account) (advanceEntry year (bookedIn account year) run paid)) (now (book .entry)) ⌝ }
 {
+    let named = year as u16;
     let entry = records::advance_image(AdvanceRecord {
         next: view::first_entry_of(book, user),
         run,
-        year: account.open_year,
+        year: named,
         ticks: paid,
         owner: user,
+        booked: booked_in(account, year),
     });
-    writers::write_entry(book, user, account.advanced(run, paid), entry);
+    writers::write_entry(book, user, account.advanced(year, run, paid), entry);
 }
 
 pub fn advance(
@@ -107,8 +133,8 @@ pub fn advance(
             ticks: Ticks(0),
         };
     }
-    let paid = run_amount(account, run, price, estimate1, estimate2);
-    book_run(book, user, account, run, paid);
+    let paid = run_amount(account, year, run, price, estimate1, estimate2);
+    book_run(book, user, account, year, run, paid);
     let reply = Reply {
         refusal: 0,
         record: RecordIndex(0),

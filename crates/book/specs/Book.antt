@@ -11,7 +11,7 @@ use Rattle.calendar.specs.declared.Halves.{Halves}
 use Rattle.calendar.specs.ElectionAndAdvances.{june, october, january, halvesPaid, due, halvesCount}
 use Rattle.values.specs.declared.Details.{Details}
 use Rattle.accounts.specs.declared.Account.{Account}
-use Rattle.layout.specs.Fields.{Field, get, allZero, unnamedOfHead, unnamedOfUser, unnamedOfAdvance, unnamedOfClosing, recordAt, capacity, recordLength, usedField, firstUserField, nextField, kindField, userKind, numberField, firstEntryField, activationYearField, openYearField, advanceKind, closingKind, yearField, ownerField}
+use Rattle.layout.specs.Fields.{Field, get, allZero, unnamedOfHead, unnamedOfUser, unnamedOfAdvance, unnamedOfClosing, recordAt, capacity, recordLength, usedField, firstUserField, nextField, kindField, userKind, numberField, firstEntryField, activationYearField, openYearField, advanceKind, closingKind, yearField, bookedField, ownerField}
 use Rattle.records.specs.declared.AdvanceRecord.{AdvanceRecord}
 use Rattle.records.specs.declared.ClosingRecord.{ClosingRecord}
 use Rattle.records.specs.Records.{accountIn, advanceIn, closingIn}
@@ -75,8 +75,11 @@ openYearFits a = within (a .details .year) lastOpenYear (a .«open_year»)
 unfoldable pub halvesOf : Account → ℕ → Halves
 halvesOf a run = halvesPaid (a .details .year) (a .details .month) (a .«open_year») run
 
-unfoldable pub runMade : Account → ℕ → Bool
-runMade a run = eqb (a .runs / run % 2) 1
+unfoldable pub isMade : ℕ → ℕ → Bool
+isMade runs run = eqb (runs / run % 2) 1
+
+abbrev pub runMade : Account → ℕ → Bool
+runMade a run = isMade (a .runs) run
 
 unfoldable pub dueIfMade : Account → ℕ → Bool
 dueIfMade a run = not (runMade a run) || due (halvesOf a run)
@@ -90,6 +93,14 @@ halvesMade a run = cond (runMade a run) (halvesCount (halvesOf a run)) 0
 
 unfoldable pub advancesFit : Account → Bool
 advancesFit a = leb (a .advances .0) (maxHalfTicks * (halvesMade a june + halvesMade a october + halvesMade a january))
+
+-- The same of the later year (ticket 6), which is never the activation year: June pays its first half and October its second, so
+-- that its runs are 0 to 3, and its advances at most 1.8·10^14 for each.
+unfoldable pub laterHalf : Account → ℕ → ℕ
+laterHalf a run = cond (isMade (a .«later_runs») run) 1 0
+
+unfoldable pub laterFits : Account → Bool
+laterFits a = leb (a .«later_runs») 3 && leb (a .«later_advances» .0) (maxHalfTicks * (laterHalf a june + laterHalf a october))
 
 -- "Credit is at most 3.6·10^14 times the closed years": those from which a user's credit can come, before a year
 abbrev pub spanOf : Account → ℕ → ℕ
@@ -106,9 +117,9 @@ halvesFit a = leb (a .half1 .0) maxHalfKwh && leb (a .half2 .0) maxHalfKwh
 unfoldable pub accountFits : Account → Bool
 accountFits a =
     (not (eqb (a .number .0) 0) && (detailsFit (a .details) (a .option) && openYearFits a))
-    && ((runsFit a && advancesFit a) && (creditFits a && halvesFit a))
+    && (((runsFit a && advancesFit a) && laterFits a) && (creditFits a && halvesFit a))
 
--- "year (from the owner's activation to its open year)"
+-- "year (from the owner's activation to its open year)", of an advance of the later year the year in which it was booked (ticket 6)
 unfoldable pub yearFits : Account → ℕ → Bool
 yearFits owner year = within (owner .details .year) (owner .«open_year») year
 
@@ -116,8 +127,16 @@ yearFits owner year = within (owner .details .year) (owner .«open_year») year
 unfoldable pub isRun : ℕ → Bool
 isRun run = (eqb run june || eqb run october) || eqb run january
 
+-- An advance of the later year notes the year that was open when it was booked, the one before its own.
+unfoldable pub levelFrom : ℕ → ℕ → ℕ
+levelFrom year booked = cond (eqb booked 0) year booked
+
+unfoldable pub bookedFits : ℕ → ℕ → Bool
+bookedFits year booked = eqb booked 0 || eqb (booked + 1) year
+
 unfoldable pub advanceFits : Account → AdvanceRecord → Bool
-advanceFits owner a = yearFits owner (a .year) && (isRun (a .run) && leb (a .ticks .0) maxYearTicks)
+advanceFits owner a =
+    (yearFits owner (levelFrom (a .year) (a .booked)) && bookedFits (a .year) (a .booked)) && (isRun (a .run) && leb (a .ticks .0) maxYearTicks)
 
 -- "balance from −3.6·10^14 to 1.08·10^15" (in two's complement −x is 2^64 − x)
 unfoldable pub balanceFits : ℕ → Bool
@@ -206,11 +225,13 @@ unfoldable pub pointedOnce : List ℕ → ℕ → Bool
 pointedOnce b i = eqb (pointersTo b i) 1
 
 -- "A user's first entry is an advance of the open year or the closing of the year before, or 0 if no year is closed. After
--- an entry of year y stands an advance of y, or the closing of y − 1, or 0 if y is the activation year." The LEVEL of an entry
--- is the year that was open when it was booked: today its own year. An advance keeps that year open, a closing ends it; e is
--- what stands where entries of level y may follow.
+-- an entry of year y stands an advance of y, or the closing of y − 1, or 0 if y is the activation year." With two open years "the
+-- chain rules let advances of both years stand mixed, so that some of the later year are older entries than the earlier closing"
+-- (ticket 6): the rules go by the LEVEL of an entry, the year that was open when it was booked. It is that which an advance notes;
+-- else, and of a closing always, its year. An advance keeps that year open, a closing ends it; e is what stands where entries of
+-- level y may follow.
 unfoldable pub levelIn : List ℕ → ℕ
-levelIn r = get yearField r
+levelIn r = cond (eqb (get kindField r) closingKind) (get yearField r) (levelFrom (get yearField r) (get bookedField r))
 
 unfoldable pub levelOf : List ℕ → ℕ → ℕ
 levelOf b e = levelIn (recordAt b e)

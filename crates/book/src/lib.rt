@@ -4,7 +4,7 @@ ghost use mathlib.Core.Bool.{_&&_};
 ghost use Prim.Native.Nat.{_-_, _*_, _≤_, _<_};
 ghost use lib.Dec.{leb};
 ghost use Rattle.units.specs.Limits.{maxYearTicks};
-ghost use Rattle.book.specs.Book.{lengthFits, detailsFit, openYearFits, halvesOf, runMade, dueIfMade, runsFit, halvesMade, advancesFit, creditFits, halvesFit, accountFits, isRun, advanceFits, balanceFits, closingFits, entryRanges, unnamedOf, entryKind, levelIn, yearsEnded, within};
+ghost use Rattle.book.specs.Book.{lengthFits, detailsFit, openYearFits, halvesOf, isMade, dueIfMade, runsFit, halvesMade, advancesFit, laterHalf, laterFits, creditFits, halvesFit, accountFits, isRun, levelFrom, bookedFits, advanceFits, balanceFits, closingFits, entryRanges, unnamedOf, entryKind, levelIn, yearsEnded, within};
 ghost use Rattle.layout.specs.Fields.{recordLength, get, kindField, allZero, unnamedOfUser};
 ghost use lib.ListN.{length};
 ghost use Rattle.records.specs.Records.{accountIn};
@@ -83,19 +83,19 @@ pub fn halves_of(a: Account, run: u8) -> Halves
     calendar::halves_paid(a.details.year, a.details.month, a.open_year, run)
 }
 
-// Whether a run of the open year is booked.
-pub fn run_made(a: Account, run: u8) -> bool
+// Whether a run is among those made of a year.
+pub fn is_made(runs: u8, run: u8) -> bool
     requires { ⌜ 0 < run ⌝ }
-    ensures { λ r. ⌜ r ≡ runMade a run ⌝ }
+    ensures { λ r. ⌜ r ≡ isMade runs run ⌝ }
 {
-    a.runs / run % 2 == 1
+    runs / run % 2 == 1
 }
 
 fn due_if_made(a: Account, run: u8) -> bool
     requires { ⌜ 0 < run ⌝ }
     ensures { λ r. ⌜ r ≡ dueIfMade a run ⌝ }
 {
-    !run_made(a, run) | calendar::due(halves_of(a, run))
+    !is_made(a.runs, run) | calendar::due(halves_of(a, run))
 }
 
 fn runs_fit(a: Account) -> bool
@@ -108,7 +108,7 @@ fn halves_made(a: Account, run: u8) -> u64
     requires { ⌜ 0 < run ⌝ }
     ensures { λ r. ⌜ (r ≡ halvesMade a run) × (r ≤ 2) ⌝ }
 {
-    if run_made(a, run) {
+    if is_made(a.runs, run) {
         calendar::halves_count(halves_of(a, run))
     } else {
         0
@@ -120,6 +120,21 @@ fn advances_fit(a: Account) -> bool
 {
     let halves = halves_made(a, JUNE) + halves_made(a, OCTOBER) + halves_made(a, JANUARY);
     a.advances.0 <= MAX_HALF * halves
+}
+
+// A run of the later year pays one half.
+fn later_half(a: Account, run: u8) -> u64
+    requires { ⌜ 0 < run ⌝ }
+    ensures { λ r. ⌜ (r ≡ laterHalf a run) × (r ≤ 1) ⌝ }
+{
+    if is_made(a.later_runs, run) { 1 } else { 0 }
+}
+
+fn later_fits(a: Account) -> bool
+    ensures { λ r. ⌜ r ≡ laterFits a ⌝ }
+{
+    let halves = later_half(a, JUNE) + later_half(a, OCTOBER);
+    (a.later_runs <= 3) & (a.later_advances.0 <= MAX_HALF * halves)
 }
 
 // Where no run is made nothing is paid.
@@ -170,7 +185,7 @@ fn account_fits(a: Account) -> bool
 {
     let details = !(a.number.0 == 0) & (details_fit(a.details, a.option) & open_year_fits(a));
     if details & (credit_fits(a) & halves_fit(a)) {
-        paid_fits(a)
+        paid_fits(a) & later_fits(a)
     } else {
         false
     }
@@ -189,10 +204,24 @@ pub fn is_run(run: u8) -> bool
     (run == JUNE) | (run == OCTOBER) | (run == JANUARY)
 }
 
+fn level_from(year: u16, booked: u16) -> u16
+    ensures { λ r. ⌜ r ≡ levelFrom year booked ⌝ }
+{
+    if booked == 0 { year } else { booked }
+}
+
+fn booked_fits(year: u16, booked: u16) -> bool
+    ensures { λ r. ⌜ r ≡ bookedFits year booked ⌝ }
+{
+    (booked == 0) | (booked as u32 + 1 == year as u32)
+}
+
 fn advance_fits(activation: u16, open_year: u16, a: AdvanceRecord) -> bool
     ensures { λ r. ⌜ ((owner : Account) → owner .details .year ≡ activation → owner .«open_year» ≡ open_year → r ≡ advanceFits owner a) ⌝ }
 {
-    year_fits(activation, open_year, a.year) & (is_run(a.run) & (a.ticks.0 <= MAX_YEAR))
+    let level = level_from(a.year, a.booked);
+    let dated = year_fits(activation, open_year, level) & booked_fits(a.year, a.booked);
+    dated & (is_run(a.run) & (a.ticks.0 <= MAX_YEAR))
 }
 
 fn balance_fits(balance: Balance) -> bool
@@ -257,7 +286,12 @@ pub fn is_entry_kind(kind: u8) -> bool
 pub fn level_of(r: &[u8]) -> u16
     ensures { λ n. ⌜ n ≡ levelIn (now (r .entry)) ⌝ }
 {
-    layout::year_of(r)
+    let year = layout::year_of(r);
+    if layout::kind_of(r) == CLOSING {
+        year
+    } else {
+        level_from(year, layout::booked_of(r))
+    }
 }
 
 // The years that an entry ends: a closing its own, any other entry none.

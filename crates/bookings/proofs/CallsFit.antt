@@ -79,7 +79,7 @@ module _ (b : List ℕ) (g : Good b) where
       let accepted = fact b (advance n y r p e₁ e₂) h in
       let user = named-user b n (accepted 6) .user in
       let k = run-booked (userAt b n) y r p e₁ e₂ (fits-at (findUser b n) user) (accepted 9) (accepted 10) in
-      an-entry user (advanced-same (userAt b n) r _) (k .fits) (room b g (accepted 3)) (k .joins)
+      an-entry user (advanced-same (userAt b n) y r _) (k .fits) (room b g (accepted 3)) (k .joins)
   call-fits (close s) t h =
       let accepted = fact b (close s) h in
       let n = sheetUser s in

@@ -1,4 +1,4 @@
--- An advance of the open year and a closing of it, at the front of their user's chain: the record is good, and with it the
+-- An advance booked in the open year and a closing of it, at the front of their user's chain: the record is good, and with it the
 -- book.
 use Prim.Native.Nat.{ℕ, _+_, _^_, _≤_, _<_}
 use mathlib.Core.Path.{_≡_, sym, _∙_}
@@ -14,7 +14,7 @@ use Rattle.layout.proofs.ByteRanges.{field-below}
 use Rattle.records.specs.declared.AdvanceRecord.{AdvanceRecord}
 use Rattle.records.specs.declared.ClosingRecord.{ClosingRecord}
 use Rattle.records.specs.Records.{advanceImage, closingImage}
-use Rattle.book.specs.Book.{used, firstUser, accountFits, advanceFits, closingFits, accountAt, isUser, isAdvance, isClosing, firstEntryOf, levelOf, openYearOf, activationOf, inOrder, kindAt, entryRanges, zeroBytesFit, unnamedOf, isEntry}
+use Rattle.book.specs.Book.{used, firstUser, accountFits, advanceFits, closingFits, accountAt, isUser, isAdvance, isClosing, firstEntryOf, levelFrom, levelOf, openYearOf, activationOf, inOrder, kindAt, entryRanges, zeroBytesFit, unnamedOf, isEntry}
 use Rattle.book.proofs.RecordKinds.{kind-index, advance-entry, closing-entry}
 use Rattle.book.proofs.Faultless.{EntryGood, entry-ranges}
 use Rattle.bookings.proofs.Bools.{or-first, or-second}
@@ -28,7 +28,7 @@ use Rattle.bookings.proofs.RecordsKept.{an-entry}
 use Rattle.bookings.proofs.Entries.{NewEntry, Entered, entered-user, entry-links, entered}
 use Rattle.bookings.proofs.Grown.{new-kind}
 
--- where an entry of the user i stands: before its first entry, in its open year
+-- where an entry of the user i stands: before its first entry, its level the open year
 pub record InFront (b : List ℕ) (i next owner year : ℕ) : Type 0 where
   pub next-is : next ≡ firstEntryOf b i
   pub owner-is : owner ≡ i
@@ -59,8 +59,8 @@ module _ (b b′ : List ℕ) (i : ℕ) (a : Account) (g : Good b) (h : isUser b 
   index-below : i < 2 ^ 32
   index-below = let s = sizes b g in omega (arith, kind-index b userKind i h .1 .0, s .most, s .to)
 
-  -- an advance of the open year, which stays open
-  module _ (x : AdvanceRecord) (front : InFront b i (x .next .0) (x .owner .0) (x .year)) (ranges : advanceFits a x ≡ true)
+  -- an advance booked in the open year, which stays open
+  module _ (x : AdvanceRecord) (front : InFront b i (x .next .0) (x .owner .0) (levelFrom (x .year) (x .booked))) (ranges : advanceFits a x ≡ true)
       (year : a .«open_year» ≡ openYearOf b i) (e : EntryAdded b b′ i a (advanceImage x)) where
     advance : AdvanceAt b′ (used b) x
     advance =
@@ -73,7 +73,7 @@ module _ (b b′ : List ℕ) (i : ℕ) (a : Account) (g : Good b) (h : isUser b 
     new-advance : NewEntry b b′ i a
     new-advance =
         let s = sizes b g in
-        let entry = entry-in-front b b′ i (x .next .0) (x .owner .0) (x .year) front (advance .entry) in
+        let entry = entry-in-front b b′ i (x .next .0) (x .owner .0) (levelFrom (x .year) (x .booked)) front (advance .entry) in
         record {
           entry = entry;
           is-entry = advance-entry b′ (used b) is-advance;

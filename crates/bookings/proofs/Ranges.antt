@@ -8,7 +8,7 @@ use Rattle.units.proofs.Bools.{and-left, and-right, and-both}
 use Rattle.units.specs.Limits.{maxPower, firstActivation, lastActivation}
 use Rattle.values.specs.declared.Details.{Details}
 use Rattle.accounts.specs.declared.Account.{Account}
-use Rattle.book.specs.Book.{detailsFit, openYearFits, runsFit, advancesFit, creditFits, halvesFit, accountFits}
+use Rattle.book.specs.Book.{detailsFit, openYearFits, runsFit, advancesFit, laterFits, creditFits, halvesFit, accountFits}
 
 pub ruleset conjuncts = (and-left, and-right)
 
@@ -19,6 +19,7 @@ pub record AccountGood (a : Account) : Type 0 where
   pub openYear : openYearFits a ≡ true
   pub runs : runsFit a ≡ true
   pub advances : advancesFit a ≡ true
+  pub later : laterFits a ≡ true
   pub credit : creditFits a ≡ true
   pub halves : halvesFit a ≡ true
 
@@ -28,7 +29,7 @@ account-good a h = search conjuncts
 
 pub account-fits : (a : Account) → AccountGood a → accountFits a ≡ true
 unfolding accountFits
-account-fits a g = and-both (and-both (g .number) (and-both (g .details) (g .openYear))) (and-both (and-both (g .runs) (g .advances)) (and-both (g .credit) (g .halves)))
+account-fits a g = and-both (and-both (g .number) (and-both (g .details) (g .openYear))) (and-both (and-both (and-both (g .runs) (g .advances)) (g .later)) (and-both (g .credit) (g .halves)))
 
 -- the ranges of the details and the option
 pub record DetailsWithin (d : Details) (elected : ℕ) : Type 0 where

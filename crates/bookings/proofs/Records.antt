@@ -3,7 +3,7 @@ use Prim.Native.Nat.{ℕ}
 use mathlib.Core.Path.{_≡_, ap, _∙_}
 use mathlib.Core.Bool.{true}
 use mathlib.Core.List.{List}
-use Rattle.layout.specs.Fields.{get, allZero, unnamedOfUser, unnamedOfAdvance, unnamedOfClosing, recordAt, userKind, advanceKind, closingKind, nextField, kindField, numberField, firstEntryField, activationYearField, openYearField, yearField, ownerField}
+use Rattle.layout.specs.Fields.{get, allZero, unnamedOfUser, unnamedOfAdvance, unnamedOfClosing, recordAt, userKind, advanceKind, closingKind, nextField, kindField, numberField, firstEntryField, activationYearField, openYearField, ownerField}
 use Rattle.records.specs.declared.UserRecord.{UserRecord}
 use Rattle.records.specs.declared.AdvanceRecord.{AdvanceRecord}
 use Rattle.records.specs.declared.ClosingRecord.{ClosingRecord}
@@ -11,7 +11,7 @@ use Rattle.records.specs.Records.{userImage, advanceImage, closingImage, accoun
 use Rattle.records.proofs.Users.{UserFits, user-reads, user-back, user-unnamed}
 use Rattle.records.proofs.Advances.{AdvanceFits, advance-reads, advance-back, advance-unnamed}
 use Rattle.records.proofs.Closings.{ClosingFits, closing-reads, closing-back, closing-unnamed}
-use Rattle.book.specs.Book.{kindAt, nextOf, firstEntryOf, numberOf, activationOf, openYearOf, accountAt, ownerOf, levelIn, levelOf}
+use Rattle.book.specs.Book.{kindAt, nextOf, firstEntryOf, numberOf, activationOf, openYearOf, accountAt, ownerOf, levelFrom, levelIn, levelOf}
 
 -- the user u stands at index i of b
 pub record UserAt (b : List ℕ) (i : ℕ) (u : UserRecord) : Type 0 where
@@ -39,7 +39,7 @@ user-at b i u e h =
       unnamed = ap (allZero unnamedOfUser) e ∙ user-unnamed u;
     }
 
--- what an entry of either kind reads: its next, its owner and its year
+-- what an entry of either kind reads: its next, its owner and its level
 pub record EntryAt (b : List ℕ) (i next owner year : ℕ) : Type 0 where
   pub next-is : nextOf b i ≡ next
   pub owner-is : ownerOf b i ≡ owner
@@ -47,7 +47,7 @@ pub record EntryAt (b : List ℕ) (i next owner year : ℕ) : Type 0 where
 
 pub record AdvanceAt (b : List ℕ) (i : ℕ) (a : AdvanceRecord) : Type 0 where
   pub kind : kindAt b i ≡ advanceKind
-  pub entry : EntryAt b i (a .next .0) (a .owner .0) (a .year)
+  pub entry : EntryAt b i (a .next .0) (a .owner .0) (levelFrom (a .year) (a .booked))
   pub advance : advanceIn (recordAt b i) ≡ a
   pub unnamed : allZero unnamedOfAdvance (recordAt b i) ≡ true
 
@@ -57,7 +57,12 @@ advance-at b i a e h =
     let r = advance-reads a h in
     record {
       kind = ap (get kindField) e ∙ r .kind;
-      entry = record { next-is = ap (get nextField) e ∙ r .next; owner-is = ap (get ownerField) e ∙ r .owner; year-is = ap (get yearField) e ∙ r .year };
+      entry =
+          record {
+            next-is = ap (get nextField) e ∙ r .next;
+            owner-is = ap (get ownerField) e ∙ r .owner;
+            year-is = ap levelIn e ∙ rw (r .kind, r .year, r .booked);
+          };
       advance = ap advanceIn e ∙ advance-back a h;
       unnamed = ap (allZero unnamedOfAdvance) e ∙ advance-unnamed a;
     }
@@ -74,7 +79,12 @@ closing-at b i c e h =
     let r = closing-reads c h in
     record {
       kind = ap (get kindField) e ∙ r .kind;
-      entry = record { next-is = ap (get nextField) e ∙ r .next; owner-is = ap (get ownerField) e ∙ r .owner; year-is = ap (get yearField) e ∙ r .year };
+      entry =
+          record {
+            next-is = ap (get nextField) e ∙ r .next;
+            owner-is = ap (get ownerField) e ∙ r .owner;
+            year-is = ap levelIn e ∙ rw (r .kind, r .year);
+          };
       closing = ap closingIn e ∙ closing-back c h;
       unnamed = ap (allZero unnamedOfClosing) e ∙ closing-unnamed c;
     }

@@ -14,7 +14,7 @@ use Rattle.layout.specs.Fields.{get, kindField, recordAt, userKind, advanceKind
 use Rattle.records.specs.declared.AdvanceRecord.{AdvanceRecord}
 use Rattle.records.specs.declared.ClosingRecord.{ClosingRecord}
 use Rattle.records.specs.Records.{accountIn, advanceIn, closingIn}
-use Rattle.book.specs.Book.{isUser, isAdvance, isClosing, isEntry, nextOf, firstEntryOf, ownerOf, accountAt, activationOf, openYearOf, levelOf, yearFits, isRun, advanceFits, balanceFits, closingFits, entryRanges, userNextFits, numberIsNew, firstEntryFits, entryNextFits, ownerFits, inOrder, firstInOrder, nextInOrder}
+use Rattle.book.specs.Book.{isUser, isAdvance, isClosing, isEntry, nextOf, firstEntryOf, ownerOf, accountAt, activationOf, openYearOf, levelOf, yearFits, isRun, levelFrom, bookedFits, advanceFits, balanceFits, closingFits, entryRanges, userNextFits, numberIsNew, firstEntryFits, entryNextFits, ownerFits, inOrder, firstInOrder, nextInOrder}
 use Rattle.book.proofs.RecordKinds.{kind-index, user-index, advance-entry, closing-entry, entry-index}
 use Rattle.book.proofs.Faultless.{owner-before}
 use Rattle.bookings.proofs.Bools.{or-stays, and-stays, cond-stays}
@@ -34,7 +34,11 @@ year-later o p year same later h =
 advance-later : (o p : Account) (a : AdvanceRecord) → p .details .year ≡ o .details .year → o .«open_year» ≤ p .«open_year»
     → advanceFits o a ≡ true → advanceFits p a ≡ true
 unfolding advanceFits
-advance-later o p a same later h = and-stays (yearFits o (a .year)) (isRun (a .run) && leb (a .ticks .0) maxYearTicks) (year-later o p (a .year) same later) (λ e. e) h
+advance-later o p a same later h =
+    let level = levelFrom (a .year) (a .booked) in
+    let noted = bookedFits (a .year) (a .booked) in
+    and-stays (yearFits o level && noted) (isRun (a .run) && leb (a .ticks .0) maxYearTicks)
+    (and-stays (yearFits o level) noted (year-later o p level same later) (λ e. e)) (λ e. e) h
 
 -- the ranges of a closing's sums, by its owner's activation
 abbrev sumsFit : ℕ → ClosingRecord → Bool

@@ -3,12 +3,12 @@ use Prim.Native.Nat.{ℕ, _+_, _/_, _%_, _≤_, _<_}
 use mathlib.Core.Path.{_≡_, refl, sym, ap, subst}
 use mathlib.Core.Bool.{Bool, true, false, cond, _&&_, true≢false}
 use native.Mathlib.Omega.{arith}
-use borrow.Author.Tests.{eqb-true, eqb-false, eq-eqb}
+use borrow.Author.Tests.{eqb-true, eqb-false, eq-eqb, ne-eqb}
 use lib.Dec.{leb, eqb}
 use Rattle.units.proofs.Bools.{cond-capped}
 use Rattle.calendar.specs.ElectionAndAdvances.{june, october, january, halves, halvesPaid, halvesCount}
 use Rattle.accounts.specs.declared.Account.{Account}
-use Rattle.book.specs.Book.{halvesOf, runMade, halvesMade, isRun}
+use Rattle.book.specs.Book.{halvesOf, isMade, runMade, halvesMade, isRun}
 
 -- the halves of the three runs of a year
 two-halves-by : (mid late none : Bool)
@@ -29,6 +29,11 @@ two-halves : (activation month year : ℕ)
 unfolding halvesPaid
 two-halves activation month year =
     two-halves-by (eqb year activation && (leb 3 month && leb month 8)) (eqb year activation && (leb 9 month && leb month 11)) (eqb year activation && eqb month 12)
+
+-- in a year that is not the activation year June pays the first half, October the second, and January none
+pub other-year : (activation month year run : ℕ) → (year ≡ activation → ⊥) → halvesPaid activation month year run ≡ halves (eqb run june) (eqb run october)
+unfolding halvesPaid
+other-year activation month year run other = rw (ne-eqb year activation other)
 
 -- a run that is not made pays nothing
 made-at-most : (a : Account) (run : ℕ) → halvesMade a run ≤ halvesCount (halvesOf a run)
@@ -60,20 +65,23 @@ is-run run h = by-june (eqb run june) refl
 
 -- the bit of a run in the runs made
 abbrev bit : ℕ → ℕ → Bool
-bit n run = eqb (n / run % 2) 1
+bit n run = isMade n run
 
 pub bits-below : {run : ℕ} → Run run → (n : ℕ) → n < 8 → bit n run ≡ false → n + run < 8
+unfolding isMade
 bits-below June n l h = let out = eqb-false (n / june % 2) 1 h in omega arith
 bits-below October n l h = let out = eqb-false (n / october % 2) 1 h in omega arith
 bits-below January n l h = let out = eqb-false (n / january % 2) 1 h in omega arith
 
 -- a bit that joins is set, and the others stay
 bit-set : {run : ℕ} → Run run → (n : ℕ) → n < 8 → bit n run ≡ false → (n + run) / run % 2 ≡ 1
+unfolding isMade
 bit-set June n l h = let out = eqb-false (n / june % 2) 1 h in omega arith
 bit-set October n l h = let out = eqb-false (n / october % 2) 1 h in omega arith
 bit-set January n l h = let out = eqb-false (n / january % 2) 1 h in omega arith
 
 bit-stays : {run other : ℕ} → Run run → Run other → (n : ℕ) → n < 8 → bit n run ≡ false → eqb run other ≡ false → (n + run) / other % 2 ≡ n / other % 2
+unfolding isMade
 bit-stays June June n l h d = absurd (true≢false d)
 bit-stays June October n l h d =
     let out = eqb-false (n / june % 2) 1 h in
@@ -94,6 +102,7 @@ bit-stays January October n l h d = let out = eqb-false (n / january % 2) 1 h in
 bit-stays January January n l h d = absurd (true≢false d)
 
 pub bit-joins : {run other : ℕ} → Run run → Run other → (n : ℕ) → n < 8 → bit n run ≡ false → bit (n + run) other ≡ cond (eqb run other) true (bit n other)
+unfolding isMade
 bit-joins {run} {other} r s n l h = by-value (eqb run other) refl
   where
     by-value : (t : Bool) → eqb run other ≡ t → bit (n + run) other ≡ cond (eqb run other) true (bit n other)

@@ -1,9 +1,11 @@
 -- What fits its ranges fits its bytes: the widths of a user, an advance and a closing that a booking writes.
 use Prim.Native.Nat.{ℕ, _+_, _-_, _*_, _^_, _≤_, _<_}
-use mathlib.Core.Path.{_≡_}
-use mathlib.Core.Bool.{true}
+use mathlib.Core.Path.{_≡_, refl}
+use mathlib.Core.Bool.{Bool, true, false}
 use native.Mathlib.Omega.{arith}
-use borrow.Author.Tests.{leb-true, ltb-true}
+use borrow.Author.Tests.{leb-true, ltb-true, eqb-true}
+use lib.Dec.{leb, eqb}
+use Rattle.units.proofs.Bools.{and-right, cond-capped}
 use Rattle.units.specs.Units.{recordIndex}
 use Rattle.units.specs.Limits.{maxYearTicks, maxFlatRate, maxContribution, maxHalfTicks, maxHalfKwh, lastOpenYear}
 use Rattle.accounts.specs.declared.Account.{Account}
@@ -13,7 +15,7 @@ use Rattle.records.proofs.Users.{UserFits}
 use Rattle.records.proofs.Advances.{AdvanceFits}
 use Rattle.records.proofs.Closings.{ClosingFits}
 use Rattle.calendar.specs.ElectionAndAdvances.{june, october, january}
-use Rattle.book.specs.Book.{openYearFits, runsFit, advancesFit, creditFits, halvesFit, accountFits, halvesMade, yearFits, isRun, advanceFits, closingFits}
+use Rattle.book.specs.Book.{openYearFits, runsFit, advancesFit, laterHalf, laterFits, isMade, creditFits, halvesFit, accountFits, halvesMade, yearFits, isRun, levelFrom, bookedFits, advanceFits, closingFits}
 use Rattle.bookings.proofs.Ranges.{conjuncts, account-good, DetailsWithin, details-within}
 use Rattle.bookings.proofs.Runs.{made-two-halves, is-run, Run, June, October, January}
 
@@ -24,6 +26,8 @@ pub record AccountWithin (a : Account) : Type 0 where
   pub to : a .«open_year» ≤ lastOpenYear
   pub runs : a .runs < 8
   pub advances : a .advances .0 ≤ maxYearTicks
+  pub «later_runs» : a .«later_runs» ≤ 3
+  pub «later_advances» : a .«later_advances» .0 ≤ maxYearTicks
   pub credit : a .credit .0 ≤ maxYearTicks * (a .«open_year» - a .details .year)
   pub half1 : a .half1 .0 ≤ maxHalfKwh
   pub half2 : a .half2 .0 ≤ maxHalfKwh
@@ -34,12 +38,22 @@ advances-capped a h =
     let capped = leb-true (a .advances .0) (maxHalfTicks * (halvesMade a june + halvesMade a october + halvesMade a january)) h in
     omega (arith, made-two-halves a)
 
+later-capped : (a : Account) → laterFits a ≡ true → a .«later_advances» .0 ≤ maxYearTicks
+unfolding laterFits laterHalf
+later-capped a h =
+    let halves = laterHalf a june + laterHalf a october in
+    let capped = leb-true (a .«later_advances» .0) (maxHalfTicks * halves) (and-right (leb (a .«later_runs») 3) (leb (a .«later_advances» .0) (maxHalfTicks * halves)) h) in
+    let first : laterHalf a june ≤ 1 = cond-capped (isMade (a .«later_runs») june) (omega arith) (omega arith) in
+    let second : laterHalf a october ≤ 1 = cond-capped (isMade (a .«later_runs») october) (omega arith) (omega arith) in
+    omega arith
+
 pub account-within : (a : Account) → accountFits a ≡ true → AccountWithin a
-unfolding openYearFits runsFit creditFits halvesFit
+unfolding openYearFits runsFit laterFits creditFits halvesFit
 account-within a h =
     let g = account-good a h in
     let open-year = g .openYear in
     let runs = g .runs in
+    let later = g .later in
     let halves = g .halves in
     record {
       details = details-within (a .details) (a .option) (g .details);
@@ -47,6 +61,8 @@ account-within a h =
       to = search (conjuncts, leb-true);
       runs = search (conjuncts, ltb-true);
       advances = advances-capped a (g .advances);
+      «later_runs» = search (conjuncts, leb-true);
+      «later_advances» = later-capped a (g .later);
       credit = leb-true (a .credit .0) (maxYearTicks * (a .«open_year» - a .details .year)) (g .credit);
       half1 = search (conjuncts, leb-true);
       half2 = search (conjuncts, leb-true);
@@ -74,7 +90,21 @@ user-fits next first a hn hf number h =
       advances = omega (arith, w .advances);
       half1 = omega (arith, w .half1);
       half2 = omega (arith, w .half2);
+      «later_runs» = omega (arith, w .«later_runs»);
+      «later_advances» = omega (arith, w .«later_advances»);
     }
+
+-- the level of an entry bounds its year and what it notes
+pub level-bounds : (year booked last : ℕ) → levelFrom year booked ≤ last → bookedFits year booked ≡ true → (year ≤ last + 1) × (booked ≤ last)
+unfolding levelFrom bookedFits
+level-bounds year booked last l h = by-note (eqb booked 0) refl
+  where
+    by-note : (t : Bool) → eqb booked 0 ≡ t → (year ≤ last + 1) × (booked ≤ last)
+    by-note true e = let none = eqb-true booked 0 e in let own : year ≤ last = rw e at l in (omega arith, omega arith)
+    by-note false e =
+        let noted : booked ≤ last = rw e at l in
+        let next = eqb-true (booked + 1) year (rw e at h) in
+        (omega arith, noted)
 
 -- an entry of an account that fits
 pub advance-widths : (owner : Account) (x : AdvanceRecord) → accountFits owner ≡ true → advanceFits owner x ≡ true → x .next .0 < 2 ^ 32 → x .owner .0 < 2 ^ 32
@@ -83,9 +113,18 @@ unfolding advanceFits yearFits
 advance-widths owner x account h next own =
     let w = account-within owner account in
     let run : isRun (x .run) ≡ true = search conjuncts in
-    let year : x .year ≤ owner .«open_year» = search (conjuncts, leb-true) in
+    let level : levelFrom (x .year) (x .booked) ≤ owner .«open_year» = search (conjuncts, leb-true) in
+    let noted : bookedFits (x .year) (x .booked) ≡ true = search conjuncts in
+    let years = level-bounds (x .year) (x .booked) (owner .«open_year») level noted in
     let paid : x .ticks .0 ≤ maxYearTicks = search (conjuncts, leb-true) in
-    record { next = next; run = run-below (is-run (x .run) run); year = omega (arith, w .to); ticks = omega arith; owner = own }
+    record {
+      next = next;
+      run = run-below (is-run (x .run) run);
+      year = omega (arith, w .to, years .0);
+      ticks = omega arith;
+      owner = own;
+      booked = omega (arith, w .to, years .1);
+    }
   where
     run-below : {run : ℕ} → Run run → run < 2 ^ 8
     run-below June = omega arith

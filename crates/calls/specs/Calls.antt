@@ -12,7 +12,7 @@ use Rattle.values.specs.YearsValues.{yearValues}
 use Rattle.accounts.specs.declared.Account.{Account}
 use Rattle.accounts.specs.Account.{accountElected, accountAdvanced, accountClosed, settled}
 use Rattle.records.specs.Entries.{advanceEntry, closingEntry}
-use Rattle.calls.specs.Changes.{Change, nothing, opens, sets, enters, applied, newAccount, runAmount}
+use Rattle.calls.specs.Changes.{Change, nothing, opens, sets, enters, applied, newAccount, bookedIn, runAmount}
 use Rattle.book.specs.Find.{findUser}
 use Rattle.calls.specs.Rules.{Rule, _unless_, refusedBy}
 use Rattle.calls.specs.Refusals.{Look, lookAt, numberFree, present, dayAndOption, electionOpen, runOpen, orderFits, yearOpen, userAt}
@@ -61,7 +61,7 @@ unfoldable pub changeOf : Account → Call → Change
 changeOf a (enrol n d o) = opens (newAccount n d o)
 changeOf a (elect n o y m d) = sets (accountElected o a)
 changeOf a (advance n y r p e₁ e₂) =
-    let paid = runAmount a y r p e₁ e₂ in enters (accountAdvanced r paid a) (advanceEntry y r (ticks paid))
+    let paid = runAmount a y r p e₁ e₂ in enters (accountAdvanced y r paid a) (advanceEntry y (bookedIn a y) r (ticks paid))
 changeOf a (close s) =
     let v = yearValues s (a .details) in enters (accountClosed v a) (closingEntry (a .«open_year») (a .option) (settled a v))
 changeOf a (statement n) = nothing

@@ -54,13 +54,20 @@ newAccount number d option =
       option = option;
       «open_year» = d .year;
       runs = 0;
+      «later_runs» = 0;
       credit = ticks 0;
       advances = ticks 0;
+      «later_advances» = ticks 0;
       half1 = kwh 0;
       half2 = kwh 0;
     }
 
--- "The amount is the rate times the last closed year's half, or times that half's estimate if no year is closed"
+-- the year that an entry of a run notes: none where it is the open one, else the year that is open when the run is booked (ticket 6)
+unfoldable pub bookedIn : Account → ℕ → ℕ
+bookedIn a year = cond (eqb year (a .«open_year»)) 0 (a .«open_year»)
+
+-- "The amount is the rate times the last closed year's half, or times that half's estimate if no year is closed". "For the later
+-- year's estimate, the last closed year still counts." (ticket 6)
 unfoldable pub runAmount : Account → ℕ → ℕ → ℕ → ℕ → ℕ → ℕ
 runAmount a year run rate estimate1 estimate2 =
     amountOf (halvesPaid (a .details .year) (a .details .month) year run) rate

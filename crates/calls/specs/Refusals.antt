@@ -1,13 +1,14 @@
 -- "Who brings which number" of document 01: what each refusal looks at.
-use Prim.Native.Nat.{ℕ}
-use mathlib.Core.Bool.{Bool, not, _&&_}
+use Prim.Native.Nat.{ℕ, _+_}
+use mathlib.Core.Bool.{Bool, not, _&&_, _||_}
 use mathlib.Core.List.{List}
 use lib.Dec.{leb, eqb}
 use Rattle.units.specs.Limits.{maxPrice, maxHalfKwh, lastActivation, lastOpenYear}
 use Rattle.calendar.specs.ElectionAndAdvances.{isDay, inWindow, due, halvesPaid}
 use Rattle.accounts.specs.declared.Account.{Account}
+use Rattle.accounts.specs.Account.{runsIn}
 use Rattle.layout.specs.Fields.{capacity}
-use Rattle.book.specs.Book.{used, isRun, runMade, accountAt}
+use Rattle.book.specs.Book.{used, isRun, isMade, accountAt}
 use Rattle.book.specs.Find.{findUser}
 
 -- "3 u equals the capacity."
@@ -43,11 +44,16 @@ dayAndOption option year month day = isDay year month day && leb option 1
 unfoldable pub electionOpen : Account → ℕ → ℕ → ℕ → Bool
 electionOpen a year month day = inWindow (a .«open_year») year month day && not (eqb (a .«open_year») lastOpenYear)
 
--- "9 year not open or above 2099, run no single bit, not due, or made."
+-- "An account may have two open years" (ticket 6): the open year and the one after it
+unfoldable pub isOpen : Account → ℕ → Bool
+isOpen a year = eqb year (a .«open_year») || eqb year (a .«open_year» + 1)
+
+-- "9 year not open or above 2099, run no single bit, not due, or made." "Refusal 9 now looks at both years": what is due and what was
+-- made is that of the year named (ticket 6).
 unfoldable pub runOpen : Account → ℕ → ℕ → Bool
 runOpen a year run =
-    ((eqb year (a .«open_year») && leb year lastActivation) && isRun run)
-    && (due (halvesPaid (a .details .year) (a .details .month) year run) && not (runMade a run))
+    ((isOpen a year && leb year lastActivation) && isRun run)
+    && (due (halvesPaid (a .details .year) (a .details .month) year run) && not (isMade (runsIn year a) run))
 
 -- "10 rate above 500,000 or an estimate above 360,000,000."
 unfoldable pub orderFits : ℕ → ℕ → ℕ → Bool

@@ -17,7 +17,7 @@ use Rattle.layout.specs.Fields.{recordAt}
 use Rattle.accounts.specs.declared.ClosingSums.{ClosingSums}
 use Rattle.records.specs.declared.ClosingRecord.{ClosingRecord}
 use Rattle.records.specs.Records.{advanceIn, closingIn}
-use Rattle.book.specs.Book.{within, isUser, isAdvance, isClosing, ownerOf, accountAt, accountFits, detailsFit, openYearFits, runsFit, advancesFit, creditFits, halvesFit, yearFits, isRun, advanceFits, balanceFits, closingFits}
+use Rattle.book.specs.Book.{within, isUser, isAdvance, isClosing, ownerOf, accountAt, accountFits, detailsFit, openYearFits, runsFit, advancesFit, laterFits, creditFits, halvesFit, yearFits, levelFrom, bookedFits, isRun, advanceFits, balanceFits, closingFits}
 use Rattle.book.proofs.Faultless.{Faultless}
 use Rattle.book.proofs.Faultless as book
 use Rattle.book.proofs.RecordKinds.{advance-entry, closing-entry}
@@ -55,7 +55,7 @@ unfolding accountFits openYearFits
 years-fit a h =
     let named = not (eqb (a .number .0) 0) in
     let years = detailsFit (a .details) (a .option) && openYearFits a in
-    let money = (runsFit a && advancesFit a) && (creditFits a && halvesFit a) in
+    let money = ((runsFit a && advancesFit a) && laterFits a) && (creditFits a && halvesFit a) in
     let both = and-right named years (and-left (named && years) money h) in
     let range = within-true (a .details .year) lastOpenYear (a .«open_year») (and-right (detailsFit (a .details) (a .option)) (openYearFits a) both) in
     record {
@@ -70,7 +70,7 @@ unfolding accountFits creditFits
 credit-of a h =
     let own = not (eqb (a .number .0) 0) && (detailsFit (a .details) (a .option) && openYearFits a) in
     let sums = creditFits a && halvesFit a in
-    let runs = runsFit a && advancesFit a in
+    let runs = (runsFit a && advancesFit a) && laterFits a in
     let y = years-fit a h in
     let first = y .activation in
     let last = y .latest in
@@ -132,5 +132,6 @@ module _ (b : List ℕ) (f : Faultless b) where
       let owner = accountAt b (ownerOf b e) in
       let r = advanceIn (recordAt b e) in
       let amount = leb (r .ticks .0) maxYearTicks in
+      let dated = yearFits owner (levelFrom (r .year) (r .booked)) && bookedFits (r .year) (r .booked) in
       leb-true (r .ticks .0) maxYearTicks
-      (and-right (isRun (r .run)) amount (and-right (yearFits owner (r .year)) (isRun (r .run) && amount) (book.advance-ranges b e (f .entry e (advance-entry b e a) .own) a)))
+      (and-right (isRun (r .run)) amount (and-right dated (isRun (r .run) && amount) (book.advance-ranges b e (f .entry e (advance-entry b e a) .own) a)))

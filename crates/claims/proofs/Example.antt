@@ -1,5 +1,5 @@
--- One list: an enrolment, an election, two closings and a call that is refused. It is one of those that the third demand is
--- about.
+-- One list: an enrolment, a run of the later year before a closing and one of the same year after it, an election, two closings
+-- and a call that is refused. It is one of those that the third demand is about.
 use Prim.Native.Nat.{ℕ, zero, suc}
 use mathlib.Core.Path.{_≡_, refl, subst}
 use mathlib.Core.Bool.{Bool, true, _&&_}
@@ -12,21 +12,21 @@ use Rattle.units.proofs.Bools.{and-left, and-right}
 use Rattle.units.specs.Folds.{sumBelow, allBelow, anyBelow}
 use Rattle.codec.specs.Bytes.{littleEndian, bytesOf, part, number, stored, zeros}
 use Rattle.tariff.specs.Tariff.{domestic, monthlyMethod, between, above, tiers, annualTiers, meanRate, tierRate, flatRateOf}
-use Rattle.calendar.specs.ElectionAndAdvances.{daysIn, isDay, notAfter, inWindow}
+use Rattle.calendar.specs.ElectionAndAdvances.{daysIn, isDay, notAfter, inWindow, halvesPaid, due, halvesCount, paidOf, amountOf}
 use Rattle.sheet.specs.YearSheet.{withdrawnReading, injectedReading, word, headerFits, lastWordsFit, formFits, refused11, limitAt, aboveLimit, unusedBand, strayBand, atFault, earliest, refused13, refused19, monthWithdrawn, refused14}
 use Rattle.prices.specs.ValueAndCost.{costIn, costOf, singlePrice, valueIn, valueOf}
 use Rattle.values.specs.YearsValues.{monthInjected, withdrawnOver, injectedOver, exchangedOver, monthExchanged, annualRate, annualFlatRate, flatRateOver, halfOf, yearValues}
-use Rattle.accounts.specs.Account.{accountElected, accountClosed, settled}
+use Rattle.accounts.specs.Account.{accountElected, runsIn, accountAdvanced, accountClosed, settled}
 use Rattle.accounts.specs.Closing.{contributionOf, liquidationOf, lapsedOf, creditAfter, balanceOf}
 use Rattle.layout.specs.Fields.{get, recordAt, putRecord, written, allZero}
-use Rattle.records.specs.Records.{headImage, userImage, closingImage, accountIn, closingIn}
-use Rattle.book.specs.Book.{lengthFits, freshBook, used, firstUser, usedFits, kindAt, hasKind, isEntry, detailsFit, openYearFits, runMade, dueIfMade, runsFit, halvesMade, advancesFit, creditFits, halvesFit, accountFits, yearFits, balanceFits, closingFits, ownerOf, rangesFit, zeroBytesFit, nextOf, firstEntryOf, numberOf, userNextFits, numberIsNew, firstEntryFits, entryNextFits, ownerFits, hits, pointersFrom, pointersTo, pointedOnce, levelOf, inOrder, activationOf, openYearOf, firstInOrder, nextInOrder, linksFit, goodRecord, goodHead, faulty, sound, entryKind, entryRanges, unnamedOf, levelIn}
-use Rattle.calls.specs.Changes.{newAccount, enrolledAs, withAccount, withEntry, applied}
+use Rattle.records.specs.Records.{headImage, userImage, advanceImage, closingImage, accountIn, advanceIn, closingIn}
+use Rattle.book.specs.Book.{lengthFits, freshBook, used, firstUser, usedFits, kindAt, hasKind, isEntry, detailsFit, openYearFits, halvesOf, isMade, dueIfMade, runsFit, halvesMade, advancesFit, laterHalf, laterFits, creditFits, halvesFit, accountFits, yearFits, isRun, levelFrom, bookedFits, advanceFits, balanceFits, closingFits, ownerOf, rangesFit, zeroBytesFit, nextOf, firstEntryOf, numberOf, userNextFits, numberIsNew, firstEntryFits, entryNextFits, ownerFits, hits, pointersFrom, pointersTo, pointedOnce, levelOf, inOrder, activationOf, openYearOf, firstInOrder, nextInOrder, linksFit, goodRecord, goodHead, faulty, sound, entryKind, entryRanges, unnamedOf, levelIn}
+use Rattle.calls.specs.Changes.{newAccount, enrolledAs, withAccount, withEntry, applied, bookedIn, runAmount}
 use Rattle.records.specs.Entries.{entryImage}
 use Rattle.book.specs.Find.{findBelow, findUser}
-use Rattle.calls.specs.Calls.{Call, enrol, elect, close, namedBy, rulesOf, refusalOf, changeOf, booked, bookAfter}
+use Rattle.calls.specs.Calls.{Call, enrol, elect, advance, close, namedBy, rulesOf, refusalOf, changeOf, booked, bookAfter}
 use Rattle.calls.specs.Rules.{refusedBy}
-use Rattle.calls.specs.Refusals.{lookAt, hasRoom, dayAndOption, electionOpen, yearOpen}
+use Rattle.calls.specs.Refusals.{lookAt, hasRoom, dayAndOption, electionOpen, isOpen, runOpen, orderFits, yearOpen}
 use Rattle.values.specs.declared.Details.{Details}
 use Rattle.soundness.specs.Verdicts.{freshAnswer, freshAfter}
 use Rattle.layout.proofs.ByteRanges.{Bytes}
@@ -56,15 +56,25 @@ months (suc n) = month ++ months n
 unfoldable pub sheetOf : ℕ → List ℕ
 sheetOf year = bytesOf 4 7 ++ (bytesOf 2 year ++ (replicate 26 0 ++ months 12))
 
+-- June's run of 2014 while 2013 is open, by the estimate, and October's once it is closed, by its half
+abbrev june-2014 : Call
+june-2014 = advance 7 2014 1 9000 4000 4000
+
+abbrev october-2014 : Call
+october-2014 = advance 7 2014 2 9000 0 0
+
 -- enrolled on credit, then liquidation is elected; the second enrolment of the number is refused with 4
 unfoldable pub calls : List Call
-calls = enrol 7 details 0 ∷ close (sheetOf 2013) ∷ elect 7 1 2014 6 30 ∷ close (sheetOf 2014) ∷ enrol 7 details 0 ∷ []
+calls =
+    enrol 7 details 0 ∷ june-2014 ∷ close (sheetOf 2013) ∷ october-2014 ∷ elect 7 1 2014 6 30 ∷ close (sheetOf 2014) ∷ enrol 7 details 0 ∷ []
 
 unfoldable pub others : List Made
-others = made (close (sheetOf 2013)) 0 ∷ made (elect 7 1 2014 6 30) 0 ∷ made (close (sheetOf 2014)) 0 ∷ made (enrol 7 details 0) 4 ∷ []
+others =
+    made june-2014 0 ∷ made (close (sheetOf 2013)) 0 ∷ made october-2014 0 ∷ made (elect 7 1 2014 6 30) 0 ∷ made (close (sheetOf 2014)) 0
+    ∷ made (enrol 7 details 0) 4 ∷ []
 
 answered : madeOf (freshBook 480) calls ≡ made (enrol 7 details 0) 0 ∷ others
-unfolding madeOf calls others sumBelow allBelow anyBelow littleEndian bytesOf part number stored domestic monthlyMethod between above tiers annualTiers meanRate tierRate flatRateOf daysIn isDay notAfter inWindow withdrawnReading injectedReading word headerFits lastWordsFit formFits refused11 limitAt aboveLimit unusedBand strayBand atFault earliest refused13 refused19 monthWithdrawn refused14 costIn costOf singlePrice valueIn valueOf monthInjected withdrawnOver injectedOver exchangedOver monthExchanged annualRate annualFlatRate flatRateOver halfOf yearValues accountElected accountClosed contributionOf liquidationOf lapsedOf creditAfter balanceOf get zeros recordAt putRecord written headImage userImage closingImage accountIn closingIn lengthFits freshBook used firstUser usedFits kindAt hasKind entryKind entryRanges unnamedOf allZero levelIn isEntry detailsFit openYearFits runMade dueIfMade runsFit halvesMade advancesFit creditFits halvesFit accountFits yearFits balanceFits closingFits ownerOf rangesFit zeroBytesFit nextOf firstEntryOf numberOf userNextFits numberIsNew firstEntryFits entryNextFits ownerFits hits pointersFrom pointersTo pointedOnce levelOf inOrder activationOf openYearOf firstInOrder nextInOrder linksFit goodRecord goodHead faulty sound findBelow findUser newAccount enrolledAs withAccount withEntry applied entryImage settled refusalOf changeOf booked bookAfter refusedBy rulesOf namedBy lookAt hasRoom dayAndOption electionOpen yearOpen words month months sheetOf
+unfolding madeOf calls others sumBelow allBelow anyBelow littleEndian bytesOf part number stored domestic monthlyMethod between above tiers annualTiers meanRate tierRate flatRateOf daysIn isDay notAfter inWindow withdrawnReading injectedReading word headerFits lastWordsFit formFits refused11 limitAt aboveLimit unusedBand strayBand atFault earliest refused13 refused19 monthWithdrawn refused14 costIn costOf singlePrice valueIn valueOf monthInjected withdrawnOver injectedOver exchangedOver monthExchanged annualRate annualFlatRate flatRateOver halfOf yearValues halvesPaid due halvesCount paidOf amountOf accountElected runsIn accountAdvanced accountClosed contributionOf liquidationOf lapsedOf creditAfter balanceOf get zeros recordAt putRecord written headImage userImage advanceImage closingImage accountIn advanceIn closingIn lengthFits freshBook used firstUser usedFits kindAt hasKind entryKind entryRanges unnamedOf allZero levelIn isEntry detailsFit openYearFits halvesOf isMade dueIfMade runsFit halvesMade advancesFit laterHalf laterFits creditFits halvesFit accountFits yearFits isRun levelFrom bookedFits advanceFits balanceFits closingFits ownerOf rangesFit zeroBytesFit nextOf firstEntryOf numberOf userNextFits numberIsNew firstEntryFits entryNextFits ownerFits hits pointersFrom pointersTo pointedOnce levelOf inOrder activationOf openYearOf firstInOrder nextInOrder linksFit goodRecord goodHead faulty sound findBelow findUser newAccount enrolledAs withAccount withEntry applied bookedIn runAmount entryImage settled refusalOf changeOf booked bookAfter refusedBy rulesOf namedBy lookAt hasRoom dayAndOption electionOpen isOpen runOpen orderFits yearOpen words month months sheetOf
 answered = refl
 
 -- every byte of the sheets is one
@@ -94,9 +104,17 @@ election-typed : Typed (elect 7 1 2014 6 30)
 unfolding Typed
 election-typed = (omega arith, omega arith, omega arith, omega arith, omega arith)
 
+june-typed : Typed june-2014
+unfolding Typed
+june-typed = (omega arith, omega arith, omega arith, omega arith, omega arith, omega arith)
+
+october-typed : Typed october-2014
+unfolding Typed
+october-typed = (omega arith, omega arith, omega arith, omega arith, omega arith, omega arith)
+
 typed : AllTyped calls
 unfolding AllTyped Typed calls
-typed = (enrolment-typed, (bytes-2013, (election-typed, (bytes-2014, (enrolment-typed, tt)))))
+typed = (enrolment-typed, (june-typed, (bytes-2013, (october-typed, (election-typed, (bytes-2014, (enrolment-typed, tt)))))))
 
 -- a buffer of 480 bytes
 abbrev buffer : List ℕ

@@ -1,12 +1,13 @@
 -- A user by value and its ledger, kept in step by every accepted call: nothing of the book's bytes is left here.
-use Prim.Native.Nat.{ℕ, _+_, _^_, _<_}
+use Prim.Native.Nat.{ℕ, _+_, _^_, _≤_, _<_}
 use mathlib.Core.Path.{_≡_, refl, ap, ap₂, sym, _∙_, subst}
 use mathlib.Core.Bool.{true, cond}
+use mathlib.Core.Logic.{_⊎_, inl, inr, ⊎-elim}
 use mathlib.Core.List.{List, [], _∷_}
 use mathlib.Core.Option.{Option, none, some}
 use native.Mathlib.Nat.{add-zero}
 use native.Mathlib.Omega.{arith}
-use borrow.Author.Tests.{eq-eqb}
+use borrow.Author.Tests.{eq-eqb, ne-eqb}
 use lib.Dec.{eqb, ltb}
 use Rattle.units.specs.Units.{ticks}
 use Rattle.sheet.specs.YearSheet.{sheetYear}
@@ -21,7 +22,7 @@ use Rattle.records.specs.Entries.{advanceEntry, closingEntry}
 use Rattle.ledger.specs.Ledger.{Item, Advance, Ledger, openYear, yearAfter, sumItems, sumBalances, sumAdvances, advanceAmount, sheetValue, sheetFlatRate, statementOf}
 use Rattle.ledger.specs.Ledger as ledger
 use Rattle.ledger.proofs.Kept.{Kept, kept-enrolled, kept-elected, kept-advanced, kept-closed, no-advance-yet}
-use Rattle.calls.specs.Changes.{newAccount, runAmount}
+use Rattle.calls.specs.Changes.{newAccount, bookedIn, runAmount}
 use Rattle.calls.specs.Calls.{Call, enrol, elect, advance, close, statement, changeOf}
 use Rattle.views.specs.Views.{View, viewIs, viewAfter, accountOf, stepOf}
 use Rattle.demand.specs.Fed.{posted, valueBy}
@@ -38,6 +39,7 @@ pub record Agrees (v : View) (l : Ledger) : Type 0 where
   pub half2 : v .account .half2 .0 ≡ l .half2
   pub open-year : v .account .«open_year» ≡ openYear l
   pub advances : v .account .advances .0 ≡ sumAdvances (eqb (openYear l)) (l .advances)
+  pub later : v .account .«later_advances» .0 ≡ sumAdvances (eqb (openYear l + 1)) (l .advances)
   pub items : itemsOf (v .entries) ≡ l .items
   pub paid : advancesOf (v .entries) ≡ l .advances
 
@@ -73,7 +75,7 @@ contribution a s = contributionOf (a .option) (a .credit .0) (sheetValue (a .det
 pub data Posts : Call → Option View → Type 0 where
   enrols : {n : ℕ} {d : Details} {o : ℕ} → Posts (enrol n d o) none
   elects : {n o y m d : ℕ} {v : View} → Posts (elect n o y m d) (some v)
-  advances : {n y r p e₁ e₂ : ℕ} {v : View} → y ≡ v .account .«open_year» → Posts (advance n y r p e₁ e₂) (some v)
+  advances : {n y r p e₁ e₂ : ℕ} {v : View} → (y ≡ v .account .«open_year») ⊎ (y ≡ v .account .«open_year» + 1) → Posts (advance n y r p e₁ e₂) (some v)
   closes : {s : List ℕ} {v : View} → sheetYear s ≡ v .account .«open_year» → contribution (v .account) s < 2 ^ 63 → v .account .advances .0 < 2 ^ 63 → Posts (close s) (some v)
   states : {n : ℕ} {v : View} → Posts (statement n) (some v)
 
@@ -89,6 +91,7 @@ module _ (v : View) (l : Ledger) (a : Agrees v l) where
         half2 = a .half2;
         open-year = a .open-year;
         advances = a .advances;
+        later = a .later;
         items = a .items;
         paid = a .paid;
       }
@@ -97,25 +100,50 @@ module _ (v : View) (l : Ledger) (a : Agrees v l) where
   unfolding runAmount advanceAmount
   same-amount y r p e₁ e₂ kept = let none-yet = none-closed (l .details .year) (l .items) (kept .years) in rw (a .details, a .open-year, a .half1, a .half2, none-yet)
 
-  agrees-advanced : (y r p e₁ e₂ : ℕ) {x : ℕ} → Kept x l → y ≡ openYear l
-      → Agrees (viewIs (accountAdvanced r (runAmount (v .account) y r p e₁ e₂) (v .account)) (advanceEntry y r (ticks (runAmount (v .account) y r p e₁ e₂)) ∷ v .entries))
-      (ledger.advanced y r p e₁ e₂ l)
-  unfolding accountAdvanced ledger.advanced sumAdvances itemsOf advancesOf
-  agrees-advanced y r p e₁ e₂ kept year =
-      let amount = same-amount y r p e₁ e₂ kept in
-      let joined : v .account .advances .0 + runAmount (v .account) y r p e₁ e₂ ≡ cond (eqb (openYear l) y) (advanceAmount y r p e₁ e₂ l) 0 + sumAdvances (eqb (openYear l)) (l .advances) =
-      rw (eq-eqb (openYear l) y (sym year)) (omega (arith, a .advances, amount)) in
-      record {
-        details = a .details;
-        option = a .option;
-        credit = a .credit;
-        half1 = a .half1;
-        half2 = a .half2;
-        open-year = a .open-year;
-        advances = joined;
-        items = a .items;
-        paid = ap₂ (λ (t : ℕ) (ps : List Advance). advanceOf y t ∷ ps) amount (a .paid);
-      }
+  -- what a run pays joins the advances of its year, and the other year's stay
+  module _ (y r p e₁ e₂ : ℕ) {x : ℕ} (kept : Kept x l) where
+    abbrev amount : ℕ
+    amount = advanceAmount y r p e₁ e₂ l
+
+    abbrev of-year : ℕ → ℕ
+    of-year z = cond (eqb z y) amount 0 + sumAdvances (eqb z) (l .advances)
+
+    paid-is : runAmount (v .account) y r p e₁ e₂ ≡ amount
+    paid-is = same-amount y r p e₁ e₂ kept
+
+    joins-open : (y ≡ v .account .«open_year») ⊎ (y ≡ v .account .«open_year» + 1)
+        → cond (eqb y (v .account .«open_year»)) (v .account .advances .0 + runAmount (v .account) y r p e₁ e₂) (v .account .advances .0) ≡ of-year (openYear l)
+    joins-open (inl e) =
+        rw (eq-eqb y (v .account .«open_year») e, eq-eqb (openYear l) y (omega (arith, e, a .open-year))) (omega (arith, a .advances, paid-is))
+    joins-open (inr e) =
+        rw (ne-eqb y (v .account .«open_year») (λ q. omega arith), ne-eqb (openYear l) y (λ q. omega (arith, a .open-year))) (omega (arith, a .advances))
+
+    joins-later : (y ≡ v .account .«open_year») ⊎ (y ≡ v .account .«open_year» + 1)
+        → cond (eqb y (v .account .«open_year»)) (v .account .«later_advances» .0) (v .account .«later_advances» .0 + runAmount (v .account) y r p e₁ e₂)
+        ≡ of-year (openYear l + 1)
+    joins-later (inl e) =
+        rw (eq-eqb y (v .account .«open_year») e, ne-eqb (openYear l + 1) y (λ q. omega (arith, a .open-year))) (omega (arith, a .later))
+    joins-later (inr e) =
+        rw (ne-eqb y (v .account .«open_year») (λ q. omega arith), eq-eqb (openYear l + 1) y (omega (arith, e, a .open-year))) (omega (arith, a .later, paid-is))
+
+    agrees-advanced : (y ≡ v .account .«open_year») ⊎ (y ≡ v .account .«open_year» + 1)
+        → Agrees
+        (viewIs (accountAdvanced y r (runAmount (v .account) y r p e₁ e₂) (v .account))
+        (advanceEntry y (bookedIn (v .account) y) r (ticks (runAmount (v .account) y r p e₁ e₂)) ∷ v .entries)) (ledger.advanced y r p e₁ e₂ l)
+    unfolding accountAdvanced ledger.advanced sumAdvances itemsOf advancesOf
+    agrees-advanced years =
+        record {
+          details = a .details;
+          option = a .option;
+          credit = a .credit;
+          half1 = a .half1;
+          half2 = a .half2;
+          open-year = a .open-year;
+          advances = joins-open years;
+          later = joins-later years;
+          items = a .items;
+          paid = ap₂ (λ (t : ℕ) (ps : List Advance). advanceOf y t ∷ ps) paid-is (a .paid);
+        }
 
   same-item : (s : List ℕ) → sheetYear s ≡ openYear l → contribution (v .account) s < 2 ^ 63 → v .account .advances .0 < 2 ^ 63
       → itemOf (v .account .«open_year») (v .account .option) (settled (v .account) (yearValues s (v .account .details)))
@@ -138,7 +166,8 @@ module _ (v : View) (l : Ledger) (a : Agrees v l) where
         half1 = refl;
         half2 = refl;
         open-year = rw (a .open-year, year);
-        advances = sym (no-advance-yet (sheetYear s) (ledger.figuresOf (l .details) s) year k);
+        advances = a .later ∙ ap (λ (y : ℕ). sumAdvances (eqb (y + 1)) (l .advances)) (sym year);
+        later = sym (no-advance-yet (sheetYear s) (ledger.figuresOf (l .details) s) year k);
         items = ap₂ (λ (i : Item) (is : List Item). i ∷ is) (same-item s year small field) (a .items);
         paid = a .paid;
       }
@@ -154,6 +183,7 @@ fresh-agrees n d o =
       half2 = refl;
       open-year = refl;
       advances = refl;
+      later = refl;
       items = refl;
       paid = refl;
     }
@@ -172,7 +202,9 @@ unfolding stepOf changeOf viewAfter accountOf posted gainOf valueBy ledger.close
 in-step c v m x (enrols {n} {d} {o}) unknown = known (fresh-agrees n d o) (kept-enrolled d o)
 in-step c v m x (elects {o = o}) (known {v = u} {l = l} a k) = more (known (agrees-elected u l a o) (kept-elected o k))
 in-step c v m x (advances {y = y} {r} {p} {e₁} {e₂} year) (known {v = u} {l = l} a k) =
-    more (known (agrees-advanced u l a y r p e₁ e₂ k (year ∙ a .open-year)) (kept-advanced y r p e₁ e₂ (year ∙ a .open-year) k))
+    let from : openYear l ≤ y = ⊎-elim (λ e. omega (arith, a .open-year)) (λ e. omega (arith, a .open-year)) year in
+    let to : y ≤ openYear l + 1 = ⊎-elim (λ e. omega (arith, a .open-year)) (λ e. omega (arith, a .open-year)) year in
+    more (known (agrees-advanced u l a y r p e₁ e₂ k year) (kept-advanced y r p e₁ e₂ from to k))
 in-step c v m x (closes {s} year small field) (known {v = u} {l = l} a k) =
     known (agrees-closed u l a s k (year ∙ a .open-year) small field) (kept-closed (sheetYear s) (ledger.figuresOf (l .details) s) (year ∙ a .open-year) k)
 in-step c v m x states (known a k) = more (known a k)

@@ -22,8 +22,10 @@ fn new_account(number: UserNumber, details: Details, option: u8) -> Account
         option,
         open_year: details.year,
         runs: 0,
+        later_runs: 0,
         credit: Ticks(0),
         advances: Ticks(0),
+        later_advances: Ticks(0),
         half1: Kwh(0),
         half2: Kwh(0),
     }

@@ -13,8 +13,10 @@ opened =
       option = 0;
       «open_year» = 2014;
       runs = 0;
+      «later_runs» = 0;
       credit = ticks 0;
       advances = ticks 0;
+      «later_advances» = ticks 0;
       half1 = kwh 0;
       half2 = kwh 0;
     }

@@ -89,8 +89,10 @@ fn opened() -> Account
         option: 0,
         open_year: 2014,
         runs: 0,
+        later_runs: 0,
         credit: Ticks(0),
         advances: Ticks(0),
+        later_advances: Ticks(0),
         half1: Kwh(0),
         half2: Kwh(0),
     }

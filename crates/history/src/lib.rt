@@ -66,7 +66,7 @@ fn advance_part(book: &[u8], entry: RecordIndex, year: u16) -> Ticks
 }
 
 // The advances of a year.
-fn advances_of(book: &[u8], user: RecordIndex, year: u16) -> Ticks
+pub fn advances_of(book: &[u8], user: RecordIndex, year: u16) -> Ticks
     requires { ⌜ lengthFits (now book) ≡ true ⌝ }
     requires { ⌜ sound (now book) ≡ true ⌝ }
     requires { ⌜ isUser (now book) (user .0) ≡ true ⌝ }

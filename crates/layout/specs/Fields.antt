@@ -77,6 +77,14 @@ openYearField = bytes 24 2
 abbrev pub runsField : Field
 runsField = bytes 26 1
 
+-- "Each year has its own runs and advances, the later year's in bytes left free in the user record" (ticket 6): 27 runs made of
+-- the later year, 64–71 its advances
+abbrev pub laterRunsField : Field
+laterRunsField = bytes 27 1
+
+abbrev pub laterAdvancesField : Field
+laterAdvancesField = bytes 64 8
+
 abbrev pub creditField : Field
 creditField = bytes 32 8
 
@@ -110,6 +118,10 @@ runField = bytes 5 1
 abbrev pub ticksField : Field
 ticksField = bytes 8 8
 
+-- 76–77 of an advance of the later year: the year that was open when it was booked; else zero (ticket 6)
+abbrev pub bookedField : Field
+bookedField = bytes 76 2
+
 -- "Closing: 5 option, 8–15 C, 16–23 O, 24–31 F, 32–39 contribution, 40–47 liquidation, 48–55 lapsed credit, 56–63 balance
 -- (signed, two's complement)."
 abbrev pub closingOptionField : Field
@@ -141,10 +153,10 @@ abbrev pub unnamedOfHead : List Field
 unnamedOfHead = bytes 8 72 ∷ []
 
 abbrev pub unnamedOfUser : List Field
-unnamedOfUser = bytes 27 5 ∷ bytes 56 24 ∷ []
+unnamedOfUser = bytes 28 4 ∷ bytes 56 8 ∷ bytes 72 8 ∷ []
 
 abbrev pub unnamedOfAdvance : List Field
-unnamedOfAdvance = bytes 16 48 ∷ bytes 68 12 ∷ []
+unnamedOfAdvance = bytes 16 48 ∷ bytes 68 8 ∷ bytes 78 2 ∷ []
 
 abbrev pub unnamedOfClosing : List Field
 unnamedOfClosing = bytes 68 12 ∷ []

@@ -6,7 +6,7 @@ ghost use lib.Dec.{leb};
 ghost use lib.ListN.{length};
 ghost use Rattle.units.specs.Units.{userNumber, recordIndex};
 ghost use Rattle.codec.specs.Bytes.{number, stored, bytesOf};
-ghost use Rattle.layout.specs.Fields.{recordLength, recordAt, putRecord, get, usedField, firstUserField, nextField, kindField, numberField, firstEntryField, activationYearField, openYearField, yearField, ownerField};
+ghost use Rattle.layout.specs.Fields.{recordLength, recordAt, putRecord, get, usedField, firstUserField, nextField, kindField, numberField, firstEntryField, activationYearField, openYearField, yearField, bookedField, ownerField};
 ghost use Rattle.layout.specs.Fields.{allZero, unnamedOfHead, unnamedOfUser, unnamedOfAdvance, unnamedOfClosing};
 use units::RecordIndex;
 use units::UserNumber;
@@ -114,13 +114,13 @@ pub fn head_rest_zero(r: &[u8]) -> bool
 pub fn user_rest_zero(r: &[u8]) -> bool
     ensures { λ s. ⌜ s ≡ allZero unnamedOfUser (now (r .entry)) ⌝ }
 {
-    codec::zeros(r, 27, 5) & codec::zeros(r, 56, 24)
+    codec::zeros(r, 28, 4) & (codec::zeros(r, 56, 8) & codec::zeros(r, 72, 8))
 }
 
 pub fn advance_rest_zero(r: &[u8]) -> bool
     ensures { λ s. ⌜ s ≡ allZero unnamedOfAdvance (now (r .entry)) ⌝ }
 {
-    codec::zeros(r, 16, 48) & codec::zeros(r, 68, 12)
+    codec::zeros(r, 16, 48) & (codec::zeros(r, 68, 8) & codec::zeros(r, 78, 2))
 }
 
 pub fn closing_rest_zero(r: &[u8]) -> bool
@@ -187,6 +187,12 @@ pub fn year_of(r: &[u8]) -> u16
     ensures { λ n. ⌜ n ≡ get yearField (now (r .entry)) ⌝ }
 {
     codec::read_u16(r, place::YEAR)
+}
+
+pub fn booked_of(r: &[u8]) -> u16
+    ensures { λ n. ⌜ n ≡ get bookedField (now (r .entry)) ⌝ }
+{
+    codec::read_u16(r, place::BOOKED)
 }
 
 pub fn owner_of(r: &[u8]) -> RecordIndex

@@ -33,6 +33,8 @@ pub const OPEN_YEAR: usize = 24;
 
 pub const RUNS: usize = 26;
 
+pub const LATER_RUNS: usize = 27;
+
 pub const CREDIT: usize = 32;
 
 pub const ADVANCES: usize = 40;
@@ -40,6 +42,8 @@ pub const ADVANCES: usize = 40;
 pub const HALF1: usize = 48;
 
 pub const HALF2: usize = 52;
+
+pub const LATER_ADVANCES: usize = 64;
 
 // An entry.
 pub const YEAR: usize = 6;
@@ -50,6 +54,8 @@ pub const OWNER: usize = 64;
 pub const RUN: usize = 5;
 
 pub const TICKS: usize = 8;
+
+pub const BOOKED: usize = 76;
 
 // A closing.
 pub const CLOSING_OPTION: usize = 5;

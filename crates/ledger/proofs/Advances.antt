@@ -1,5 +1,5 @@
 -- Advances by year: those before a year and those of it are those before the next, and no advance is of a year after the
--- one that was open when it was made.
+-- two that were open when it was made.
 use Prim.Native.Nat.{ℕ, _+_, _≤_, _<_}
 use mathlib.Core.Path.{_≡_, refl}
 use mathlib.Core.Bool.{cond}
@@ -31,9 +31,9 @@ advances-split z (a ∷ l) =
     let rest = advances-split z l in
     omega arith
 
--- an advance of the year z is not before z
-pub advance-of-year : (y z t : ℕ) → y ≡ z → cond (ltb y z) t 0 ≡ 0
-advance-of-year y z t e = rw (le-ltb y z (omega arith)) refl
+-- an advance of the year z, or of a later one, is not before z
+pub advance-not-before : (y z t : ℕ) → z ≤ y → cond (ltb y z) t 0 ≡ 0
+advance-not-before y z t h = rw (le-ltb y z h)
 
 -- no advance is of a year after y
 unfoldable pub NoneAfter : ℕ → List Advance → Type 0

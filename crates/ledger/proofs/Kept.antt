@@ -1,9 +1,8 @@
--- What every accepted call keeps of a ledger: enrolment makes it so, an election, an advance and a closing of the open
--- year keep it. One year's sums join by the closing law, its balance by the advances of its year.
-use Prim.Native.Nat.{ℕ, _+_}
+-- What every accepted call keeps of a ledger: enrolment makes it so, an election, an advance of either open year and a closing of
+-- the open year keep it. One year's sums join by the closing law, its balance by the advances of its year.
+use Prim.Native.Nat.{ℕ, _+_, _≤_}
 use mathlib.Core.Path.{_≡_, refl, ap, ap₂, _∙_}
 use mathlib.Core.Bool.{cond}
-use native.Mathlib.Nat.{le-of-eq}
 use native.Mathlib.Omega.{arith}
 use lib.Dec.{eqb, ltb}
 use lib.IntN.{pos, _+ℤ_, _-ℤ_, +ℤ-comm}
@@ -14,7 +13,7 @@ use Rattle.ledger.specs.Ledger.{Ledger, yearAfter, openYear, sumItems, s
 use Rattle.ledger.specs.Accounting.{lapsedOver, conserved, Consecutive, Accounts}
 use Rattle.ledger.proofs.Standing.{figure, standing-exists}
 use Rattle.ledger.proofs.Years.{from-activation, NoneBefore, closed-advances-before}
-use Rattle.ledger.proofs.Advances.{advances-split, advance-of-year, NoneAfter, none-after-later, none-of-later}
+use Rattle.ledger.proofs.Advances.{advances-split, advance-not-before, NoneAfter, none-after-later, none-of-later}
 use Rattle.ledger.proofs.Integers.{balance-joins, regrouped}
 
 -- the advances of the years before the open one: those of closed years
@@ -29,7 +28,7 @@ pub record Kept (injected : ℕ) (l : Ledger) : Type 0 where
   pub credit : l .credit ≡ figure (l .items)
   pub lapsed : statementOf l .lapsed ≡ lapsedOver figure (l .items)
   pub years : Consecutive (l .details .year) (l .items)
-  pub noneLater : NoneAfter (openYear l) (l .advances)
+  pub noneLater : NoneAfter (openYear l + 1) (l .advances)
   pub noneEarlier : NoneBefore (l .details .year) (l .advances)
 
 pub kept-enrolled : (d : Details) (o : ℕ) → Kept 0 (enrolled d o)
@@ -51,12 +50,13 @@ kept-elected o k =
       noneEarlier = k .noneEarlier;
     }
 
-pub kept-advanced : {n : ℕ} {l : Ledger} (y r p e₁ e₂ : ℕ) → y ≡ openYear l → Kept n l → Kept n (advanced y r p e₁ e₂ l)
+-- an advance of the open year or of the one after it
+pub kept-advanced : {n : ℕ} {l : Ledger} (y r p e₁ e₂ : ℕ) → openYear l ≤ y → y ≤ openYear l + 1 → Kept n l → Kept n (advanced y r p e₁ e₂ l)
 unfolding advanced statementOf sumAdvances NoneAfter NoneBefore
-kept-advanced {n} {l} y r p e₁ e₂ open-year k =
+kept-advanced {n} {l} y r p e₁ e₂ from to k =
     let paid : ℕ = advanceAmount y r p e₁ e₂ l in
     let before : ℕ = sumAdvances (λ z. ltb z (openYear l)) (l .advances) in
-    let same : cond (ltb y (openYear l)) paid 0 + before ≡ before = omega (arith, advance-of-year y (openYear l) paid open-year) in
+    let same : cond (ltb y (openYear l)) paid 0 + before ≡ before = omega (arith, advance-not-before y (openYear l) paid from) in
     record {
       values = k .values;
       sums = k .sums;
@@ -64,8 +64,8 @@ kept-advanced {n} {l} y r p e₁ e₂ open-year k =
       credit = k .credit;
       lapsed = k .lapsed;
       years = k .years;
-      noneLater = (le-of-eq open-year, k .noneLater);
-      noneEarlier = (omega (arith, from-activation (l .details .year) (l .items) (k .years), open-year), k .noneEarlier);
+      noneLater = (to, k .noneLater);
+      noneEarlier = (omega (arith, from-activation (l .details .year) (l .items) (k .years)), k .noneEarlier);
     }
 
 -- the sums of one year join those of the years before
@@ -120,8 +120,8 @@ module _ {n : ℕ} {l : Ledger} (year : ℕ) (f : Figures) (open-year : year ≡
         noneEarlier = k .noneEarlier;
       }
 
-  -- the year that it opens has no advance yet
-  pub no-advance-yet : sumAdvances (eqb (openYear after)) (after .advances) ≡ 0
+  -- the year after the one that it opens has no advance yet
+  pub no-advance-yet : sumAdvances (eqb (openYear after + 1)) (after .advances) ≡ 0
   unfolding closedWith itemOf yearAfter
   no-advance-yet = none-of-later (omega arith) (l .advances) (k .noneLater)
 

@@ -7,7 +7,7 @@ use mathlib.Core.List.{List}
 use lib.Dec.{lit<}
 use lib.ListN.{length}
 use Rattle.units.specs.Units.{ticks, recordIndex}
-use Rattle.layout.specs.Fields.{recordLength, get, allZero, unnamedOfAdvance, image, advanceKind, kindField, nextField, ownerField, runField, ticksField, yearField}
+use Rattle.layout.specs.Fields.{recordLength, get, allZero, unnamedOfAdvance, image, advanceKind, bookedField, kindField, nextField, ownerField, runField, ticksField, yearField}
 use Rattle.layout.proofs.Cells.{cellAt, length-image, read-image, unnamed-image}
 use Rattle.layout.proofs.ByteRanges.{Bytes, bytes-image}
 use Rattle.records.specs.declared.AdvanceRecord.{AdvanceRecord}
@@ -21,6 +21,7 @@ pub record AdvanceFits (a : AdvanceRecord) : Type 0 where
   pub year : a .year < 2 ^ 16
   pub ticks : a .ticks .0 < 2 ^ 64
   pub owner : a .owner .0 < 2 ^ 32
+  pub booked : a .booked < 2 ^ 16
 
 -- what the fields of a record of this kind hold
 pub record AdvanceReads (a : AdvanceRecord) (r : List ℕ) : Type 0 where
@@ -30,6 +31,7 @@ pub record AdvanceReads (a : AdvanceRecord) (r : List ℕ) : Type 0 where
   pub year : get yearField r ≡ a .year
   pub ticks : get ticksField r ≡ a .ticks .0
   pub owner : get ownerField r ≡ a .owner .0
+  pub booked : get bookedField r ≡ a .booked
 
 module _ (a : AdvanceRecord) where
   pub length-advance-image : length (advanceImage a) ≡ recordLength
@@ -59,6 +61,7 @@ module _ (a : AdvanceRecord) where
         year = read 3 (h .year);
         ticks = read 4 (h .ticks);
         owner = read 5 (h .owner);
+        booked = read 6 (h .booked);
       }
 
 -- a record whose fields read so holds the value
@@ -72,6 +75,7 @@ advance-decoded a r h =
       year = h .year i;
       ticks = ticks (h .ticks i);
       owner = recordIndex (h .owner i);
+      booked = h .booked i;
     }
 
 -- reading gives back what was written

@@ -7,7 +7,7 @@ use mathlib.Core.List.{List}
 use lib.Dec.{lit<}
 use lib.ListN.{length}
 use Rattle.units.specs.Units.{kwh, ticks, userNumber, recordIndex}
-use Rattle.layout.specs.Fields.{recordLength, get, allZero, unnamedOfUser, image, userKind, activationMonthField, activationYearField, advancesField, classField, creditField, firstEntryField, half1Field, half2Field, islandField, kindField, nextField, numberField, openYearField, optionField, plantField, powerField, runsField}
+use Rattle.layout.specs.Fields.{recordLength, get, allZero, unnamedOfUser, image, userKind, activationMonthField, activationYearField, advancesField, classField, creditField, firstEntryField, half1Field, half2Field, islandField, kindField, laterAdvancesField, laterRunsField, nextField, numberField, openYearField, optionField, plantField, powerField, runsField}
 use Rattle.layout.proofs.Cells.{cellAt, length-image, read-image, unnamed-image}
 use Rattle.layout.proofs.ByteRanges.{Bytes, bytes-image}
 use Rattle.records.specs.declared.UserRecord.{UserRecord}
@@ -32,6 +32,8 @@ pub record UserFits (u : UserRecord) : Type 0 where
   pub advances : u .account .advances .0 < 2 ^ 64
   pub half1 : u .account .half1 .0 < 2 ^ 32
   pub half2 : u .account .half2 .0 < 2 ^ 32
+  pub «later_runs» : u .account .«later_runs» < 2 ^ 8
+  pub «later_advances» : u .account .«later_advances» .0 < 2 ^ 64
 
 -- what the fields of a record of this kind hold
 pub record UserReads (u : UserRecord) (r : List ℕ) : Type 0 where
@@ -52,6 +54,8 @@ pub record UserReads (u : UserRecord) (r : List ℕ) : Type 0 where
   pub advances : get advancesField r ≡ u .account .advances .0
   pub half1 : get half1Field r ≡ u .account .half1 .0
   pub half2 : get half2Field r ≡ u .account .half2 .0
+  pub «later_runs» : get laterRunsField r ≡ u .account .«later_runs»
+  pub «later_advances» : get laterAdvancesField r ≡ u .account .«later_advances» .0
 
 module _ (u : UserRecord) where
   pub length-user-image : length (userImage u) ≡ recordLength
@@ -92,6 +96,8 @@ module _ (u : UserRecord) where
         advances = read 14 (h .advances);
         half1 = read 15 (h .half1);
         half2 = read 16 (h .half2);
+        «later_runs» = read 17 (h .«later_runs»);
+        «later_advances» = read 18 (h .«later_advances»);
       }
 
 account-read : (r : List ℕ) (u : UserRecord) → UserReads u r → accountIn r ≡ u .account
@@ -112,8 +118,10 @@ account-read r u h =
       option = h .option i;
       «open_year» = h .«open_year» i;
       runs = h .runs i;
+      «later_runs» = h .«later_runs» i;
       credit = ticks (h .credit i);
       advances = ticks (h .advances i);
+      «later_advances» = ticks (h .«later_advances» i);
       half1 = kwh (h .half1 i);
       half2 = kwh (h .half2 i);
     }

@@ -6,7 +6,7 @@ use Rattle.accounts.specs.declared.Account.{Account}
 use Rattle.records.specs.declared.UserRecord.{UserRecord}
 use Rattle.records.specs.declared.AdvanceRecord.{AdvanceRecord}
 use Rattle.records.specs.declared.ClosingRecord.{ClosingRecord}
-use Rattle.layout.specs.Fields.{Cell, _holds_, image, get, usedField, firstUserField, nextField, kindField, userKind, classField, plantField, optionField, numberField, firstEntryField, powerField, activationYearField, activationMonthField, islandField, openYearField, runsField, creditField, advancesField, half1Field, half2Field, advanceKind, closingKind, yearField, ownerField, runField, ticksField, closingOptionField, valueField, costField, flatRateField, contributionField, liquidationField, lapsedField, balanceField}
+use Rattle.layout.specs.Fields.{Cell, _holds_, image, get, usedField, firstUserField, nextField, kindField, userKind, classField, plantField, optionField, numberField, firstEntryField, powerField, activationYearField, activationMonthField, islandField, openYearField, runsField, laterRunsField, creditField, advancesField, laterAdvancesField, half1Field, half2Field, advanceKind, closingKind, yearField, ownerField, runField, ticksField, bookedField, closingOptionField, valueField, costField, flatRateField, contributionField, liquidationField, lapsedField, balanceField}
 
 abbrev pub headCells : ℕ → ℕ → List Cell
 headCells used first = (usedField holds used) ∷ (firstUserField holds first) ∷ []
@@ -33,6 +33,8 @@ userCells u =
     ∷ (advancesField holds u .account .advances .0)
     ∷ (half1Field holds u .account .half1 .0)
     ∷ (half2Field holds u .account .half2 .0)
+    ∷ (laterRunsField holds u .account .«later_runs»)
+    ∷ (laterAdvancesField holds u .account .«later_advances» .0)
     ∷ []
 
 unfoldable pub userImage : UserRecord → List ℕ
@@ -46,6 +48,7 @@ advanceCells a =
     ∷ (yearField holds a .year)
     ∷ (ticksField holds a .ticks .0)
     ∷ (ownerField holds a .owner .0)
+    ∷ (bookedField holds a .booked)
     ∷ []
 
 unfoldable pub advanceImage : AdvanceRecord → List ℕ
@@ -87,8 +90,10 @@ accountIn r =
       option = get optionField r;
       «open_year» = get openYearField r;
       runs = get runsField r;
+      «later_runs» = get laterRunsField r;
       credit = ticks (get creditField r);
       advances = ticks (get advancesField r);
+      «later_advances» = ticks (get laterAdvancesField r);
       half1 = kwh (get half1Field r);
       half2 = kwh (get half2Field r);
     }
@@ -105,6 +110,7 @@ advanceIn r =
       year = get yearField r;
       ticks = ticks (get ticksField r);
       owner = recordIndex (get ownerField r);
+      booked = get bookedField r;
     }
 
 unfoldable pub closingIn : List ℕ → ClosingRecord

@@ -24,13 +24,14 @@ pub struct UserRecord {
     pub account: Account,
 }
 
-// An advance entry.
+// An advance entry. One of the later year has the year that was open when it was booked; else that is 0.
 pub struct AdvanceRecord {
     pub next: RecordIndex,
     pub run: u8,
     pub year: u16,
     pub ticks: Ticks,
     pub owner: RecordIndex,
+    pub booked: u16,
 }
 
 // A closing entry.
@@ -66,8 +67,10 @@ fn account_of(r: &[u8]) -> Account
         option: layout::read_u8(r, place::OPTION),
         open_year: layout::open_year_of(r),
         runs: layout::read_u8(r, place::RUNS),
+        later_runs: layout::read_u8(r, place::LATER_RUNS),
         credit: Ticks(codec::read_u64(r, place::CREDIT)),
         advances: Ticks(codec::read_u64(r, place::ADVANCES)),
+        later_advances: Ticks(codec::read_u64(r, place::LATER_ADVANCES)),
         half1: Kwh(codec::read_u32(r, place::HALF1)),
         half2: Kwh(codec::read_u32(r, place::HALF2)),
     }
@@ -82,6 +85,7 @@ pub fn advance_of(r: &[u8]) -> AdvanceRecord
         year: layout::year_of(r),
         ticks: Ticks(codec::read_u64(r, place::TICKS)),
         owner: layout::owner_of(r),
+        booked: layout::booked_of(r),
     }
 }
 
@@ -166,7 +170,9 @@ pub fn user_image(user: UserRecord) -> [u8; 80]
     let image = put_u64(image, place::CREDIT, account.credit.0);
     let image = put_u64(image, place::ADVANCES, account.advances.0);
     let image = put_u32(image, place::HALF1, account.half1.0);
-    put_u32(image, place::HALF2, account.half2.0)
+    let image = put_u32(image, place::HALF2, account.half2.0);
+    let image = put_u8(image, place::LATER_RUNS, account.later_runs);
+    put_u64(image, place::LATER_ADVANCES, account.later_advances.0)
 }
 
 pub fn advance_image(advance: AdvanceRecord) -> [u8; 80]
@@ -178,7 +184,8 @@ pub fn advance_image(advance: AdvanceRecord) -> [u8; 80]
     let image = put_u8(image, place::RUN, advance.run);
     let image = put_u16(image, place::YEAR, advance.year);
     let image = put_u64(image, place::TICKS, advance.ticks.0);
-    put_u32(image, place::OWNER, advance.owner.0)
+    let image = put_u32(image, place::OWNER, advance.owner.0);
+    put_u16(image, place::BOOKED, advance.booked)
 }
 
 pub fn closing_image(closing: ClosingRecord) -> [u8; 80]

@@ -1,18 +1,24 @@
 // The refusals of each call once the book is sound (document 01, "Who brings which number").
 ghost use mathlib.Core.Path.{_≡_};
-ghost use Prim.Native.Nat.{ℕ};
-ghost use mathlib.Core.Bool.{Bool, cond, false};
+ghost use Prim.Native.Nat.{ℕ, _<_, _^_};
+ghost use mathlib.Core.Bool.{Bool, cond, false, not, _&&_};
 ghost use Rattle.accounts.specs.declared.Account.{Account as AccountOf};
 ghost use lib.ListN.{length};
 ghost use Rattle.sheet.specs.YearSheet.{sheetLength, Tells};
 ghost use Rattle.sheet.specs.Objections.{FaultTold};
 ghost use Rattle.calls.specs.Rules.{refusedBy};
-ghost use Rattle.calls.specs.Refusals.{lookOf, hasRoom, dayAndOption, electionOpen, runOpen, orderFits, yearOpen};
+ghost use Rattle.calls.specs.Refusals.{lookOf, hasRoom, dayAndOption, electionOpen, isOpen, runOpen, orderFits, yearOpen};
+ghost use Rattle.calendar.specs.ElectionAndAdvances.{halvesPaid, due};
+ghost use Rattle.accounts.specs.Account.{runsIn};
+ghost use Rattle.book.specs.Book.{isMade, isRun};
+ghost use Rattle.units.specs.Limits.{lastActivation};
+ghost use lib.Dec.{leb};
 ghost use Rattle.calls.specs.Calls.{enrol, elect, advance, sheetRules, rulesOf};
 use accounts::Account;
 use book::LAST_ACTIVATION;
 use book::LAST_OPEN_YEAR;
 use book::MAX_HALF_KWH;
+use calendar::Halves;
 use sheet::Objection;
 use units::MAX_PRICE;
 use units::Rate;
@@ -50,11 +56,51 @@ fn election_open(a: Account, year: u32, month: u32, day: u32) -> bool
     calendar::in_window(a.open_year, year, month, day) & !(a.open_year == LAST_OPEN_YEAR)
 }
 
+// The open year, or the one after it.
+fn is_open(a: Account, year: u32) -> bool
+    ensures { λ r. ⌜ r ≡ isOpen a year ⌝ }
+{
+    (year == a.open_year as u32) | (year == a.open_year as u32 + 1)
+}
+
+// The runs made of either open year.
+fn runs_in(a: Account, year: u32) -> u8
+    ensures { λ r. ⌜ r ≡ runsIn year a ⌝ }
+{
+    if year == a.open_year as u32 {
+        a.runs
+    } else {
+        a.later_runs
+    }
+}
+
+// The halves that a run of a year pays.
+pub fn halves_in(a: Account, year: u16, run: u8) -> Halves
+    ensures { λ r. ⌜ r ≡ halvesPaid (a .details .year) (a .details .month) year run ⌝ }
+{
+    calendar::halves_paid(a.details.year, a.details.month, year, run)
+}
+
+// Whether a run of a year is due and not made.
+fn run_due(a: Account, year: u32, run: u8) -> bool
+    requires { ⌜ (year < 2 ^ 16) × (0 < run) ⌝ }
+    ensures { λ r. ⌜ r ≡ (due (halvesPaid (a .details .year) (a .details .month) year run) && not (isMade (runsIn year a) run)) ⌝ }
+{
+    calendar::due(halves_in(a, year as u16, run)) & !book::is_made(runs_in(a, year), run)
+}
+
+// A run of an open year up to 2099.
+fn run_named(a: Account, year: u32, run: u8) -> bool
+    ensures { λ r. ⌜ r ≡ ((isOpen a year && leb year lastActivation) && isRun run) ⌝ }
+{
+    is_open(a, year) & (year <= LAST_YEAR) & book::is_run(run)
+}
+
 fn run_open(a: Account, year: u32, run: u8) -> bool
     ensures { λ r. ⌜ r ≡ runOpen a year run ⌝ }
 {
-    if (year == a.open_year as u32) & (year <= LAST_YEAR) & book::is_run(run) {
-        calendar::due(book::halves_of(a, run)) & !book::run_made(a, run)
+    if run_named(a, year, run) {
+        run_due(a, year, run)
     } else {
         false
     }

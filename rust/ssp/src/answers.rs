@@ -45,7 +45,7 @@ pub struct Statement {
     pub lapsed: Ticks,
     /// Contributions less the advances of their years.
     pub balance: Balance,
-    /// The advances of all years, the open one included.
+    /// The advances of all years, the two open ones included.
     pub advances: Ticks,
     /// The advances of the closed years.
     pub closed_advances: Ticks,

@@ -101,7 +101,7 @@ pub struct Day {
 /// An order to pay a run of advances.
 #[derive(Clone, Copy, Debug, PartialEq, Eq)]
 pub struct Order {
-    /// The user's open year, at most 2099.
+    /// The user's open year or the one after it, at most 2099.
     pub year: u32,
     /// One of [`run`].
     pub run: u8,
@@ -201,7 +201,8 @@ impl<'a> Book<'a> {
         Refusal::check(booked.refusal, booked.record)
     }
 
-    /// Books a run of advances for a user's open year and answers what it pays. Refusals in the order 1 2 6 9 10 3.
+    /// Books a run of advances for a user's open year, or for the one after it, and answers what it pays.
+    /// Refusals in the order 1 2 6 9 10 3.
     pub fn advance(&mut self, number: u32, order: Order) -> Result<Ticks, Refusal> {
         // SAFETY: the pointer and the length are those of a slice that is borrowed mutably for the whole call.
         let advanced = unsafe {

@@ -3,7 +3,7 @@
 
 mod common;
 
-use common::{Answer, Call, Clerk, Dice, damage};
+use common::{Answer, Call, Clerk, Dice, damage, has_later_year, is_for_later_year};
 use ssp_book::{Balance, Book, Closing, Place, Refusal, Statement, Ticks};
 
 /// The peer's answer: the refusal's number, and the answer of an accepted call.
@@ -149,7 +149,10 @@ fn compare(seed: u64, records: usize, calls: usize, copies: usize, count: &mut C
         other.copy_from_slice(&proved);
         for _ in 0..4 {
             let call = clerk.next_call();
-            both(&call, &mut proved, &mut other, count);
+            // the peer is one of document 01, which knows one open year
+            if !has_later_year(&proved) && !is_for_later_year(&call, &proved) {
+                both(&call, &mut proved, &mut other, count);
+            }
         }
     }
 }

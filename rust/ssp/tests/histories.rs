@@ -27,7 +27,7 @@ fn number_of(call: &Call) -> u32 {
 fn history(seed: u64, mistakes: u64, records: usize, calls: usize) -> usize {
     let mut bytes = vec![0; Book::RECORD * records];
     let mut book = Book::fresh(&mut bytes).expect("a length that fits");
-    let mut clerk = Clerk::new(seed, mistakes);
+    let mut clerk = Clerk::of_two_years(seed, mistakes);
     let mut answered: HashMap<u32, Answered> = HashMap::new();
     let mut before = book.bytes().to_vec();
     let mut accepted = 0;

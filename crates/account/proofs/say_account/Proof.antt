@@ -26,14 +26,27 @@ say-totals-requires c κs = search needs
 returns-3 : tie.Need-returns-3
 returns-3 c = search needs
 
-say-rest-requires : tie.Need-say-rest-requires
-say-rest-requires c κs =
-    let s = c .before .before .before .before .before .before .before .before in
-    let sums = c .before .before .statement-of in
-    sums-fit (now (s .args .book)) (s .pre .0) (s .args .user .0) (s .pre .1) (sums .result) (sums .ensures)
+say-open-year-requires : tie.Need-say-open-year-requires
+say-open-year-requires c κs = search needs
 
 returns-4 : tie.Need-returns-4
 returns-4 c = search needs
+
+say-open-years-requires : tie.Need-say-open-years-requires
+say-open-years-requires c κs = search needs
+
+returns-5 : tie.Need-returns-5
+returns-5 c = search needs
+
+say-rest-requires : tie.Need-say-rest-requires
+say-rest-requires c κs =
+    let stated = c .before .before .before .before .before .before in
+    let s = stated .before .before .before .before .before .before in
+    let sums = stated .statement-of in
+    sums-fit (now (s .args .book)) (s .pre .0) (s .args .user .0) (s .pre .1) (sums .result) (sums .ensures)
+
+returns-6 : tie.Need-returns-6
+returns-6 c = search needs
 
 pub say-account-spec : {M : Type 1} → statement M
 say-account-spec =
@@ -46,5 +59,9 @@ say-account-spec =
     statement-of-requires
     say-totals-requires
     returns-3
+    say-open-year-requires
+    returns-4
+    say-open-years-requires
+    returns-5
     say-rest-requires
-    returns-4)
+    returns-6)

@@ -4,8 +4,8 @@ use borrow.Author.Needs.{needs}
 use Rattle.book.proofs.due_if_made.Statement.{statement}
 use Rattle.book.proofs.due_if_made.Tie as tie
 
-run-made-requires : tie.Need-run-made-requires
-run-made-requires c κs = search needs
+is-made-requires : tie.Need-is-made-requires
+is-made-requires c κs = search needs
 
 halves-of-requires : tie.Need-halves-of-requires
 halves-of-requires c κs = search needs
@@ -18,4 +18,4 @@ unfolding dueIfMade
 returns c = cc
 
 pub due-if-made-spec : {M : Type 1} → statement M
-due-if-made-spec = tie.close (tie.spec run-made-requires halves-of-requires due-requires returns)
+due-if-made-spec = tie.close (tie.spec is-made-requires halves-of-requires due-requires returns)

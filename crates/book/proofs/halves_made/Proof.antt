@@ -7,8 +7,8 @@ use borrow.Author.Needs.{needs}
 use Rattle.book.proofs.halves_made.Statement.{statement}
 use Rattle.book.proofs.halves_made.Tie as tie
 
-run-made-requires : tie.Need-run-made-requires
-run-made-requires c κs = search needs
+is-made-requires : tie.Need-is-made-requires
+is-made-requires c κs = search needs
 
 halves-of-requires : tie.Need-halves-of-requires
 halves-of-requires c κs = search needs
@@ -21,17 +21,17 @@ unfolding halvesMade
 returns c =
     let a = c .before .before .before .before .args in
     let halves = c .before .halves-of .ensures in
-    let made = sym (c .before .before .before .run-made .ensures) ∙ c .before .before .if1 .taken in
+    let made = sym (c .before .before .before .is-made .ensures) ∙ c .before .before .if1 .taken in
     let count = c .halves-count .ensures ∙ ap halvesCount halves in
     (rw made count, rw (c .halves-count .ensures) (halves-at-most (c .before .halves-of .result)))
 
 returns-2 : tie.Need-returns-2
 unfolding halvesMade
 returns-2 c =
-    let made = sym (c .before .run-made .ensures) ∙ c .if1 .left in
+    let made = sym (c .before .is-made .ensures) ∙ c .if1 .left in
     (rw made, search needs)
 
 pub halves-made-spec : {M : Type 1} → statement M
 halves-made-spec =
     tie.close
-    (tie.spec run-made-requires halves-of-requires halves-count-requires returns returns-2)
+    (tie.spec is-made-requires halves-of-requires halves-count-requires returns returns-2)

@@ -7,7 +7,7 @@ use native.Mathlib.Omega.{arith}
 use borrow.Author.Tests.{eq-eqb, ne-eqb, le-leb, lt-leb}
 use lib.Dec.{eqb, leb}
 use Rattle.accounts.specs.declared.Account.{Account}
-use Rattle.book.specs.Book.{runMade, dueIfMade, runsFit, halvesMade, advancesFit}
+use Rattle.book.specs.Book.{isMade, dueIfMade, runsFit, halvesMade, advancesFit}
 use borrow.Author.Needs.{needs}
 use Rattle.book.proofs.paid_fits.Statement.{statement}
 use Rattle.book.proofs.paid_fits.Tie as tie
@@ -26,7 +26,7 @@ none-is-zero n = by-size (decLt 0 n)
     by-size (no h) = rw (eq-eqb n 0 (omega (arith, h)), le-leb n 0 (omega (arith, h)))
 
 unpaid : (a : Account) → a .runs ≡ 0 → eqb (a .advances .0) 0 ≡ (runsFit a && advancesFit a)
-unfolding runMade dueIfMade runsFit halvesMade advancesFit
+unfolding isMade dueIfMade runsFit halvesMade advancesFit
 unpaid a e = rw e (none-is-zero (a .advances .0))
 
 returns : tie.Need-returns

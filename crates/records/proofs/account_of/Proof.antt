@@ -21,11 +21,17 @@ open-year-of-requires c κs = search needs
 read-u8-requires-2 : tie.Need-read-u8-requires-2
 read-u8-requires-2 c κs = search needs
 
+read-u8-requires-3 : tie.Need-read-u8-requires-3
+read-u8-requires-3 c κs = search needs
+
 read-u64-requires : tie.Need-read-u64-requires
 read-u64-requires c κs = search needs
 
 read-u64-requires-2 : tie.Need-read-u64-requires-2
 read-u64-requires-2 c κs = search needs
+
+read-u64-requires-3 : tie.Need-read-u64-requires-3
+read-u64-requires-3 c κs = search needs
 
 read-u32-requires : tie.Need-read-u32-requires
 read-u32-requires c κs = search needs
@@ -37,9 +43,11 @@ returns : tie.Need-returns
 unfolding accountIn get
 returns c =
     let half1 = c .before in
-    let advances = half1 .before in
+    let later-advances = half1 .before in
+    let advances = later-advances .before in
     let credit = advances .before in
-    let runs = credit .before in
+    let later-runs = credit .before in
+    let runs = later-runs .before in
     let open-year = runs .before in
     let option = open-year .before in
     let details = option .before in
@@ -51,8 +59,10 @@ returns c =
       option = option .read-u8 .ensures i;
       «open_year» = open-year .open-year-of .ensures i;
       runs = runs .read-u82 .ensures i;
+      «later_runs» = later-runs .read-u83 .ensures i;
       credit = ticks (credit .read-u64 .ensures i);
       advances = ticks (advances .read-u642 .ensures i);
+      «later_advances» = ticks (later-advances .read-u643 .ensures i);
       half1 = kwh (half1 .read-u32 .ensures i);
       half2 = kwh (c .read-u322 .ensures i);
     }
@@ -66,8 +76,10 @@ account-of-spec =
     read-u8-requires
     open-year-of-requires
     read-u8-requires-2
+    read-u8-requires-3
     read-u64-requires
     read-u64-requires-2
+    read-u64-requires-3
     read-u32-requires
     read-u32-requires-2
     returns)

@@ -23,16 +23,21 @@ put-u64-requires c κs = search needs
 put-u32-requires-2 : tie.Need-put-u32-requires-2
 put-u32-requires-2 c κs = search needs
 
+put-u16-requires-2 : tie.Need-put-u16-requires-2
+put-u16-requires-2 c κs = search needs
+
 returns : tie.Need-returns
 unfolding advanceImage written
 returns c =
-    let ticks = c .before in
+    let owner = c .before in
+    let ticks = owner .before in
     let year = ticks .before in
     let run = year .before in
     let kind = run .before in
     let next = kind .before in
     rw (
-      c .put-u322 .ensures,
+      c .put-u162 .ensures,
+      owner .put-u322 .ensures,
       ticks .put-u64 .ensures,
       year .put-u16 .ensures,
       run .put-u82 .ensures,
@@ -50,4 +55,5 @@ advance-image-spec =
     put-u16-requires
     put-u64-requires
     put-u32-requires-2
+    put-u16-requires-2
     returns)

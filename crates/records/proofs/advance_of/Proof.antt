@@ -20,10 +20,14 @@ read-u64-requires c κs = search needs
 owner-of-requires : tie.Need-owner-of-requires
 owner-of-requires c κs = search needs
 
+booked-of-requires : tie.Need-booked-of-requires
+booked-of-requires c κs = search needs
+
 returns : tie.Need-returns
 unfolding advanceIn get
 returns c =
-    let ticks = c .before in
+    let owner = c .before in
+    let ticks = owner .before in
     let year = ticks .before in
     let run = year .before in
     let next = run .before in
@@ -33,7 +37,8 @@ returns c =
       run = run .read-u8 .ensures i;
       year = year .year-of .ensures i;
       ticks = record { 0 = ticks .read-u64 .ensures i };
-      owner = c .owner-of .ensures i;
+      owner = owner .owner-of .ensures i;
+      booked = c .booked-of .ensures i;
     }
 
 pub advance-of-spec : {M : Type 1} → statement M
@@ -45,4 +50,5 @@ advance-of-spec =
     year-of-requires
     read-u64-requires
     owner-of-requires
+    booked-of-requires
     returns)

@@ -56,10 +56,18 @@ put-u32-requires-5 c κs = search needs
 put-u32-requires-6 : tie.Need-put-u32-requires-6
 put-u32-requires-6 c κs = search needs
 
+put-u8-requires-8 : tie.Need-put-u8-requires-8
+put-u8-requires-8 c κs = search needs
+
+put-u64-requires-3 : tie.Need-put-u64-requires-3
+put-u64-requires-3 c κs = search needs
+
 returns : tie.Need-returns
 unfolding userImage written
 returns c =
-    let half1 = c .before in
+    let later-runs = c .before in
+    let half2 = later-runs .before in
+    let half1 = half2 .before in
     let advances = half1 .before in
     let credit = advances .before in
     let runs = credit .before in
@@ -76,7 +84,9 @@ returns c =
     let kind = class .before in
     let next = kind .before in
     rw (
-      c .put-u326 .ensures,
+      c .put-u643 .ensures,
+      later-runs .put-u88 .ensures,
+      half2 .put-u326 .ensures,
       half1 .put-u325 .ensures,
       advances .put-u642 .ensures,
       credit .put-u64 .ensures,
@@ -116,4 +126,6 @@ user-image-spec =
     put-u64-requires-2
     put-u32-requires-5
     put-u32-requires-6
+    put-u8-requires-8
+    put-u64-requires-3
     returns)

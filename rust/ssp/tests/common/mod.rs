@@ -106,6 +106,8 @@ struct User {
 pub struct Clerk {
     pub dice: Dice,
     mistakes: u64,
+    /// Whether runs are ordered for the later open year too (ticket 6).
+    two_years: bool,
     users: Vec<User>,
 }
 
@@ -114,7 +116,16 @@ impl Clerk {
         Clerk {
             dice: Dice::of(seed),
             mistakes,
+            two_years: false,
             users: Vec::new(),
+        }
+    }
+
+    /// One who orders runs of both open years.
+    pub fn of_two_years(seed: u64, mistakes: u64) -> Clerk {
+        Clerk {
+            two_years: true,
+            ..Clerk::new(seed, mistakes)
         }
     }
 
@@ -198,9 +209,10 @@ impl Clerk {
     fn order(&mut self) -> Call {
         let (number, open_year) = self.somebody();
         let mistaken = self.errs();
+        let later = self.two_years && self.dice.percent(40);
         let dice = &mut self.dice;
         let mut order = Order {
-            year: u32::from(open_year),
+            year: u32::from(open_year) + u32::from(later),
             run: dice.one_of(&[1, 2, 2, 4]) as u8,
             rate: dice.one_of(&[0, 1, 900, 9_000, 500_000]),
             estimates: [0, 1].map(|_| dice.one_of(&[0, 166, 167, 4_000, 90_000, 360_000_000])),
@@ -253,6 +265,46 @@ impl Clerk {
             _ => {}
         }
     }
+}
+
+/// The records that a book uses, as far as it has them.
+fn used_records(bytes: &[u8]) -> impl Iterator<Item = &[u8]> {
+    let used = u32::from_le_bytes([bytes[0], bytes[1], bytes[2], bytes[3]]);
+    bytes.chunks_exact(Book::RECORD).take(used as usize).skip(1)
+}
+
+/// The bytes of a record that ticket 6 gives a meaning: document 01, which `rust/peer` follows, wants zeros there.
+fn later_year_bytes(record: &[u8]) -> Vec<usize> {
+    match record[4] {
+        1 => [27].into_iter().chain(64..72).collect(),
+        2 => (76..78).collect(),
+        _ => Vec::new(),
+    }
+}
+
+/// Whether a book has anything of a later open year.
+pub fn has_later_year(bytes: &[u8]) -> bool {
+    used_records(bytes).any(|record| later_year_bytes(record).into_iter().any(|at| record[at] != 0))
+}
+
+/// Makes a book one of document 01 in this respect.
+pub fn clear_later_year(bytes: &mut [u8]) {
+    for record in bytes.chunks_exact_mut(Book::RECORD).skip(1) {
+        for at in later_year_bytes(record) {
+            record[at] = 0;
+        }
+    }
+}
+
+/// Whether a call orders a run of the later open year of some user of the book.
+pub fn is_for_later_year(call: &Call, bytes: &[u8]) -> bool {
+    let Call::Advance(number, order) = call else {
+        return false;
+    };
+    used_records(bytes).any(|user| {
+        let open_year = u16::from_le_bytes([user[24], user[25]]);
+        user[4] == 1 && user[8..12] == number.to_le_bytes() && order.year == u32::from(open_year) + 1
+    })
 }
 
 /// Damages some of the records that are used, or copies one over another.
