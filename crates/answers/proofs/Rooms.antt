@@ -1,7 +1,7 @@
 -- In a sound book a user's record stands whole, and so does the next record where there is room.
 use Prim.Native.Nat.{ℕ, _+_, _*_, _^_, _≤_, _<_}
 use mathlib.Core.Path.{_≡_}
-use mathlib.Core.Bool.{Bool, true, false}
+use mathlib.Core.Bool.{true}
 use mathlib.Core.List.{List}
 use native.Mathlib.Omega.{arith}
 use lib.ListN.{length}
@@ -24,7 +24,7 @@ module _ (b : List ℕ) (a : Accepted b) where
   used-fits : usedFits b ≡ true
   used-fits = sound-faultless b (a .fits) (a .isSound) .used-fits
 
-  pub user-stands : (i : ℕ) → isUser b i ≡ true → recordLength * i + recordLength ≤ length b
+  user-stands : (i : ℕ) → isUser b i ≡ true → recordLength * i + recordLength ≤ length b
   user-stands i u = used-whole b used-fits i (kind-index b userKind i u .1 .0)
 
   -- so does the record of the user that is found, or the head where none is

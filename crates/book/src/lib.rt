@@ -77,7 +77,7 @@ fn open_year_fits(a: Account) -> bool
 }
 
 // The halves that a run of the open year pays.
-pub fn halves_of(a: Account, run: u8) -> Halves
+fn halves_of(a: Account, run: u8) -> Halves
     ensures { λ r. ⌜ r ≡ halvesOf a run ⌝ }
 {
     calendar::halves_paid(a.details.year, a.details.month, a.open_year, run)

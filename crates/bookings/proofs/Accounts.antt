@@ -8,7 +8,6 @@ use native.Mathlib.Omega.{arith}
 use borrow.Author.Tests.{leb-true, le-leb, lt-ltb, eqb-true, eqb-false, ne-eqb}
 use lib.Dec.{leb, eqb}
 use Rattle.units.proofs.Bools.{and-both, and-right}
-use Rattle.units.specs.Units.{ticks}
 use Rattle.units.specs.Limits.{maxYearTicks, maxHalfTicks, maxHalfKwh, lastActivation, lastOpenYear}
 use Rattle.calendar.specs.ElectionAndAdvances.{june, october, january, halves, halvesPaid, due, halvesCount}
 use Rattle.values.specs.declared.Details.{Details}

@@ -35,7 +35,7 @@ amount-at-most h price h₁ h₂ p l₁ l₂ =
     share false energy l = omega arith
 
 -- the two open years
-pub open-years : (a : Account) (year : ℕ) → isOpen a year ≡ true → (year ≡ a .«open_year») ⊎ (year ≡ a .«open_year» + 1)
+open-years : (a : Account) (year : ℕ) → isOpen a year ≡ true → (year ≡ a .«open_year») ⊎ (year ≡ a .«open_year» + 1)
 unfolding isOpen
 open-years a year h =
     ⊎-elim (λ e. inl (eqb-true year (a .«open_year») e)) (λ e. inr (eqb-true year (a .«open_year» + 1) e))

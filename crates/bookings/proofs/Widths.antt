@@ -95,7 +95,7 @@ user-fits next first a hn hf number h =
     }
 
 -- the level of an entry bounds its year and what it notes
-pub level-bounds : (year booked last : ℕ) → levelFrom year booked ≤ last → bookedFits year booked ≡ true → (year ≤ last + 1) × (booked ≤ last)
+level-bounds : (year booked last : ℕ) → levelFrom year booked ≤ last → bookedFits year booked ≡ true → (year ≤ last + 1) × (booked ≤ last)
 unfolding levelFrom bookedFits
 level-bounds year booked last l h = by-note (eqb booked 0) refl
   where

@@ -1,7 +1,7 @@
 -- Laws of a store: the bytes stored are read back, and bytes before and after it stay.
-use Prim.Native.Nat.{ℕ, zero, suc, _+_, _-_, _^_, _≤_, _<_}
+use Prim.Native.Nat.{ℕ, _+_, _-_, _^_, _≤_, _<_}
 use mathlib.Core.Path.{_≡_, refl, sym, ap, ap₂, _∙_}
-use mathlib.Core.List.{List, [], _∷_, _++_, append-assoc}
+use mathlib.Core.List.{List, _++_, append-assoc}
 use native.Mathlib.Nat.{add-zero}
 use native.Mathlib.Omega.{arith}
 use lib.ListN.{length, getD, take, drop, length-append, length-take, length-drop, take-append-drop}
@@ -35,7 +35,7 @@ part-before w o at bs s h l =
     ∙ ap (take w) (drop-take o at s)
     ∙ take-take w (at - o) (drop o s) (omega arith)
 
-pub drop-after : (o at : ℕ) (bs s : List ℕ) → at + length bs ≤ o → at ≤ length s → drop o (stored at bs s) ≡ drop o s
+drop-after : (o at : ℕ) (bs s : List ℕ) → at + length bs ≤ o → at ≤ length s → drop o (stored at bs s) ≡ drop o s
 unfolding stored
 drop-after o at bs s h l =
     let end : length (take at s ++ bs) ≡ at + length bs = simp (length-append, length-take) (omega arith) in

@@ -65,10 +65,10 @@ value-front (suc k) n t h = by-size (decLt n 10) (value-front k)
         let last : valueAfter (n / 10) (b ∷ t) ≡ valueAfter n t = rw (one, whole) in
         ap value text ∙ before (n / 10) (b ∷ t) (omega (arith, more)) ∙ last
 
-pub digits-decimal : (n : ℕ) (t : List ℕ) → digits (decimal n ++ t) ≡ length (decimal n) + digits t
+digits-decimal : (n : ℕ) (t : List ℕ) → digits (decimal n ++ t) ≡ length (decimal n) + digits t
 digits-decimal n t = digits-front (suc n) n t (omega arith)
 
-pub value-decimal : (n : ℕ) (t : List ℕ) → value (decimal n ++ t) ≡ valueAfter n t
+value-decimal : (n : ℕ) (t : List ℕ) → value (decimal n ++ t) ≡ valueAfter n t
 value-decimal n t = value-front (suc n) n t (omega arith)
 
 -- the first digit of a number other than 0 is not `0`
@@ -83,7 +83,7 @@ first-digit (suc k) n t h l = by-size (decLt n 10) (first-digit k)
         = ap (λ (l : List ℕ). l ++ t) (decimal-more n (omega (arith, more))) ∙ append-assoc (decimal (n / 10)) ((48 + n % 10) ∷ []) t in
         rw text (before (n / 10) ((48 + n % 10) ∷ t) (omega (arith, more)) (omega (arith, more)))
 
-pub field-regroup : (n stop : ℕ) (t : List ℕ) → field n stop ++ t ≡ decimal n ++ (stop ∷ t)
+field-regroup : (n stop : ℕ) (t : List ℕ) → field n stop ++ t ≡ decimal n ++ (stop ∷ t)
 unfolding field
 field-regroup n stop t = append-assoc (decimal n) (stop ∷ []) t
 

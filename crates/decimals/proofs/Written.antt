@@ -42,7 +42,7 @@ pub front-more : (n : ℕ) → 10 ≤ n → front n ≡ decimal (n / 10)
 unfolding front
 front-more n h = let large : ltb n 10 ≡ false = le-ltb n 10 h in rw large
 
-pub decimal-last : (n : ℕ) → decimal n ≡ front n ++ ((48 + n % 10) ∷ [])
+decimal-last : (n : ℕ) → decimal n ≡ front n ++ ((48 + n % 10) ∷ [])
 unfolding front decimal decimalOf
 decimal-last n = by-size (decLt n 10)
   where

@@ -6,7 +6,7 @@ ghost use Rattle.codec.specs.Bytes.{stored};
 ghost use Rattle.decimals.specs.Decimals.{decimal, field, isDigit, RunRead, FieldRead};
 
 // Digits one after the other: the place behind them, and their number as far as it counts.
-pub struct Run {
+struct Run {
     pub end: usize,
     pub value: u32,
 }

@@ -33,17 +33,17 @@ fed held n from to size low e l =
 pub unfed : (held : List ℕ) (n from to : ℕ) → n ≤ length held → LineEnd (take n held) from to → n ≤ to → NoFeed held from n
 unfed held n from to size e l k a b h = e .before k a (omega arith) (getD-take n held k 0 b ∙ h)
 
-pub feed-less-joined : (s : List ℕ) (a b c : ℕ) → NoFeed s a b → NoFeed s b c → NoFeed s a c
+feed-less-joined : (s : List ℕ) (a b c : ℕ) → NoFeed s a b → NoFeed s b c → NoFeed s a c
 feed-less-joined s a b c p q k low high h = let below : k < b → ⊥ = λ l. p k low l h in q k (omega arith) high h
 
-pub feed-less-kept : (before after : List ℕ) (n : ℕ) → take n after ≡ take n before → NoFeed before 0 n → NoFeed after 0 n
+feed-less-kept : (before after : List ℕ) (n : ℕ) → take n after ≡ take n before → NoFeed before 0 n → NoFeed after 0 n
 feed-less-kept before after n same p k low high h =
     p k low high (sym (getD-take n before k 0 high) ∙ sym (ap (λ (l : List ℕ). getD l k 0) same) ∙ getD-take n after k 0 high ∙ h)
 
 pub nothing-is-held : (held : List ℕ) (f : Found) → LineHeld held (nothingHeld f)
 nothing-is-held held f = record { from = omega arith; to = omega arith; next = omega arith; filled = omega arith }
 
-pub line-is-held : (held : List ℕ) (f : Found) (from to filled : ℕ) → from ≤ to → to < filled → filled ≤ length held
+line-is-held : (held : List ℕ) (f : Found) (from to filled : ℕ) → from ≤ to → to < filled → filled ≤ length held
     → LineHeld held (lineAt f from to filled)
 line-is-held held f from to filled a b c = record { from = a; to = omega arith; next = omega arith; filled = c }
 

@@ -25,7 +25,7 @@ pub field-whole : (n x : ℕ) → n < 2 ^ 64 → decimals.field n x ≡ field n 
 unfolding field decimals.field
 field-whole n x h = ap (λ (l : List ℕ). l ++ (x ∷ [])) (sym (all-digits 19 n (omega arith)))
 
-pub length-line : (a : Account) → length (accountLine a)
+length-line : (a : Account) → length (accountLine a)
     ≡ length (field (a .number .0) blank) + (length (field (a .«open_year») blank) + length (field (a .credit .0) lineFeed))
 unfolding accountLine
 length-line a = simp length-append
@@ -36,7 +36,7 @@ line-short a =
     (arith, length-line a, field-short (a .number .0) blank, field-short (a .«open_year») blank, field-short (a .credit .0) lineFeed)
 
 -- three pieces stored one after the other
-pub stored-three : (at : ℕ) (bs cs ds s : List ℕ) → at + (length bs + (length cs + length ds)) ≤ length s
+stored-three : (at : ℕ) (bs cs ds s : List ℕ) → at + (length bs + (length cs + length ds)) ≤ length s
     → stored (at + length bs + length cs) ds (stored (at + length bs) cs (stored at bs s)) ≡ stored at (bs ++ (cs ++ ds)) s
 stored-three at bs cs ds s h =
     let both : length (bs ++ cs) ≡ length bs + length cs = length-append bs cs in

@@ -1,8 +1,8 @@
 -- The text of a refused book, which text a book has, and that none is longer than `longestText`.
 use Prim.Native.Nat.{ℕ, _+_, _≤_}
-use mathlib.Core.Path.{_≡_, refl, sym, ap, subst, _∙_}
+use mathlib.Core.Path.{_≡_, refl, ap, subst, _∙_}
 use mathlib.Core.Bool.{Bool, true, false, cond}
-use mathlib.Core.List.{List, [], _∷_, _++_}
+use mathlib.Core.List.{List, [], _∷_}
 use native.Mathlib.Omega.{arith}
 use lib.ListN.{length}
 use lib.Seq.{sets}
@@ -63,7 +63,7 @@ module _ (b : List ℕ) where
       → (r ≡ length (listing b)) × (l ≡ stored 0 (listing b) s)
   answered t s l r e h = rw e h
 
-  pub listing-short : length (listing b) ≤ longestText
+  listing-short : length (listing b) ≤ longestText
   unfolding listing
   listing-short = by-tests (lengthFits b) (sound b) refl refl
     where

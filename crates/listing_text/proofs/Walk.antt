@@ -1,17 +1,16 @@
 -- The walk over the users' chain of a sound book: the lines ahead, stored after those written, always give the same text.
 use Prim.Native.Nat.{ℕ, _+_, _*_, _≤_, _<_}
-use mathlib.Core.Path.{_≡_, refl, sym, ap, _∙_, subst}
+use mathlib.Core.Path.{_≡_, refl, sym, ap, _∙_}
 use mathlib.Core.Bool.{true}
 use mathlib.Core.Logic.{⊎-elim}
 use mathlib.Core.List.{List, [], _∷_, _++_}
-use native.Mathlib.Nat.{add-zero}
 use native.Mathlib.Omega.{arith}
 use lib.ListN.{length, length-append}
 use Rattle.accounts.specs.declared.Account.{Account}
 use Rattle.codec.specs.Bytes.{stored}
 use Rattle.codec.proofs.Stores.{length-stored}
 use Rattle.layout.specs.Fields.{recordLength}
-use Rattle.book.specs.Book.{used, firstUser, lengthFits, sound, isUser, nextOf, accountAt}
+use Rattle.book.specs.Book.{firstUser, lengthFits, sound, isUser, nextOf, accountAt}
 use Rattle.book.proofs.Lengths.{capacity-most}
 use Rattle.book.proofs.Faults.{used-within, used-whole}
 use Rattle.book.proofs.Faultless.{Faultless, sound-faultless}
@@ -111,7 +110,7 @@ module _ (b before out : List ℕ) (end user : ℕ) (w : Walking b before out en
   length-ahead : length (linesFrom b user) ≡ length here + length (linesFrom b (nextOf b user))
   length-ahead = ap length ahead ∙ length-append here (linesFrom b (nextOf b user))
 
-  pub turned : Walking b before (stored end here out) (end + length here) (nextOf b user)
+  turned : Walking b before (stored end here out) (end + length here) (nextOf b user)
   turned =
       let short : length here ≤ longestLine = line-short (accountAt b user) in
       let both : end + (length here + length (linesFrom b (nextOf b user))) ≤ length out =

@@ -4,7 +4,7 @@ use mathlib.Core.Path.{_≡_, refl, sym, ap, _∙_}
 use mathlib.Core.List.{List, [], _∷_, _++_, append-assoc, append-nil}
 use native.Mathlib.Numerals.{add-one}
 use native.Mathlib.Omega.{arith}
-use lib.ListN.{length, getD, take, set, length-append, length-take}
+use lib.ListN.{length, getD, take, set, length-append}
 use lib.Seq.{take-all, take-at, take-suc, take-suc-set, length-take-le}
 use Rattle.output.specs.Rows.{rowRoom, joined, blanks}
 
@@ -31,7 +31,7 @@ pub nothing-joined : (s : List ℕ) → length s ≤ rowRoom → s ≡ joined s 
 unfolding joined
 nothing-joined s h = rw append-nil (sym (take-all rowRoom s h))
 
-pub joined-twice : (s t u : List ℕ) → joined (joined s t) u ≡ joined s (t ++ u)
+joined-twice : (s t u : List ℕ) → joined (joined s t) u ≡ joined s (t ++ u)
 unfolding joined
 joined-twice s t u = cut-twice rowRoom (s ++ t) u ∙ ap (take rowRoom) (append-assoc s t u)
 

@@ -1,6 +1,6 @@
 -- The prices of a month as they stand in the parts of the sheet that are lent.
 use Prim.Native.Nat.{ℕ, _+_, _-_, _*_, _≤_, _<_}
-use mathlib.Core.Path.{_≡_, refl, sym, ap, _∙_}
+use mathlib.Core.Path.{_≡_, ap, _∙_}
 use mathlib.Core.Bool.{Bool, true, false, cond}
 use mathlib.Core.List.{List, [], _∷_}
 use native.Mathlib.Omega.{arith}
@@ -42,14 +42,14 @@ word-in-part s m place n k at o o′ h l e =
     ∙ number-part 4 (o + o′) n at s (omega arith)
     ∙ ap (λ (i : ℕ). number 4 i s) (let sum : at + (o + o′) ≡ 32 + 96 * m + 4 * place = omega arith in sum)
 
-pub band-price : (s : List ℕ) (island : Bool) (m b : ℕ) → b < 3
+band-price : (s : List ℕ) (island : Bool) (m b : ℕ) → b < 3
     → number 4 (4 * b) (cond island (part 12 0 (punPart s m)) (part 12 0 (zonePart s m))) ≡ bandPrice s island m b
 unfolding bandPrice
 band-price s true m b h = word-in-part s m (6 + b) 16 12 (punFrom m) 0 (4 * b) (omega arith) (omega arith) (omega arith)
 band-price s false m b h =
     word-in-part s m (10 + b) 20 12 (zoneFrom m) 0 (4 * b) (omega arith) (omega arith) (omega arith)
 
-pub single-price : (s : List ℕ) (island photovoltaic : Bool) (m : ℕ)
+single-price : (s : List ℕ) (island photovoltaic : Bool) (m : ℕ)
     → number 4 0 (cond island (part 4 12 (punPart s m)) (cond photovoltaic (part 4 16 (zonePart s m)) (part 4 12 (zonePart s m))))
     ≡ singlePrice s island photovoltaic m
 unfolding singlePrice

@@ -1,6 +1,6 @@
 -- The rows of a sheet that has passed its checks: within their limits, and of the value that the definitions give them.
 use Prim.Native.Nat.{ℕ, _+_, _*_, _≤_, _<_}
-use mathlib.Core.Path.{_≡_, refl, sym, ap, _∙_}
+use mathlib.Core.Path.{_≡_, refl}
 use mathlib.Core.Bool.{Bool, true, false, cond}
 use mathlib.Core.List.{List, []}
 use native.Mathlib.Omega.{arith}
@@ -13,7 +13,7 @@ use Rattle.units.specs.Folds.{sumBelow}
 use Rattle.units.proofs.Folds.{sum-cong}
 use Rattle.sheet.specs.YearSheet.{word, Passed, withdrawnReading, injectedReading, byBands}
 use Rattle.sheet.proofs.Limits.{passed-energy, passed-price}
-use Rattle.prices.specs.Arrays.{energyRow, priceRow, RowFits, rowValue, EnergyRows, PriceRows, energyAt, priceAt}
+use Rattle.prices.specs.Arrays.{energyRow, priceRow, RowFits, rowValue, EnergyRows, PriceRows, energyAt}
 use Rattle.prices.specs.ValueAndCost.{bandPrice, singlePrice, costIn, costOf, valueIn, valueOf}
 
 pub band-price-fits : (s : List ℕ) → Passed s → (island : Bool) (m b : ℕ) → m < 12 → b < 3 → bandPrice s island m b ≤ maxPrice
@@ -28,7 +28,7 @@ single-price-fits s h false true m hm = passed-price s (h .past13) m 14 hm (lit�
 single-price-fits s h false false m hm = passed-price s (h .past13) m 13 hm (lit≤ tt) (lit< tt)
 
 -- withdrawn energies are at place 0, injected ones at place 3
-pub row-fits : (s : List ℕ) → Passed s → (place : ℕ) → place ≤ 3 → (bands island photovoltaic : Bool) (m : ℕ) → m < 12
+row-fits : (s : List ℕ) → Passed s → (place : ℕ) → place ≤ 3 → (bands island photovoltaic : Bool) (m : ℕ) → m < 12
     → RowFits (energyRow s place m) (priceRow s bands island photovoltaic m)
 row-fits s h place hp true island p m hm =
     record {

@@ -83,20 +83,20 @@ pub struct Fields {
 }
 
 // A word of bytes, and whether one stands there.
-pub struct Word {
+struct Word {
     pub fit: bool,
     pub digits: Digits,
 }
 
 // Two words of bytes, and whether they are all that stands there.
-pub struct Words {
+struct Words {
     pub fit: bool,
     pub first: Digits,
     pub second: Digits,
 }
 
 // The longest buffer, and the longest line: `load`, a blank and two digits for each of its bytes.
-pub const LONGEST_BOOK: usize = 65_536;
+const LONGEST_BOOK: usize = 65_536;
 
 const LONGEST_LINE: usize = 4 + 1 + 2 * LONGEST_BOOK;
 

@@ -1,10 +1,9 @@
 -- The earliest number at fault: there is one where any number is at fault, and no sheet has two. It decides between 13 and 19.
 use Prim.Native.Nat.{ℕ, _+_, _-_, _≤_, _<_}
 use mathlib.Core.Path.{_≡_, refl, sym, ap₂, _∙_}
-use mathlib.Core.Bool.{Bool, true, false, cond, not, _&&_, _||_, true≢false}
+use mathlib.Core.Bool.{Bool, true, false, not, _&&_, _||_, true≢false}
 use mathlib.Core.Logic.{_⊎_, inl, inr, ⊎-elim}
 use mathlib.Core.List.{List}
-use native.Mathlib.Decide.{decLt}
 use native.Mathlib.Omega.{arith}
 use borrow.Author.Tests.{ne-eqb, not-true}
 use lib.Dec.{eqb, ltb}
@@ -39,7 +38,7 @@ module _ (s : List ℕ) where
     pub row : (p : ℕ) → p < place → atFault s m p ≡ false
     pub months : Before m
 
-  pub is-earliest : (m place : ℕ) → earliest s m place ≡ true → IsEarliest m place
+  is-earliest : (m place : ℕ) → earliest s m place ≡ true → IsEarliest m place
   unfolding earliest
   is-earliest m place e =
       let row = allBelow place (λ p. not (atFault s m p)) in
@@ -51,7 +50,7 @@ module _ (s : List ℕ) where
         months = λ n l p k. not-true _ (all-at 23 (λ q. not (atFault s n q)) (all-at m (λ x. allBelow 23 (λ q. not (atFault s x q))) (and-right row months rest) n l) p k);
       }
 
-  pub earliest-is : (m place : ℕ) → IsEarliest m place → earliest s m place ≡ true
+  earliest-is : (m place : ℕ) → IsEarliest m place → earliest s m place ≡ true
   unfolding earliest
   earliest-is m place i =
       and-both (i .at-fault)
@@ -65,7 +64,7 @@ module _ (s : List ℕ) where
   not-left : (m p q : ℕ) → IsEarliest m p → IsEarliest m q → p < q → ⊥
   not-left m p q here there l = true≢false (sym (here .at-fault) ∙ there .row p l)
 
-  pub same-number : (m p n q : ℕ) → IsEarliest m p → IsEarliest n q → p < 23 → q < 23 → (m ≡ n) × (p ≡ q)
+  same-number : (m p n q : ℕ) → IsEarliest m p → IsEarliest n q → p < 23 → q < 23 → (m ≡ n) × (p ≡ q)
   same-number m p n q here there hp hq =
       let month : m ≡ n = omega (arith, not-earlier m p n q here there hp, not-earlier n q m p there here hq) in
       let moved : IsEarliest m q = rw month there in
@@ -99,7 +98,7 @@ module _ (s : List ℕ) where
       by-month (inr none) = inr (λ m l. none-at 23 (atFault s m) (none m l))
 
   -- what is told of the earliest number, months and places counted from 1
-  pub found-at : (f : Found) (p : Position) → p .month ≡ f .m + 1 → p .place ≡ f .place + 1 → EarliestAt s p
+  found-at : (f : Found) (p : Position) → p .month ≡ f .m + 1 → p .place ≡ f .place + 1 → EarliestAt s p
   found-at f p month place =
       let m : p .month - 1 ≡ f .m = omega (arith, month) in
       let q : p .place - 1 ≡ f .place = omega (arith, place) in
@@ -158,7 +157,7 @@ module _ (s : List ℕ) where
 
   -- no number at fault, and neither 13 nor 19
   module _ (none : (m : ℕ) → m < 12 → (p : ℕ) → p < 23 → atFault s m p ≡ false) where
-    pub undecided : Past13 s
+    undecided : Past13 s
     unfolding refused13 refused19 earliest
     undecided = (
       none-of 12 (λ m. anyBelow 23 (λ p. earliest s m p && aboveLimit s m p)) (λ m l. none-of 23 (λ p. earliest s m p && aboveLimit s m p) (λ p k. rw (none m l p k) refl)),

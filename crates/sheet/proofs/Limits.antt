@@ -1,11 +1,11 @@
 -- What a sheet that has passed 11 and 13 has: its length, and every number within its limit.
 use Prim.Native.Nat.{ℕ, _*_, _≤_, _<_}
-use mathlib.Core.Path.{_≡_, refl, sym, ap, _∙_}
-use mathlib.Core.Bool.{Bool, true, false, not, _&&_}
+use mathlib.Core.Path.{_≡_}
+use mathlib.Core.Bool.{true, false, _&&_}
 use mathlib.Core.List.{List}
 use native.Mathlib.Omega.{arith}
 use borrow.Author.Tests.{eqb-true, ltb-false, lt-ltb, le-ltb, not-false}
-use lib.Dec.{lit<, eqb, ltb}
+use lib.Dec.{lit<, eqb}
 use lib.ListN.{length}
 use Rattle.units.specs.Limits.{maxKwh, maxPrice}
 use Rattle.units.proofs.Bools.{and-left, or-left}
@@ -22,7 +22,7 @@ passed-length s h =
     let all : (formFits s && (versionZero s && pointZero s)) ≡ true = not-false _ h in
     form-length s (and-left (formFits s) (versionZero s && pointZero s) all)
 
-pub passed-limit : (s : List ℕ) → Past13 s → (m place : ℕ) → m < 12 → place < 23 → word s m place ≤ limitAt place
+passed-limit : (s : List ℕ) → Past13 s → (m place : ℕ) → m < 12 → place < 23 → word s m place ≤ limitAt place
 unfolding atFault aboveLimit
 passed-limit s h m place hm hp =
     ltb-false (limitAt place) (word s m place) (or-left (aboveLimit s m place) (strayBand s m place) (past-none s h m hm place hp))

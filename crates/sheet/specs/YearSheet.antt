@@ -1,6 +1,6 @@
 -- "Year sheet" of document 01: the sheet's fields as numbers of its bytes, and what refusals 11, 13, 14 and 19 look at.
 -- Months are counted from 0, bands F1 F2 F3 and tiers 1–4 from 0. A number past the end of the bytes is 0.
-use Prim.Native.Nat.{ℕ, _+_, _-_, _*_, _≤_, _<_}
+use Prim.Native.Nat.{ℕ, _+_, _-_, _*_, _≤_}
 use mathlib.Core.Path.{_≡_}
 use mathlib.Core.Bool.{Bool, true, false, cond, not, _&&_, _||_}
 use mathlib.Core.List.{List}

@@ -20,7 +20,7 @@ use Rattle.sheet_archive.specs.Steps.{before, nextFour, numberStored, fo
 use Rattle.sheet_archive.proofs.Tables.{length-header, header-first, table-of-parts}
 use Rattle.sheet_archive.proofs.Columns.{Words, before-next, sum-from-before}
 
-pub column-words : (a : List ℕ) → Bytes a → (column : ℕ) → Words (inArchive sheetMonths a column)
+column-words : (a : List ℕ) → Bytes a → (column : ℕ) → Words (inArchive sheetMonths a column)
 unfolding numberIn
 column-words a bytes column m = number-below 4 (headerLength + 4 * (sheetMonths * column + m)) a bytes
 

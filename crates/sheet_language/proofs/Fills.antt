@@ -32,7 +32,7 @@ number-behind w o at n s l h = ap littleEndian (part-after w o at (bytesOf 4 n) 
 
 -- ONE MONTH
 module _ (kwh : ℕ → ℕ) (m : ℕ) (s : List ℕ) (hm : m < months) (long : length s ≡ sheetLength) where
-  pub month-here : (p j : ℕ) → p ≤ places → j < p → kwh j ≤ maxKwh → word (monthFilled kwh m p s) m j ≡ kwh j
+  month-here : (p j : ℕ) → p ≤ places → j < p → kwh j ≤ maxKwh → word (monthFilled kwh m p s) m j ≡ kwh j
   unfolding monthFilled word
   month-here zero j hp hj small = let z : ⊥ = omega arith in absurd z
   month-here (suc p) j hp hj small = by-place (decLt j p) (λ less. month-here p j (omega arith) less small)
@@ -49,7 +49,7 @@ module _ (kwh : ℕ → ℕ) (m : ℕ) (s : List ℕ) (hm : m < months) (long : 
           rw same
           (number-stored 4 (32 + 96 * m + 4 * p) (kwh p) (monthFilled kwh m p s) (let fits : kwh p ≤ maxKwh = rw same at small in omega arith) (omega (arith, size)))
 
-  pub month-other : (p i j : ℕ) → p ≤ places → (i ≡ m → ⊥) → j < places → word (monthFilled kwh m p s) i j ≡ word s i j
+  month-other : (p i j : ℕ) → p ≤ places → (i ≡ m → ⊥) → j < places → word (monthFilled kwh m p s) i j ≡ word s i j
   unfolding monthFilled word
   month-other zero i j hp hi hj = refl
   month-other (suc p) i j hp hi hj = by-place (decLt i m) ∙ month-other p i j (omega arith) hi hj
@@ -65,7 +65,7 @@ module _ (kwh : ℕ → ℕ) (m : ℕ) (s : List ℕ) (hm : m < months) (long : 
           number-behind 4 (32 + 96 * i + 4 * j) (32 + 96 * m + 4 * p) (kwh p) (monthFilled kwh m p s) (omega (arith, size))
           (let later : m + 1 ≤ i = omega (arith, hi, more) in omega arith)
 
-  pub month-byte : (p k : ℕ) → p ≤ places → ((j : ℕ) → j < places → InKwh k m j → ⊥) → getD (monthFilled kwh m p s) k 0 ≡ getD s k 0
+  month-byte : (p k : ℕ) → p ≤ places → ((j : ℕ) → j < places → InKwh k m j → ⊥) → getD (monthFilled kwh m p s) k 0 ≡ getD s k 0
   unfolding monthFilled
   month-byte zero k hp out = refl
   month-byte (suc p) k hp out = by-place (decLt k (32 + 96 * m + 4 * p)) ∙ month-byte p k (omega arith) out
@@ -117,7 +117,7 @@ module _ (kwh : ℕ → ℕ → ℕ) (s : List ℕ) (long : length s ≡ sheetLe
   pub filled-numbers : Within kwh → Same (word (filled kwh s)) kwh
   filled-numbers within m p hm hp = months-number months m p (omega arith) hm hp (within m p hm hp)
 
-  pub filled-byte : (k : ℕ) → ((m p : ℕ) → m < months → p < places → InKwh k m p → ⊥) → getD (filled kwh s) k 0 ≡ getD s k 0
+  filled-byte : (k : ℕ) → ((m p : ℕ) → m < months → p < places → InKwh k m p → ⊥) → getD (filled kwh s) k 0 ≡ getD s k 0
   filled-byte k out = months-byte months k (omega arith) out
 
 -- THE CALL: a sheet that is filled, and one that is left
@@ -130,7 +130,7 @@ sheet-cases P s t fill left = by-test (eqb (length s) sheetLength) refl (not (so
     by-test true e false = left
     by-test false e b = left
 
-pub accepted-sheet : (s t : List ℕ) → readAnswer s t ≡ accepted → (length s ≡ sheetLength) × (someRefused t ≡ false)
+accepted-sheet : (s t : List ℕ) → readAnswer s t ≡ accepted → (length s ≡ sheetLength) × (someRefused t ≡ false)
 unfolding readAnswer
 accepted-sheet s t e = by-test (eqb (length s) sheetLength) refl e
   where

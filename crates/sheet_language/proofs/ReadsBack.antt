@@ -36,7 +36,7 @@ module _ (s b : List ℕ) (n : ℕ) (e : writeAnswer s b ≡ textWritten n) wher
       by-test true p false q r = record { fits = p; small = q; long = sym (ap (λ (w : Written). w .length) r) }
       by-test false p a q r = let z : _≡_ {A = ℕ} 11 0 = ap (λ (w : Written). w .refusal) r in let no : ⊥ = omega arith in absurd no
 
-  pub lines-stand : take n (bufferAfter s b) ≡ yearText (word s)
+  lines-stand : take n (bufferAfter s b) ≡ yearText (word s)
   unfolding bufferAfter stored
   lines-stand =
       let ok = answered in
@@ -44,7 +44,7 @@ module _ (s b : List ℕ) (n : ℕ) (e : writeAnswer s b ≡ textWritten n) wher
       let small : sheetAbove s ≡ false = ok .small in
       rw (fits, small) (take-at (yearText (word s)) _ n (sym (ok .long)))
 
-  pub back-taken : someRefused (take n (bufferAfter s b)) ≡ false
+  back-taken : someRefused (take n (bufferAfter s b)) ≡ false
   back-taken = ap someRefused lines-stand ∙ written-taken (word s) (sheet-within s (answered .small))
 
 back-answer : (s b u : List ℕ) (n : ℕ) → writeAnswer s b ≡ textWritten n → length u ≡ sheetLength → readAnswer u (take n (bufferAfter s b)) ≡ accepted

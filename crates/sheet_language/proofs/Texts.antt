@@ -66,14 +66,14 @@ module _ (t : List ℕ) (none : someRefused t ≡ false) where
       numbers-of : (i p : ℕ) → p < places → kwhAt (fromLine i t) p ≡ kwhIn t i p
       numbers-of i p l = refl
 
-  pub taken-written : t ≡ yearText (kwhIn t)
+  taken-written : t ≡ yearText (kwhIn t)
   taken-written =
       lines-front months (omega arith)
       ∙ ap (λ (u : List ℕ). yearText (kwhIn t) ++ u) nothing-left
       ∙ append-nil (yearText (kwhIn t))
 
 -- WRITTEN, THEN TAKEN
-pub from-line : (kwh : ℕ → ℕ → ℕ) (m : ℕ) (u : List ℕ) → fromLine m (lines m kwh ++ u) ≡ u
+from-line : (kwh : ℕ → ℕ → ℕ) (m : ℕ) (u : List ℕ) → fromLine m (lines m kwh ++ u) ≡ u
 unfolding lines fromLine
 from-line kwh zero u = refl
 from-line kwh (suc m) u =

@@ -23,7 +23,7 @@ least-is n test (Addition.Found x) h =
 least-is n test Addition.None h = rw (none-of n test h)
 
 -- and conversely
-pub is-least : (n : ℕ) (test : ℕ → Bool) → IsLeast n test (leastBelow n test)
+is-least : (n : ℕ) (test : ℕ → Bool) → IsLeast n test (leastBelow n test)
 unfolding leastBelow
 is-least n test = by-search (first-below n test)
   where

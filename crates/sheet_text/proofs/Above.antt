@@ -33,7 +33,7 @@ module _ (kwh : ℕ → ℕ) where
   none-more p h l = any-step p (λ i. ltb maxKwh (kwh i)) ∙ or-neither h (le-ltb maxKwh (kwh p) l)
 
   -- a number above the limit, none before it; none at all
-  pub some-above : (p : ℕ) → p < places → maxKwh < kwh p → someAbove kwh ≡ true
+  some-above : (p : ℕ) → p < places → maxKwh < kwh p → someAbove kwh ≡ true
   unfolding someAbove
   some-above p l h = any-of places (λ i. ltb maxKwh (kwh i)) p l (lt-ltb maxKwh (kwh p) h)
 

@@ -28,7 +28,7 @@ module _ (kwh : ℕ → ℕ) (m : ℕ) (s : List ℕ) where
       let before : length (monthFilled kwh m p s) ≡ sheetLength = month-length p long hm (omega arith) in
       length-stored (32 + 96 * m + 4 * p) (bytesOf 4 (kwh p)) (monthFilled kwh m p s) (omega (arith, length-bytes 4 (kwh p))) ∙ before
 
-pub month-same : (f g : ℕ → ℕ) (m : ℕ) (s : List ℕ) (p : ℕ) → ((i : ℕ) → i < p → f i ≡ g i) → monthFilled f m p s ≡ monthFilled g m p s
+month-same : (f g : ℕ → ℕ) (m : ℕ) (s : List ℕ) (p : ℕ) → ((i : ℕ) → i < p → f i ≡ g i) → monthFilled f m p s ≡ monthFilled g m p s
 unfolding monthFilled
 month-same f g m s zero h = refl
 month-same f g m s (suc p) h =

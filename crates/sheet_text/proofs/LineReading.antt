@@ -23,16 +23,16 @@ month-told n month h = by-size (decLt n tooMuch)
         ne-eqb (min n tooMuch) month (λ e. omega (arith, more)) ∙ sym (ne-eqb n month (λ e. omega (arith, more)))
 
 -- a field that follows the one before it
-pub record FieldOf (t : List ℕ) (at k stop : ℕ) (r : Field) : Type 0 where
+record FieldOf (t : List ℕ) (at k stop : ℕ) (r : Field) : Type 0 where
   pub fits : r .fits ≡ beginsField stop (fromNumber k (drop at t))
   pub value : r .value ≡ min (value (fromNumber k (drop at t))) tooMuch
   pub rest : drop (r .next) t ≡ fromNumber (suc k) (drop at t)
 
-pub field-first : (t : List ℕ) (at stop : ℕ) (r : Field) → FieldRead t at stop tooMuch r → FieldOf t at 0 stop r
+field-first : (t : List ℕ) (at stop : ℕ) (r : Field) → FieldRead t at stop tooMuch r → FieldOf t at 0 stop r
 unfolding fromNumber
 field-first t at stop r h = record { fits = h .fits; value = h .value; rest = h .rest }
 
-pub field-next : (t : List ℕ) (at k from stop : ℕ) (r : Field) → drop from t ≡ fromNumber k (drop at t)
+field-next : (t : List ℕ) (at k from stop : ℕ) (r : Field) → drop from t ≡ fromNumber k (drop at t)
     → FieldRead t from stop tooMuch r → FieldOf t at k stop r
 unfolding fromNumber
 field-next t at k from stop r e h =

@@ -49,7 +49,7 @@ numbers-same f g zero h = refl
 numbers-same f g (suc p) h = ap₂ (λ (t : List ℕ) (n : ℕ). t ++ field n (stopAt p)) (numbers-same f g p (λ i l. h i (omega arith))) (h p (omega arith))
 
 -- the month in front
-pub line-parts : (month : ℕ) (kwh : ℕ → ℕ) → field month semicolon ++ numbersTo kwh places ≡ line month kwh
+line-parts : (month : ℕ) (kwh : ℕ → ℕ) → field month semicolon ++ numbersTo kwh places ≡ line month kwh
 unfolding line numbersTo stopAt
 line-parts month kwh = simp append-assoc
 
@@ -92,7 +92,7 @@ pub lines-none : (kwh : ℕ → ℕ → ℕ) → [] ≡ lines 0 kwh
 unfolding lines
 lines-none kwh = refl
 
-pub lines-more : (m : ℕ) (kwh : ℕ → ℕ → ℕ) → lines (m + 1) kwh ≡ lines m kwh ++ line (m + 1) (kwh m)
+lines-more : (m : ℕ) (kwh : ℕ → ℕ → ℕ) → lines (m + 1) kwh ≡ lines m kwh ++ line (m + 1) (kwh m)
 unfolding lines
 lines-more m kwh = ap (λ (k : ℕ). lines k kwh) (add-one m)
 

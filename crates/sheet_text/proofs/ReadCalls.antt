@@ -32,7 +32,7 @@ text-taken t e = by-test (someRefused t) e
     by-test true z = absurd (objection-told t (firstRefused t) z)
     by-test false z = refl
 
-pub text-refused : (t : List ℕ) → (textAnswer t .refusal ≡ 0 → ⊥) → someRefused t ≡ true
+text-refused : (t : List ℕ) → (textAnswer t .refusal ≡ 0 → ⊥) → someRefused t ≡ true
 unfolding textAnswer
 text-refused t h = by-test (someRefused t) h
   where

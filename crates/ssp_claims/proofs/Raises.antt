@@ -43,26 +43,26 @@ module _ (factor : ℕ) (before after : List ℕ) (r : Raised) (said : (r ≡ fl
     unfolding flatRaised
     rest3-is = ap (λ (x : Raised). x .rest3) (said .0) ∙ ap (λ (x : Rests). x .third) (accepted-rests factor before passed)
 
-    pub kept1 : SumKept before after factor 0 (r .rest1)
+    kept1 : SumKept before after factor 0 (r .rest1)
     kept1 = kept 0 (omega arith) (r .rest1) rest1-is
 
-    pub kept2 : SumKept before after factor 1 (r .rest2)
+    kept2 : SumKept before after factor 1 (r .rest2)
     kept2 = kept 1 (omega arith) (r .rest2) rest2-is
 
-    pub kept3 : SumKept before after factor 2 (r .rest3)
+    kept3 : SumKept before after factor 2 (r .rest3)
     kept3 = kept 2 (omega arith) (r .rest3) rest3-is
 
   pub left : (r .refusal ≡ 0 → ⊥) → after ≡ before
   left other = said .1 ∙ refused-leaves factor before (λ e. other (refusal-is ∙ e))
 
-  pub other-bytes : (k : ℕ) → Elsewhere k → getD after k 0 ≡ getD before k 0
+  other-bytes : (k : ℕ) → Elsewhere k → getD after k 0 ≡ getD before k 0
   other-bytes k e = ap (λ (t : List ℕ). getD t k 0) (said .1) ∙ by-answer (eqb (refusalOf factor before) 0) refl
     where
       by-answer : (t : Bool) → eqb (refusalOf factor before) 0 ≡ t → getD (raisedAfter factor before) k 0 ≡ getD before k 0
       by-answer true z = raised-well factor before (eqb-true (refusalOf factor before) 0 z) .others k e
       by-answer false z = ap (λ (t : List ℕ). getD t k 0) (refused-leaves factor before (eqb-false (refusalOf factor before) 0 z))
 
-  pub of-none : factor ≡ 0 → Bytes before → after ≡ before
+  of-none : factor ≡ 0 → Bytes before → after ≡ before
   of-none e bytes = said .1 ∙ by-answer (eqb (refusalOf factor before) 0) refl
     where
       by-answer : (t : Bool) → eqb (refusalOf factor before) 0 ≡ t → raisedAfter factor before ≡ before

@@ -26,7 +26,7 @@ hex-above-nine b e l =
     let both = letter (isDigit b) (leb 97 b && leb b 102) (above-nine b l) e in
     (leb-true 97 b (and-left (leb 97 b) (leb b 102) both), leb-true b 102 (and-right (leb 97 b) (leb b 102) both))
 
-pub hex-to-nine : (b : ℕ) → isHexDigit b ≡ true → b ≤ 57 → isDigit b ≡ true
+hex-to-nine : (b : ℕ) → isHexDigit b ≡ true → b ≤ 57 → isDigit b ≡ true
 unfolding isHexDigit
 hex-to-nine b e l = by-test (isDigit b) refl
   where

@@ -32,15 +32,6 @@ sum-capped (suc n) cap f h =
     let last : f n ≤ cap = h n (omega arith) in
     omega (arith, mul-suc cap n)
 
--- sums keep an order that holds term by term
-pub sum-mono : (n : ℕ) (f g : ℕ → ℕ) → ((i : ℕ) → i < n → f i ≤ g i) → sumBelow n f ≤ sumBelow n g
-unfolding sumBelow
-sum-mono zero f g h = omega arith
-sum-mono (suc n) f g h =
-    let tail : sumBelow n f ≤ sumBelow n g = sum-mono n f g (λ i l. h i (omega arith)) in
-    let last : f n ≤ g n = h n (omega arith) in
-    omega arith
-
 pub sum-none : (n : ℕ) (f : ℕ → ℕ) → ((j : ℕ) → j < n → f j ≡ 0) → sumBelow n f ≡ 0
 sum-none n f h = omega (arith, sum-capped n 0 f (λ j l. omega (arith, h j l)))
 
@@ -71,7 +62,7 @@ pub all-zero : (p : ℕ → Bool) → allBelow 0 p ≡ true
 unfolding allBelow
 all-zero p = refl
 
-pub all-step : (n : ℕ) (p : ℕ → Bool) → allBelow (n + 1) p ≡ (allBelow n p && p n)
+all-step : (n : ℕ) (p : ℕ → Bool) → allBelow (n + 1) p ≡ (allBelow n p && p n)
 unfolding allBelow
 all-step n p = rw add-one refl
 

@@ -7,7 +7,8 @@ ghost use Rattle.units.specs.Limits.{maxPrice, maxTierRate, maxHalfKwh};
 // Whole kWh: a number of the year sheet, or a sum of such numbers over at most twelve months.
 pub struct Kwh(pub u32);
 
-// Whole kWh of any size that a caller brings: an estimate, and a half as the amount of an advance takes it.
+// Whole kWh of any size that a caller brings: an estimate, a half as the amount of an advance takes it, and a reading as it is raised
+// for losses.
 pub struct WideKwh(pub u64);
 
 // A price or a rate, in hundred-thousandths of a euro per kWh.

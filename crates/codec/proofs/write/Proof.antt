@@ -1,15 +1,14 @@
 -- What is left to store, stored into the image as it stands, always gives the same: the whole number stored into the
 -- image as it came.
 use Prim.Native.Nat.{ℕ, suc, _+_, _-_, _≤_, _%_, _/_}
-use mathlib.Core.Path.{_≡_, refl, ap, sym, _∙_}
+use mathlib.Core.Path.{_≡_, ap, sym, _∙_}
 use mathlib.Core.List.{List}
 use native.Mathlib.Nat.{add-zero, sub-zero}
-use native.Mathlib.Numerals.{add-one}
 use native.Mathlib.Omega.{arith}
 use borrow.Author.Needs.{needs}
 use lib.ListN.{length, set, length-set}
 use lib.Seq.{sets}
-use Rattle.codec.specs.Bytes.{bytesOf, stored}
+use Rattle.codec.specs.Bytes.{bytesOf}
 use Rattle.codec.proofs.Numbers.{length-bytes}
 use Rattle.codec.proofs.Stores.{sets-stored}
 use Rattle.codec.proofs.write.Statement.{statement}

@@ -4,7 +4,7 @@ use denote.Ref.{now}
 use lib.Seq.{length-sets}
 use Rattle.listing_text.proofs.Texts.{word, refusal-written}
 use native.Mathlib.Omega.{arith}
-use lib.ListN.{length, length-set}
+use lib.ListN.{length-set}
 use borrow.Author.Needs.{needs}
 use Rattle.listing_text.proofs.refusal_of.Statement.{statement}
 use Rattle.listing_text.proofs.refusal_of.Tie as tie

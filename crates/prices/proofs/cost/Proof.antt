@@ -1,11 +1,9 @@
 -- The rows of the sheet, month by month.
 use Prim.Native.Nat.{ℕ}
-use mathlib.Core.Path.{_≡_, ap, subst, _∙_}
-use mathlib.Core.Bool.{Bool, true, false}
-use mathlib.Core.List.{List}
+use mathlib.Core.Path.{ap, _∙_}
+use mathlib.Core.Bool.{true, false}
 use denote.Ref.{now}
 use lib.Dec.{eqb, lit≤}
-use Rattle.units.specs.declared.Rate.{Rate}
 use Rattle.units.specs.Units.{ticks}
 use Rattle.sheet.specs.YearSheet.{byBands, withdrawnReading}
 use Rattle.sheet.proofs.Limits.{passed-length}

@@ -1,5 +1,4 @@
 -- Three words.
-use mathlib.Core.Path.{refl}
 use borrow.Author.Needs.{needs}
 use Rattle.prices.proofs.energy_row.Statement.{statement}
 use Rattle.prices.proofs.energy_row.Tie as tie

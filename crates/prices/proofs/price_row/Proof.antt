@@ -1,9 +1,6 @@
 -- The prices of the part that applies.
-use mathlib.Core.Path.{_∙_, ap}
 use denote.Ref.{now}
 use Rattle.prices.proofs.PriceParts.{row-by-bands, row-of-one}
-use Rattle.prices.specs.Arrays.{priceRow}
-use mathlib.Core.Bool.{Bool}
 use borrow.Author.Needs.{needs}
 use Rattle.prices.proofs.price_row.Statement.{statement}
 use Rattle.prices.proofs.price_row.Tie as tie

@@ -1,11 +1,10 @@
 -- The rows are filled month by month.
-use Prim.Native.Nat.{ℕ, _+_, _-_, _*_, _≤_, _<_, min}
-use mathlib.Core.Path.{_≡_, refl, ap, sym, _∙_}
+use Prim.Native.Nat.{_-_, _≤_}
+use mathlib.Core.Path.{_≡_, refl}
 use mathlib.Core.List.{[]}
 use native.Mathlib.Nat.{not-suc-le-zero}
 use native.Mathlib.Omega.{arith}
-use lib.ListN.{length, length-set, getD}
-use Rattle.units.specs.Units.{kwh, ticks}
+use lib.ListN.{length, length-set}
 use Rattle.units.proofs.Filled.{Filled, filled-next}
 use Rattle.prices.specs.Arrays.{priceRow}
 use denote.Ref.{now}

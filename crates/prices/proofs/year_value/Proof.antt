@@ -1,11 +1,10 @@
 -- A running sum of the months.
-use Prim.Native.Nat.{ℕ, _+_, _-_, _*_, _≤_, _<_, min}
-use mathlib.Core.Path.{_≡_, refl, ap, sym, _∙_}
+use Prim.Native.Nat.{ℕ, _-_, _*_, _≤_}
+use mathlib.Core.Path.{_≡_, ap, sym, _∙_}
 use mathlib.Core.List.{[]}
-use native.Mathlib.Nat.{not-suc-le-zero}
 use native.Mathlib.Omega.{arith}
-use lib.ListN.{length, length-set, getD}
-use Rattle.units.specs.Units.{kwh, ticks}
+use lib.ListN.{getD}
+use Rattle.units.specs.Units.{ticks}
 use Rattle.units.specs.declared.Ticks.{Ticks}
 use Rattle.units.specs.Limits.{maxKwh, maxPrice}
 use Rattle.units.specs.Folds.{sumBelow}

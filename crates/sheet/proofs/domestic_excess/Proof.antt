@@ -1,6 +1,6 @@
 -- The months by a running test.
-use Prim.Native.Nat.{ℕ, _+_, _-_, _≤_, _<_}
-use mathlib.Core.Path.{_≡_, ap, sym, _∙_}
+use Prim.Native.Nat.{_-_, _≤_}
+use mathlib.Core.Path.{_≡_, ap, sym}
 use native.Mathlib.Omega.{arith}
 use denote.Ref.{now}
 use Rattle.units.specs.declared.Kwh.{Kwh}

@@ -160,24 +160,6 @@ fn archives(name: &str, sheet: &[u8; Book::SHEET]) {
     assert!(restored == *sheet);
 }
 
-/// The raising of a sheet's injected readings, beside the same loop in plain Rust. Each call gets the sheet by a copy, in both.
-fn raises(name: &str, sheet: &[u8; Book::SHEET]) {
-    let (mut raised, mut plain) = (*sheet, *sheet);
-    row(
-        name,
-        "raise",
-        nanoseconds(|| {
-            raised.copy_from_slice(black_box(sheet));
-            assert!(raise_injected(black_box(&mut raised[..]), black_box(51)).is_ok());
-        }),
-        nanoseconds(|| {
-            plain.copy_from_slice(black_box(sheet));
-            assert_eq!(plain_losses::raise(black_box(&mut plain[..]), black_box(51)).0, 0);
-        }),
-    );
-    assert!(raised == plain);
-}
-
 /// The lines of a sheet and a sheet from its lines, beside plain Rust.
 fn measures(name: &str, sheet: &mut [u8; Book::SHEET]) {
     let mut text = [0; Book::MEASURES];
@@ -194,6 +176,24 @@ fn measures(name: &str, sheet: &mut [u8; Book::SHEET]) {
         nanoseconds(|| assert!(read_measures(black_box(&mut sheet[..]), black_box(&text[..length])).is_ok())),
         nanoseconds(|| assert!(plain_measures::read(black_box(&mut sheet[..]), black_box(&text[..length])).is_ok())),
     );
+}
+
+/// The raising of a sheet's injected readings, beside the same loop in plain Rust. Each call gets the sheet by a copy, in both.
+fn raises(name: &str, sheet: &[u8; Book::SHEET]) {
+    let (mut raised, mut plain) = (*sheet, *sheet);
+    row(
+        name,
+        "raise",
+        nanoseconds(|| {
+            raised.copy_from_slice(black_box(sheet));
+            assert!(raise_injected(black_box(&mut raised[..]), black_box(51)).is_ok());
+        }),
+        nanoseconds(|| {
+            plain.copy_from_slice(black_box(sheet));
+            assert_eq!(plain_losses::raise(black_box(&mut plain[..]), black_box(51)).0, 0);
+        }),
+    );
+    assert!(raised == plain);
 }
 
 fn main() {
