@@ -1,8 +1,12 @@
 -- A test that is made only where another one passes; and the tests of an entry by its owner's years.
-use Prim.Native.Nat.{ℕ}
+use Prim.Native.Nat.{ℕ, _<_}
 use mathlib.Core.Path.{_≡_, refl, sym}
 use mathlib.Core.Bool.{Bool, true, false, _&&_, and-true, and-false}
 use mathlib.Core.List.{List}
+use native.Mathlib.Decide.{decLt}
+use native.Mathlib.Omega.{arith}
+use borrow.Author.Tests.{eq-eqb, ne-eqb, le-leb, lt-leb}
+use lib.Dec.{eqb, leb}
 use Rattle.units.proofs.Bools.{and-left, and-right}
 use Rattle.accounts.specs.declared.Account.{Account}
 use Rattle.layout.specs.Fields.{get, activationYearField, openYearField}
@@ -21,6 +25,14 @@ tested-between s u e p = let first = and-left s u e in rw first (tested (and-rig
 pub untested-between : (s t u : Bool) → (s && u) ≡ false → false ≡ (s && (t && u))
 untested-between true t u e = untested t e
 untested-between false t u e = refl
+
+-- what is at most nothing is nothing
+pub none-is-zero : (n : ℕ) → eqb n 0 ≡ leb n 0
+none-is-zero n = by-size (decLt 0 n)
+  where
+    by-size : Dec (0 < n) → eqb n 0 ≡ leb n 0
+    by-size (yes h) = rw (ne-eqb n 0 (omega arith), lt-leb n 0 h)
+    by-size (no h) = rw (eq-eqb n 0 (omega (arith, h)), le-leb n 0 (omega (arith, h)))
 
 -- an entry's ranges ask of its owner's account the two years alone, which are those of the owner's record
 pub by-years : {E : Type 0} (test : Account → E → Bool) (o : List ℕ) {x e : E} {from to : ℕ} {fits : Bool} → from ≡ get activationYearField o → to ≡ get openYearField o

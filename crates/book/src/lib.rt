@@ -130,11 +130,16 @@ fn later_half(a: Account, run: u8) -> u64
     if is_made(a.later_runs, run) { 1 } else { 0 }
 }
 
+// Where no run of it is made nothing of it is paid.
 fn later_fits(a: Account) -> bool
     ensures { λ r. ⌜ r ≡ laterFits a ⌝ }
 {
-    let halves = later_half(a, JUNE) + later_half(a, OCTOBER);
-    (a.later_runs <= 3) & (a.later_advances.0 <= MAX_HALF * halves)
+    if a.later_runs == 0 {
+        a.later_advances.0 == 0
+    } else {
+        let halves = later_half(a, JUNE) + later_half(a, OCTOBER);
+        (a.later_runs <= 3) & (a.later_advances.0 <= MAX_HALF * halves)
+    }
 }
 
 // Where no run is made nothing is paid.

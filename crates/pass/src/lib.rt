@@ -6,7 +6,7 @@ ghost use Prim.Native.Nat.{_≤_, _<_};
 ghost use lib.ListN.{length};
 ghost use Rattle.units.specs.Units.{recordIndex};
 ghost use Rattle.layout.specs.Fields.{get, nextField};
-ghost use Rattle.book.specs.Book.{lengthFits, used, usedFits, goodHead};
+ghost use Rattle.book.specs.Book.{lengthFits, used, usedFits, goodHead, levelIn};
 ghost use Rattle.pass.specs.Steps.{years, entryDue, yearDue, UserLeads, EntryLeads, StateAfter, firstMet, brokenAt, Tables, PassedOver, PassedThrough};
 use book::MOST_RECORDS;
 use layout::kind::USER;
@@ -66,11 +66,12 @@ fn year_due(r: &[u8], state: State) -> u16
 }
 
 // The state of an owner once the entry is met.
-fn state_after(r: &[u8]) -> State
+fn state_after(r: &[u8], level: u16) -> State
     requires { ⌜ get nextField (now r) < years ⌝ }
+    requires { ⌜ level ≡ levelIn (now r) ⌝ }
     ensures { λ s. ⌜ StateAfter (now (r .entry)) (s .0) ⌝ }
 {
-    let both = layout::next_of(r).0 * YEARS + book::level_of(r) as u32;
+    let both = layout::next_of(r).0 * YEARS + level as u32;
     State(both)
 }
 
@@ -84,10 +85,10 @@ fn user_leads(r: &[u8], index: RecordIndex, expected: RecordIndex, state: State)
 }
 
 // An entry is met where its owner's chain leads. Its next is a record still to be met, so that the state has room for it.
-fn entry_leads(r: &[u8], owner: &[u8], index: RecordIndex, state: State) -> bool
+fn entry_leads(r: &[u8], owner: &[u8], index: RecordIndex, state: State, level: u16) -> bool
+    requires { ⌜ level ≡ levelIn (now r) ⌝ }
     ensures { λ s. ⌜ (s ≡ true → EntryLeads (now (r .entry)) (now (owner .entry)) (index .0) (state .0)) ⌝ }
 {
-    let level = book::level_of(r);
     let due = entry_due(owner, state).0 == index.0;
     let leads = due & (layout::next_of(r).0 < index.0);
     let dated = (0 < level) & (layout::kind_of(owner) == USER);
@@ -152,8 +153,9 @@ fn pass_over(
                 return broken_at(index);
             }
             let state = states[home.0 as usize];
-            if entry_leads(r, owner, index, State(state)) {
-                states[home.0 as usize] = state_after(r).0;
+            let level = book::level_of(r);
+            if entry_leads(r, owner, index, State(state), level) {
+                states[home.0 as usize] = state_after(r, level).0;
             } else {
                 joined = false;
             }

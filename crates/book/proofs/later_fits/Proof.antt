@@ -1,5 +1,9 @@
--- The rule, over the halves of the later year.
-use Rattle.book.specs.Book.{laterFits}
+-- The rule, by whether a run of the later year is made.
+use mathlib.Core.Path.{_≡_}
+use lib.Dec.{eqb}
+use Rattle.accounts.specs.declared.Account.{Account}
+use Rattle.book.specs.Book.{isMade, laterHalf, laterFits}
+use Rattle.book.proofs.Guards.{none-is-zero}
 use borrow.Author.Needs.{needs}
 use Rattle.book.proofs.later_fits.Statement.{statement}
 use Rattle.book.proofs.later_fits.Tie as tie
@@ -16,11 +20,18 @@ add-halves c = search needs
 mul-result : tie.Need-mul-result
 mul-result c = search needs
 
+unpaid : (a : Account) → a .«later_runs» ≡ 0 → eqb (a .«later_advances» .0) 0 ≡ laterFits a
+unfolding isMade laterHalf laterFits
+unpaid a e = rw e (none-is-zero (a .«later_advances» .0))
+
 returns : tie.Need-returns
+returns c = unpaid (c .before .before .before .args .a) (c .before .if1 .taken)
+
+returns-2 : tie.Need-returns-2
 unfolding laterFits
-returns c =
+returns-2 c =
     let second = c .before .before in
     rw (second .before .later-half .ensures .0, second .later-half2 .ensures .0)
 
 pub later-fits-spec : {M : Type 1} → statement M
-later-fits-spec = tie.close (tie.spec later-half-requires later-half-requires-2 add-halves mul-result returns)
+later-fits-spec = tie.close (tie.spec later-half-requires later-half-requires-2 add-halves mul-result returns returns-2)

@@ -1,13 +1,10 @@
 -- The rule, by whether a run is made.
-use Prim.Native.Nat.{ℕ, _<_}
 use mathlib.Core.Path.{_≡_}
 use mathlib.Core.Bool.{_&&_}
-use native.Mathlib.Decide.{decLt}
-use native.Mathlib.Omega.{arith}
-use borrow.Author.Tests.{eq-eqb, ne-eqb, le-leb, lt-leb}
-use lib.Dec.{eqb, leb}
+use lib.Dec.{eqb}
 use Rattle.accounts.specs.declared.Account.{Account}
 use Rattle.book.specs.Book.{isMade, dueIfMade, runsFit, halvesMade, advancesFit}
+use Rattle.book.proofs.Guards.{none-is-zero}
 use borrow.Author.Needs.{needs}
 use Rattle.book.proofs.paid_fits.Statement.{statement}
 use Rattle.book.proofs.paid_fits.Tie as tie
@@ -17,13 +14,6 @@ runs-fit-requires c κs = search needs
 
 advances-fit-requires : tie.Need-advances-fit-requires
 advances-fit-requires c κs = search needs
-
-none-is-zero : (n : ℕ) → eqb n 0 ≡ leb n 0
-none-is-zero n = by-size (decLt 0 n)
-  where
-    by-size : Dec (0 < n) → eqb n 0 ≡ leb n 0
-    by-size (yes h) = rw (ne-eqb n 0 (omega arith), lt-leb n 0 h)
-    by-size (no h) = rw (eq-eqb n 0 (omega (arith, h)), le-leb n 0 (omega (arith, h)))
 
 unpaid : (a : Account) → a .runs ≡ 0 → eqb (a .advances .0) 0 ≡ (runsFit a && advancesFit a)
 unfolding isMade dueIfMade runsFit halvesMade advancesFit

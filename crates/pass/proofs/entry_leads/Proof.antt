@@ -7,9 +7,6 @@ use borrow.Author.Needs.{needs}
 use Rattle.pass.proofs.entry_leads.Statement.{statement}
 use Rattle.pass.proofs.entry_leads.Tie as tie
 
-level-of-requires : tie.Need-level-of-requires
-level-of-requires c κs = search needs
-
 entry-due-requires : tie.Need-entry-due-requires
 entry-due-requires c κs = search needs
 
@@ -25,39 +22,35 @@ kind-of-requires-2 c κs = search needs
 years-ended-requires : tie.Need-years-ended-requires
 years-ended-requires c κs = search needs
 
-cast-result : tie.Need-cast-result
-cast-result c = search needs
-
 add-result : tie.Need-add-result
 add-result c = omega (arith, ended-small (c .before .kind-of2 .result), c .years-ended .ensures)
 
 year-due-requires : tie.Need-year-due-requires
 year-due-requires c κs = search needs
 
-cast-result-2 : tie.Need-cast-result-2
-cast-result-2 c = search needs
+cast-result : tie.Need-cast-result
+cast-result c = search needs
 
 returns : tie.Need-returns
 returns c t =
     let k = c .before .before .before in
     let n = k .before .before .before in
     let e = n .before .before .before in
-    let a = e .before .before .before .before .args in
-    entry-tests (now (a .r)) (now (a .owner)) (a .index .0) (a .state .0) (e .before .level-of .ensures) (e .entry-due .ensures) (n .next-of .ensures)
+    let s = e .before .before .before in
+    let a = s .args in
+    entry-tests (now (a .r)) (now (a .owner)) (a .index .0) (a .state .0) (s .pre) (e .entry-due .ensures) (n .next-of .ensures)
     (k .kind-of .ensures) (c .before .before .kind-of2 .ensures) (c .before .years-ended .ensures) (c .year-due .ensures) t
 
 pub entry-leads-spec : {M : Type 1} → statement M
 entry-leads-spec =
     tie.close
     (tie.spec
-    level-of-requires
     entry-due-requires
     next-of-requires
     kind-of-requires
     kind-of-requires-2
     years-ended-requires
-    cast-result
     add-result
     year-due-requires
-    cast-result-2
+    cast-result
     returns)

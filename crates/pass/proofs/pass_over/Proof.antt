@@ -227,27 +227,30 @@ mul-state-2 c = omega (arith, home-small (c .before .before .before .before .bef
 slice-read-state-2 : tie.Need-slice-read-state-2 Inv-loop μ-loop
 slice-read-state-2 c = let h = home-place (c .before .before .before .before .before .before) in omega (arith, stated (c .before .before .before .before .before .before .before .before .before .before .before .before .before))
 
+level-of-requires : tie.Need-level-of-requires Inv-loop μ-loop
+level-of-requires c κs = search needs
+
 entry-leads-requires : tie.Need-entry-leads-requires Inv-loop μ-loop
-entry-leads-requires c κs = search needs
+entry-leads-requires c κs = c .level-of .ensures
 
 state-after-requires : tie.Need-state-after-requires Inv-loop μ-loop
 state-after-requires c κs =
-    let t = c .before .before .before .before .before .before .before .before .before .before .before .before .before .before .before in
+    let t = c .before .before .before .before .before .before .before .before .before .before .before .before .before .before .before .before in
     let s = t .before .before .before .before .before .before .before in
     let b = now (s .args .book) in
     let i = t .before .loop .left - 1 in
     let next = c .before .entry-leads .ensures (c .if5 .taken) .next in
     let most = used-counted b (s .pre .1 .0) (s .pre .0) in
-    omega (arith, inside b (t .before .loop .inv) i (at t .0) (at t .1))
+    (omega (arith, inside b (t .before .loop .inv) i (at t .0) (at t .1)), c .before .before .level-of .ensures)
 
 cast-states : tie.Need-cast-states Inv-loop μ-loop
 cast-states c = search needs
 
 mul-states : tie.Need-mul-states Inv-loop μ-loop
-mul-states c = omega (arith, home-small (c .before .before .before .before .before .before .before .before .before .before))
+mul-states c = omega (arith, home-small (c .before .before .before .before .before .before .before .before .before .before .before))
 
 slice-write-states : tie.Need-slice-write-states Inv-loop μ-loop
-slice-write-states c = let h = home-place (c .before .before .before .before .before .before .before .before .before .before) in omega (arith, stated (c .before .before .before .before .before .before .before .before .before .before .before .before .before .before .before .before .before))
+slice-write-states c = let h = home-place (c .before .before .before .before .before .before .before .before .before .before .before) in omega (arith, stated (c .before .before .before .before .before .before .before .before .before .before .before .before .before .before .before .before .before .before))
 
 loop-less : tie.Need-loop-less Inv-loop μ-loop
 loop-less c = search needs
@@ -272,17 +275,17 @@ loop-less-2 c = search needs
 
 loop-again-2 : tie.Need-loop-again-2 Inv-loop μ-loop
 loop-again-2 c =
-    let t = c .before .before .before .before .before .before .before .before .before .before .before .before .before .before .before .before .before in
+    let t = c .before .before .before .before .before .before .before .before .before .before .before .before .before .before .before .before .before .before in
     let s = t .before .before .before .before .before .before .before in
     let b = now (s .args .book) in
     let i = t .before .loop .left - 1 in
-    let e = c .before .before .before .before .before .before .before in
-    let own = entry-rules e ∙ not-false (e .entry-record-fits .result) (c .before .before .before .before .before .before .if4 .left) in
-    let r = c .before .before .before .before .before .before .before .before .before .before .before .before .before .before .before .before .whole-record in
-    let owner = c .before .before .before .before .before .before .before .before .whole-record2 in
-    let h = home-place (c .before .before .before .before .before .before .before .before .before .before) in
-    entry-passed b (t .before .loop .inv) i (at t .0) (at t .1) own (s .pre .0) (s .pre .1 .0) (now (r .result)) (r .ensures) (s .pre .1 .1 .1 .1 .room) (c .before .before .before .before .before .before .before .before .before .before .before .before .before .before .before .kind-of .ensures)
-    (c .before .before .before .before .before .before .before .before .before .before .before .before .before .before .if1 .left) (ap (λ (k : RecordIndex). k .0) (c .before .before .before .before .before .before .before .before .before .before .before .before .before .owner-of .ensures)) (h .0) (h .1) (now (owner .result)) (owner .ensures)
+    let e = c .before .before .before .before .before .before .before .before in
+    let own = entry-rules e ∙ not-false (e .entry-record-fits .result) (c .before .before .before .before .before .before .before .if4 .left) in
+    let r = c .before .before .before .before .before .before .before .before .before .before .before .before .before .before .before .before .before .whole-record in
+    let owner = c .before .before .before .before .before .before .before .before .before .whole-record2 in
+    let h = home-place (c .before .before .before .before .before .before .before .before .before .before .before) in
+    entry-passed b (t .before .loop .inv) i (at t .0) (at t .1) own (s .pre .0) (s .pre .1 .0) (now (r .result)) (r .ensures) (s .pre .1 .1 .1 .1 .room) (c .before .before .before .before .before .before .before .before .before .before .before .before .before .before .before .before .kind-of .ensures)
+    (c .before .before .before .before .before .before .before .before .before .before .before .before .before .before .before .if1 .left) (ap (λ (k : RecordIndex). k .0) (c .before .before .before .before .before .before .before .before .before .before .before .before .before .before .owner-of .ensures)) (h .0) (h .1) (now (owner .result)) (owner .ensures)
     (c .before .before .before .entry-leads .ensures (c .before .before .if5 .taken)) (c .before .state-after .ensures)
 
 loop-less-3 : tie.Need-loop-less-3 Inv-loop μ-loop
@@ -290,12 +293,12 @@ loop-less-3 c = search needs
 
 loop-again-3 : tie.Need-loop-again-3 Inv-loop μ-loop
 loop-again-3 c =
-    let t = c .before .before .before .before .before .before .before .before .before .before .before .before .before .before .before in
+    let t = c .before .before .before .before .before .before .before .before .before .before .before .before .before .before .before .before in
     let s = t .before .before .before .before .before .before .before in
     let b = now (s .args .book) in
     let i = t .before .loop .left - 1 in
-    let e = c .before .before .before .before .before in
-    let own = entry-rules e ∙ not-false (e .entry-record-fits .result) (c .before .before .before .before .if4 .left) in
+    let e = c .before .before .before .before .before .before in
+    let own = entry-rules e ∙ not-false (e .entry-record-fits .result) (c .before .before .before .before .before .if4 .left) in
     apart b (t .before .loop .inv) i (at t .0) (at t .1) own (t .before .loop .inv .seen-size)
 
 same-length-7 : tie.Need-same-length-7 Inv-loop μ-loop
@@ -350,6 +353,7 @@ pass-over-spec =
     cast-state-2
     mul-state-2
     slice-read-state-2
+    level-of-requires
     entry-leads-requires
     state-after-requires
     cast-states

@@ -14,21 +14,16 @@ next-of-requires c κs = search needs
 mul-both : tie.Need-mul-both
 mul-both c = omega (arith, ap (λ (i : RecordIndex). i .0) (c .before .next-of .ensures), c .before .before .before .pre)
 
-level-of-requires : tie.Need-level-of-requires
-level-of-requires c κs = search needs
-
-cast-both : tie.Need-cast-both
-cast-both c = search needs
-
 add-both : tie.Need-add-both
-add-both c = omega (arith, ap (λ (i : RecordIndex). i .0) (c .before .before .next-of .ensures), c .before .before .before .before .pre)
+add-both c = omega (arith, ap (λ (i : RecordIndex). i .0) (c .before .next-of .ensures), c .before .before .before .pre .0)
 
 returns : tie.Need-returns
 returns c =
-    let next : c .before .before .next-of .result .0 ≡ get nextField (now (c .before .before .before .before .args .r)) = ap (λ (i : RecordIndex). i .0) (c .before .before .next-of .ensures) in
-    record { next = omega (arith, c .level-of .ensures); year = omega (arith, c .level-of .ensures) }
+    let s = c .before .before .before in
+    let next : c .before .next-of .result .0 ≡ get nextField (now (s .args .r)) = ap (λ (i : RecordIndex). i .0) (c .before .next-of .ensures) in
+    record { next = omega (arith, s .pre .1); year = omega (arith, s .pre .1) }
 
 pub state-after-spec : {M : Type 1} → statement M
 state-after-spec =
     tie.close
-    (tie.spec next-of-requires mul-both level-of-requires cast-both add-both returns)
+    (tie.spec next-of-requires mul-both add-both returns)
