@@ -136,9 +136,15 @@ fn window() {
 fn run_of_advances() {
     let text = "the year is not open or is above 2099, or the run is none, is not due or was made";
     for wrong in [
-        Order { year: 2014, ..ORDER },
+        Order { year: 2012, ..ORDER },
+        Order { year: 2015, ..ORDER },
         Order { run: 3, ..ORDER },
         Order {
+            run: run::JANUARY,
+            ..ORDER
+        },
+        Order {
+            year: 2014,
             run: run::JANUARY,
             ..ORDER
         },
