@@ -28,7 +28,11 @@ fn user_next_fits(book: &[u8], index: RecordIndex) -> bool
     ensures { λ r. ⌜ r ≡ userNextFits (now (book .entry)) (index .0) ⌝ }
 {
     let next = next_of(book, index);
-    (next.0 == 0) | (is_user(book, next) & (next.0 < index.0))
+    if next.0 == 0 {
+        true
+    } else {
+        is_user(book, next) & (next.0 < index.0)
+    }
 }
 
 // A user with the number. Most records have another.
@@ -59,7 +63,11 @@ fn first_entry_fits(book: &[u8], index: RecordIndex) -> bool
     ensures { λ r. ⌜ r ≡ firstEntryFits (now (book .entry)) (index .0) ⌝ }
 {
     let first = first_entry_of(book, index);
-    (first.0 == 0) | (is_entry(book, first) & (owner_of(book, first).0 == index.0))
+    if first.0 == 0 {
+        true
+    } else {
+        is_entry(book, first) & (owner_of(book, first).0 == index.0)
+    }
 }
 
 // LINKS OF AN ENTRY

@@ -2,7 +2,7 @@
 -- are followed, what is due below.
 use Prim.Native.Nat.{ℕ, _+_, _*_, _≤_, _<_}
 use mathlib.Core.Path.{_≡_, refl, sym, ap, _∙_}
-use mathlib.Core.Bool.{Bool, true, false, _&&_, _||_, false≢true}
+use mathlib.Core.Bool.{Bool, true, false, cond, _&&_, _||_, false≢true}
 use mathlib.Core.List.{List}
 use native.Mathlib.Decide.{decLt}
 use native.Mathlib.Omega.{arith}
@@ -17,7 +17,7 @@ use Rattle.book.specs.Book.{used, usedFits, firstUser, isUser, ownRulesFit, goo
 use Rattle.book.proofs.Faults.{used-within, used-whole}
 use Rattle.numbers.specs.Held.{Inserted}
 use Rattle.pass.specs.declared.Passed.{Passed}
-use Rattle.pass.specs.Steps.{UserLeads, EntryLeads, StateAfter, lastMet, Tables, PassedOver}
+use Rattle.pass.specs.Steps.{UserLeads, EntryLeads, StateAfter, lastMet, apartAt, Tables, Resumed, PassedOver}
 use Rattle.pass.proofs.Descended.{Descended, started, user-met, entry-met, descended, searched}
 
 pub record Passing (b : List ℕ) (n records places left expected found broken : ℕ) (chained : Bool) (states seen : List ℕ) : Type 0 where
@@ -26,23 +26,40 @@ pub record Passing (b : List ℕ) (n records places left expected found broken :
   pub some : 1 ≤ left
   pub within : left ≤ broken
   pub reach : broken ≤ used b
+  pub all : chained ≡ true → broken ≡ used b
   pub faulty : broken < used b → goodRecord b broken ≡ false
   pub own : (i : ℕ) → left ≤ i → i < broken → ownRulesFit b i ≡ true
   pub chains : chained ≡ true → Descended b n left expected found states seen
 
-pub first : (b : List ℕ) (n : ℕ) → usedFits b ≡ true → {chained : Bool} {states seen : List ℕ} → Tables (used b) chained states seen → {records expected : ℕ}
-    → records ≡ used b → expected ≡ firstUser b → Passing b n (length states) (length seen) records expected 0 records chained states seen
-first b n u {chained} {states} {seen} t {records} r e =
+-- from the last record, or where the pass is taken up
+pub first : (b : List ℕ) (n : ℕ) (chained : Bool) → usedFits b ≡ true → {states seen : List ℕ} → Tables (used b) chained states seen → {below : ℕ} → (chained ≡ false → Resumed b below)
+    → {records expected left : ℕ} → records ≡ used b → expected ≡ firstUser b → left ≡ cond chained records below
+    → Passing b n (length states) (length seen) left expected 0 records chained states seen
+first b n true u {states} {seen} t {below} taken-up {records} {expected} {left} r e l =
     let lo = used-within b u .0 in
     record {
       states-size = refl;
       seen-size = refl;
-      some = omega (arith, r, lo);
-      within = omega arith;
+      some = omega (arith, r, lo, l);
+      within = omega (arith, l);
       reach = omega (arith, r);
+      all = λ _. r;
       faulty = λ under. let z : ⊥ = omega (arith, r, under) in absurd z;
-      own = λ i from to. let z : ⊥ = omega arith in absurd z;
-      chains = λ all. started b n states seen (t .unknown all) r lo e;
+      own = λ i from to. let z : ⊥ = omega (arith, l) in absurd z;
+      chains = λ on. started b n states seen (t .unknown on) (l ∙ r) lo e;
+    }
+first b n false u {states} {seen} t {below} taken-up {records} {expected} {left} r e l =
+    let up = taken-up refl in
+    record {
+      states-size = refl;
+      seen-size = refl;
+      some = omega (arith, up .from, l);
+      within = omega (arith, up .to, l, r);
+      reach = omega (arith, r);
+      all = λ on. absurd (false≢true on);
+      faulty = λ under. let z : ⊥ = omega (arith, r, under) in absurd z;
+      own = λ i from to. up .own i (omega (arith, l)) (omega (arith, r));
+      chains = λ on. absurd (false≢true on);
     }
 
 module _ (b : List ℕ) {n records places left expected found broken : ℕ} {chained : Bool} {states seen : List ℕ} (s : Passing b n records places left expected found broken chained states seen) (index : ℕ)
@@ -61,6 +78,17 @@ module _ (b : List ℕ) {n records places left expected found broken : ℕ} {cha
   pub counted : used b ≤ records → index < length states
   counted room = let size = s .states-size in omega (arith, inside)
 
+  -- where the pass is left
+  pub parted : chained ≡ true → {p : Passed} → p ≡ apartAt (recordIndex index) → PassedOver b n chained p
+  parted on e =
+      rw e
+      record {
+        to = omega (arith, inside);
+        ended = λ done. let z : ⊥ = omega (arith, inside, done on) in absurd z;
+        left = λ _ _. record { from = omega arith; to = omega (arith, inside); own = λ i from to. s .own i (omega arith) (omega (arith, s .all on)) };
+        whole = λ t. absurd (false≢true t);
+      }
+
   -- where it breaks a rule by itself, and the chains are not followed
   pub broken-here : chained ≡ false → goodRecord b index ≡ false → Passing b n records places index expected found index chained states seen
   broken-here off bad =
@@ -70,6 +98,7 @@ module _ (b : List ℕ) {n records places left expected found broken : ℕ} {cha
         some = lo;
         within = omega arith;
         reach = omega (arith, inside);
+        all = λ on. absurd (false≢true (sym off ∙ on));
         faulty = λ _. bad;
         own = λ i from to. let z : ⊥ = omega arith in absurd z;
         chains = λ all. absurd (false≢true (sym off ∙ all));
@@ -92,6 +121,7 @@ module _ (b : List ℕ) {n records places left expected found broken : ℕ} {cha
           some = lo;
           within = omega (arith, s .within);
           reach = s .reach;
+          all = s .all;
           faulty = s .faulty;
           own = own-here;
           chains = λ all. absurd (false≢true (sym off ∙ all));
@@ -110,6 +140,7 @@ module _ (b : List ℕ) {n records places left expected found broken : ℕ} {cha
             some = lo;
             within = omega (arith, s .within);
             reach = s .reach;
+            all = s .all;
             faulty = s .faulty;
             own = own-here;
             chains =
@@ -129,6 +160,7 @@ module _ (b : List ℕ) {n records places left expected found broken : ℕ} {cha
             some = lo;
             within = omega (arith, s .within);
             reach = s .reach;
+            all = s .all;
             faulty = s .faulty;
             own = own-here;
             chains = λ all. entry-met b (s .chains all) index l lo r bytes own k other h home-lo home-hi owner owner-bytes refl f after room;
@@ -140,7 +172,8 @@ pub passed : (b : List ℕ) {n records places left expected found broken : ℕ} 
 unfolding goodHead
 passed b {n} {left} {expected} {found} {broken} {chained} s l u g =
     record {
-      broken =
+      to = s .reach;
+      ended =
           λ _.
           record {
             from = omega (arith, s .some, s .within);
@@ -148,14 +181,10 @@ passed b {n} {left} {expected} {found} {broken} {chained} s l u g =
             faulty = s .faulty;
             own = λ j from to. s .own j (omega arith) to;
           };
+      left = λ on under. let z : ⊥ = omega (arith, s .all on, under) in absurd z;
       whole =
           λ all.
           let d = s .chains (and-left chained (eqb expected 0) all) in
           let rest = and-right (eqb (firstUser b) 0 || isUser b (firstUser b)) (allZero unnamedOfHead (recordAt b 0)) g in
           (descended b d l (eqb-true expected 0 (and-right chained (eqb expected 0) all)) u rest, ap recordIndex (searched b d l));
     }
-
--- where the pass is left
-pub parted : (b : List ℕ) (n : ℕ) {chained : Bool} → chained ≡ true → {p : Passed} → p .joined ≡ false → PassedOver b n chained p
-parted b n on {p} off =
-    record { broken = λ led. absurd (false≢true (sym off ∙ led on)); whole = λ t. absurd (false≢true (sym off ∙ t)) }

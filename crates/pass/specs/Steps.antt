@@ -6,6 +6,7 @@ use mathlib.Core.List.{List}
 use lib.Dec.{eqb}
 use lib.ListN.{length, getD}
 use Rattle.layout.specs.Fields.{get, kindField, nextField, firstEntryField, activationYearField, openYearField, userKind}
+use Rattle.units.specs.declared.RecordIndex.{RecordIndex}
 use Rattle.units.specs.Units.{recordIndex}
 use Rattle.book.specs.Book.{used, levelIn, yearsEnded, ownRulesFit, goodRecord, sound}
 use Rattle.book.specs.Find.{findUser}
@@ -59,13 +60,25 @@ pub record Broken (b : List ℕ) (i : ℕ) : Type 0 where
   pub faulty : i < used b → goodRecord b i ≡ false
   pub own : (j : ℕ) → 1 ≤ j → j < i → ownRulesFit b j ≡ true
 
--- What the pass says. Where it follows the chains and they do not lead to every record, some record is faulty, and it does not say
--- which.
+-- where the pass is taken up: the records from there on keep their own rules
+pub record Resumed (b : List ℕ) (below : ℕ) : Type 0 where
+  pub from : 1 ≤ below
+  pub to : below ≤ used b
+  pub own : (i : ℕ) → below ≤ i → i < used b → ownRulesFit b i ≡ true
+
+-- what the pass answers where it is left at a record
+abbrev pub apartAt : RecordIndex → Passed
+apartAt i = record { broken = i; joined = false; user = recordIndex 0 }
+
+-- What the pass says. Where it follows the chains it comes to its end, or is left at a record, after which all keep their own rules;
+-- and where it is not joined, some record is faulty, and it does not say which.
 pub record PassedOver (b : List ℕ) (n : ℕ) (chained : Bool) (p : Passed) : Type 0 where
-  pub broken : (chained ≡ true → p .joined ≡ true) → Broken b (p .broken .0)
+  pub to : p .broken .0 ≤ used b
+  pub ended : (chained ≡ true → p .broken .0 ≡ used b) → Broken b (p .broken .0)
+  pub left : chained ≡ true → p .broken .0 < used b → Resumed b (p .broken .0 + 1)
   pub whole : p .joined ≡ true → (sound b ≡ true) × (p .user ≡ recordIndex (findUser b n))
 
--- what the pass over all records says, the second time without the chains
+-- what the pass over all records says
 pub record PassedThrough (b : List ℕ) (n : ℕ) (p : Passed) : Type 0 where
   pub broken : Broken b (p .broken .0)
   pub whole : p .joined ≡ true → (sound b ≡ true) × (p .user ≡ recordIndex (findUser b n))

@@ -1,13 +1,13 @@
 // One pass over the records of a book, from the last one down (document 01, "Book"). It tests each record's own rules, tells
 // whether the chains lead to every record, and finds the user with a number on its way.
 ghost use mathlib.Core.Path.{_≡_};
-ghost use mathlib.Core.Bool.{true, false};
+ghost use mathlib.Core.Bool.{true, false, cond};
 ghost use Prim.Native.Nat.{_<_};
 ghost use lib.ListN.{length};
 ghost use Rattle.units.specs.Units.{recordIndex};
 ghost use Rattle.layout.specs.Fields.{get, nextField, kindField};
 ghost use Rattle.book.specs.Book.{lengthFits, used, usedFits, goodHead, levelIn, yearsEnded};
-ghost use Rattle.pass.specs.Steps.{years, entryDue, yearDue, UserLeads, EntryLeads, StateAfter, lastMet, Tables, PassedOver, PassedThrough};
+ghost use Rattle.pass.specs.Steps.{years, entryDue, yearDue, UserLeads, EntryLeads, StateAfter, lastMet, apartAt, Tables, Resumed, PassedOver, PassedThrough};
 use book::MOST_RECORDS;
 use layout::kind::CLOSING;
 use layout::kind::USER;
@@ -24,12 +24,12 @@ pub struct Passed {
     pub user: RecordIndex,
 }
 
-// The pass is left where the chains do not lead on. Nothing else is said then.
-fn apart() -> Passed
-    ensures { λ p. ⌜ p .joined ≡ false ⌝ }
+// The pass is left at a record: the chains do not lead to it, or it breaks a rule by itself. Those after it keep their own rules.
+fn apart(index: RecordIndex) -> Passed
+    ensures { λ p. ⌜ p ≡ apartAt index ⌝ }
 {
     Passed {
-        broken: RecordIndex(0),
+        broken: index,
         joined: false,
         user: RecordIndex(0),
     }
@@ -125,20 +125,29 @@ fn last_met(found: u32, index: RecordIndex, number: UserNumber, wanted: UserNumb
     if number.0 == wanted.0 { index.0 } else { found }
 }
 
-// All records but the head. Of each user the pass keeps its state, and of all the numbers that it has seen. While it follows the
-// chains it is left at the first record that breaks a rule or where they do not lead on; else it goes on to the smallest record
-// that breaks a rule by itself.
+// The chains are followed from the last record.
+fn top(chained: bool, records: u32, below: u32) -> u32
+    ensures { λ r. ⌜ r ≡ cond chained records below ⌝ }
+{
+    if chained { records } else { below }
+}
+
+// The records below an index, or all, by the chains. Of each user the pass keeps its state, and of all the numbers that it has seen.
+// While it follows the chains it is left at the first record that breaks a rule or to which they do not lead; else it goes on to the
+// smallest record that breaks a rule by itself.
 fn pass_over(
     book: &[u8],
     wanted: UserNumber,
     states: &mut [u32],
     seen: &mut [u32],
     chained: bool,
+    below: u32,
 ) -> Passed
     requires { ⌜ lengthFits (now book) ≡ true ⌝ }
     requires { ⌜ usedFits (now book) ≡ true ⌝ }
     requires { ⌜ goodHead (now book) ≡ true ⌝ }
     requires { ⌜ Tables (used (now book)) chained (now states) (now seen) ⌝ }
+    requires { ⌜ (chained ≡ false → Resumed (now book) below) ⌝ }
     ensures said { λ p. ⌜ PassedOver (now (book .entry)) (wanted .0) chained p ⌝ }
     ensures sizes { λ _. ⌜ (length (now (states .exit)) ≡ length (now (states .entry))) × (length (now (seen .exit)) ≡ length (now (seen .entry))) ⌝ }
 {
@@ -146,7 +155,7 @@ fn pass_over(
     let mut broken = records;
     let mut found: u32 = 0;
     let mut expected = view::first_user(book).0;
-    let mut left = records;
+    let mut left = top(chained, records, below);
     while 1 < left {
         let last = left - 1;
         let index = RecordIndex(last);
@@ -159,14 +168,14 @@ fn pass_over(
                 let new = numbers::insert(seen, number);
                 if !(new & leads) {
                     if chained {
-                        return apart();
+                        return apart(index);
                     }
                 }
                 found = last_met(found, index, number, wanted);
                 expected = layout::next_of(r).0;
             } else {
                 if chained {
-                    return apart();
+                    return apart(index);
                 }
                 broken = last;
             }
@@ -174,7 +183,7 @@ fn pass_over(
             let home = layout::owner_of(r);
             if (home.0 == 0) | (last <= home.0) {
                 if chained {
-                    return apart();
+                    return apart(index);
                 }
                 broken = last;
             } else {
@@ -185,12 +194,12 @@ fn pass_over(
                         states[home.0 as usize] = state_after(r, book::level_of(r)).0;
                     } else {
                         if chained {
-                            return apart();
+                            return apart(index);
                         }
                     }
                 } else {
                     if chained {
-                        return apart();
+                        return apart(index);
                     }
                     broken = last;
                 }
@@ -205,7 +214,7 @@ fn pass_over(
     }
 }
 
-// By the chains; and where they do not lead to all records, once more without them.
+// By the chains; and where it was left, without them.
 fn pass_through(book: &[u8], wanted: UserNumber, states: &mut [u32], seen: &mut [u32]) -> Passed
     requires { ⌜ lengthFits (now book) ≡ true ⌝ }
     requires { ⌜ usedFits (now book) ≡ true ⌝ }
@@ -213,11 +222,13 @@ fn pass_through(book: &[u8], wanted: UserNumber, states: &mut [u32], seen: &mut 
     requires { ⌜ Tables (used (now book)) true (now states) (now seen) ⌝ }
     ensures { λ p. ⌜ PassedThrough (now (book .entry)) (wanted .0) p ⌝ }
 {
-    let first = pass_over(book, wanted, states, seen, true);
-    if first.joined {
+    let records = view::used(book);
+    let first = pass_over(book, wanted, states, seen, true, records);
+    let left = first.broken;
+    if left.0 == records {
         return first;
     }
-    pass_over(book, wanted, states, seen, false)
+    pass_over(book, wanted, states, seen, false, left.0 + 1)
 }
 
 // Tables for the records that the book uses: those for 800 take longer to clear than a small book to pass over.
