@@ -2,8 +2,8 @@
 use mathlib.Core.Path.{sym}
 use lib.Seq.{length-take-le}
 use borrow.Author.Needs.{needs}
-use Rattle.verdicts_vectors.proofs.answer.Statement.{statement}
-use Rattle.verdicts_vectors.proofs.answer.Tie as tie
+use Rattle.vectors.proofs.answer_verdict.Statement.{statement}
+use Rattle.vectors.proofs.answer_verdict.Tie as tie
 
 large-buffer-requires : tie.Need-large-buffer-requires
 large-buffer-requires c κs = search needs
@@ -31,20 +31,20 @@ array-share-prefix-bytes c =
     let filled = rw (c .before .count .given .1) at (c .before .before .before .before .hex-from .ensures) in
     filled .room
 
-slice-aggregate-answer-book : tie.Need-slice-aggregate-answer-book
-slice-aggregate-answer-book c =
+slice-aggregate-say-verdict : tie.Need-slice-aggregate-say-verdict
+slice-aggregate-say-verdict c =
     let r = c .before .before .before .before .before .hex-from in
     let filled = rw (c .before .before .count .given .1) at (r .ensures) in
     sym (length-take-le (c .before .before .count .given .0 .0) (r .last .1 .1 .0) (filled .room))
 
-answer-book-requires : tie.Need-answer-book-requires
-answer-book-requires c κs = search needs
+say-verdict-requires : tie.Need-say-verdict-requires
+say-verdict-requires c κs = search needs
 
 returns-2 : tie.Need-returns-2
 returns-2 c = search needs
 
-pub answer-spec : {M : Type 1} → statement M
-answer-spec =
+pub answer-verdict-spec : {M : Type 1} → statement M
+answer-verdict-spec =
     tie.close
     (tie.spec
     large-buffer-requires
@@ -55,6 +55,6 @@ answer-spec =
     say-error-requires
     returns
     array-share-prefix-bytes
-    slice-aggregate-answer-book
-    answer-book-requires
+    slice-aggregate-say-verdict
+    say-verdict-requires
     returns-2)

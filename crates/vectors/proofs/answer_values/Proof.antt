@@ -2,8 +2,8 @@
 use mathlib.Core.Path.{sym}
 use lib.Seq.{length-take-le}
 use borrow.Author.Needs.{needs}
-use Rattle.values_vectors.proofs.answer.Statement.{statement}
-use Rattle.values_vectors.proofs.answer.Tie as tie
+use Rattle.vectors.proofs.answer_values.Statement.{statement}
+use Rattle.vectors.proofs.answer_values.Tie as tie
 
 request-of-requires : tie.Need-request-of-requires
 request-of-requires c κs = search needs
@@ -57,8 +57,8 @@ answer-sheet-requires c κs = search needs
 returns-3 : tie.Need-returns-3
 returns-3 c = search needs
 
-pub answer-spec : {M : Type 1} → statement M
-answer-spec =
+pub answer-values-spec : {M : Type 1} → statement M
+answer-values-spec =
     tie.close
     (tie.spec
     request-of-requires

@@ -2,8 +2,8 @@
 use mathlib.Core.Path.{sym}
 use lib.Seq.{length-take-le}
 use borrow.Author.Needs.{needs}
-use Rattle.listings_vectors.proofs.answer_book.Statement.{statement}
-use Rattle.listings_vectors.proofs.answer_book.Tie as tie
+use Rattle.vectors.proofs.say_listing.Statement.{statement}
+use Rattle.vectors.proofs.say_listing.Tie as tie
 
 buffer-requires : tie.Need-buffer-requires
 buffer-requires c κs = search needs
@@ -28,29 +28,29 @@ array-share-prefix-text c =
     let written = rw (c .before .count .given .1) at (c .before .before .before .before .listing-of .ensures) in
     written .within
 
-slice-aggregate-say : tie.Need-slice-aggregate-say
-slice-aggregate-say c =
+slice-aggregate-say-text : tie.Need-slice-aggregate-say-text
+slice-aggregate-say-text c =
     let l = c .before .before .before .before .before .listing-of in
     let written = rw (c .before .before .count .given .1) at (l .ensures) in
     sym (length-take-le (c .before .before .count .given .0 .0) (l .last .1 .0) (written .within))
 
-say-requires : tie.Need-say-requires
-say-requires c κs = search needs
+say-text-requires : tie.Need-say-text-requires
+say-text-requires c κs = search needs
 
 returns-2 : tie.Need-returns-2
 returns-2 c = search needs
 
-slice-aggregate-say-2 : tie.Need-slice-aggregate-say-2
-slice-aggregate-say-2 c = search needs
+slice-aggregate-say-text-2 : tie.Need-slice-aggregate-say-text-2
+slice-aggregate-say-text-2 c = search needs
 
-say-requires-2 : tie.Need-say-requires-2
-say-requires-2 c κs = search needs
+say-text-requires-2 : tie.Need-say-text-requires-2
+say-text-requires-2 c κs = search needs
 
 returns-3 : tie.Need-returns-3
 returns-3 c = search needs
 
-pub answer-book-spec : {M : Type 1} → statement M
-answer-book-spec =
+pub say-listing-spec : {M : Type 1} → statement M
+say-listing-spec =
     tie.close
     (tie.spec
     buffer-requires
@@ -60,9 +60,9 @@ answer-book-spec =
     enum-told
     returns
     array-share-prefix-text
-    slice-aggregate-say
-    say-requires
+    slice-aggregate-say-text
+    say-text-requires
     returns-2
-    slice-aggregate-say-2
-    say-requires-2
+    slice-aggregate-say-text-2
+    say-text-requires-2
     returns-3)

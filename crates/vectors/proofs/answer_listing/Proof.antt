@@ -2,17 +2,17 @@
 use mathlib.Core.Path.{sym}
 use lib.Seq.{length-take-le}
 use borrow.Author.Needs.{needs}
-use Rattle.listings_vectors.proofs.answer.Statement.{statement}
-use Rattle.listings_vectors.proofs.answer.Tie as tie
+use Rattle.vectors.proofs.answer_listing.Statement.{statement}
+use Rattle.vectors.proofs.answer_listing.Tie as tie
 
 is-no-bytes-requires : tie.Need-is-no-bytes-requires
 is-no-bytes-requires c κs = search needs
 
-slice-aggregate-answer-book : tie.Need-slice-aggregate-answer-book
-slice-aggregate-answer-book c = search needs
+slice-aggregate-say-listing : tie.Need-slice-aggregate-say-listing
+slice-aggregate-say-listing c = search needs
 
-answer-book-requires : tie.Need-answer-book-requires
-answer-book-requires c κs = search needs
+say-listing-requires : tie.Need-say-listing-requires
+say-listing-requires c κs = search needs
 
 returns : tie.Need-returns
 returns c = search needs
@@ -43,25 +43,25 @@ array-share-prefix-bytes c =
     let filled = rw (c .before .count .given .1) at (c .before .before .before .before .hex-from .ensures) in
     filled .room
 
-slice-aggregate-answer-book-2 : tie.Need-slice-aggregate-answer-book-2
-slice-aggregate-answer-book-2 c =
+slice-aggregate-say-listing-2 : tie.Need-slice-aggregate-say-listing-2
+slice-aggregate-say-listing-2 c =
     let r = c .before .before .before .before .before .hex-from in
     let filled = rw (c .before .before .count .given .1) at (r .ensures) in
     sym (length-take-le (c .before .before .count .given .0 .0) (r .last .1 .1 .0) (filled .room))
 
-answer-book-requires-2 : tie.Need-answer-book-requires-2
-answer-book-requires-2 c κs = search needs
+say-listing-requires-2 : tie.Need-say-listing-requires-2
+say-listing-requires-2 c κs = search needs
 
 returns-3 : tie.Need-returns-3
 returns-3 c = search needs
 
-pub answer-spec : {M : Type 1} → statement M
-answer-spec =
+pub answer-listing-spec : {M : Type 1} → statement M
+answer-listing-spec =
     tie.close
     (tie.spec
     is-no-bytes-requires
-    slice-aggregate-answer-book
-    answer-book-requires
+    slice-aggregate-say-listing
+    say-listing-requires
     returns
     large-buffer-requires
     slice-aggregate-hex-from
@@ -71,6 +71,6 @@ answer-spec =
     say-error-requires
     returns-2
     array-share-prefix-bytes
-    slice-aggregate-answer-book-2
-    answer-book-requires-2
+    slice-aggregate-say-listing-2
+    say-listing-requires-2
     returns-3)

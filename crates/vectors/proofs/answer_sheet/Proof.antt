@@ -3,8 +3,8 @@ use mathlib.Core.Path.{sym, _∙_}
 use denote.Ref.{now}
 use Rattle.sheet.proofs.Faults.{told-past}
 use borrow.Author.Needs.{needs}
-use Rattle.values_vectors.proofs.answer_sheet.Statement.{statement}
-use Rattle.values_vectors.proofs.answer_sheet.Tie as tie
+use Rattle.vectors.proofs.answer_sheet.Statement.{statement}
+use Rattle.vectors.proofs.answer_sheet.Tie as tie
 
 header-wrong-requires : tie.Need-header-wrong-requires
 header-wrong-requires c κs = search needs

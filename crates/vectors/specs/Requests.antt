@@ -1,7 +1,7 @@
 -- What a line of standard input asks.
 use Prim.Native.Nat.{ℕ, _≤_}
-use Rattle.values_vectors.specs.declared.Request.{Request}
-use Rattle.values_vectors.specs.declared.Request.the-variants.{Sheet, Nothing}
+use Rattle.vectors.specs.declared.Request.{Request}
+use Rattle.vectors.specs.declared.Request.the-variants.{Sheet, Nothing}
 
 -- the sheet begins within the line, or at its end
 abbrev pub SheetWithin : ℕ → Request → Type 0

@@ -5,14 +5,14 @@ use lib.ListN.{length}
 use Rattle.input.specs.Lines.{LineHeld}
 use Rattle.input.proofs.LinesFound.{nothing-is-held}
 use borrow.Author.Needs.{needs}
-use Rattle.verdicts_vectors.proofs.run.Statement.{statement}
-use Rattle.verdicts_vectors.proofs.run.Tie as tie
+use Rattle.vectors.proofs.run.Statement.{statement}
+use Rattle.vectors.proofs.run.Tie as tie
 
 abbrev Inv-loop : tie.InvT-loop
-Inv-loop held₀ line₀ turn₀ held line turn = LineHeld held line × (length held ≡ length held₀)
+Inv-loop question held₀ line₀ turn₀ held line turn = LineHeld held line × (length held ≡ length held₀)
 
 abbrev μ-loop : tie.MeasureT-loop
-μ-loop held₀ line₀ turn₀ held line turn = 2 ^ 64 - turn
+μ-loop question held₀ line₀ turn₀ held line turn = 2 ^ 64 - turn
 
 start-requires : tie.Need-start-requires Inv-loop μ-loop
 start-requires c κs = search needs

@@ -1,7 +1,7 @@
 -- Each place is within the line: after the first number, after those behind it, after the blank.
 use borrow.Author.Needs.{needs}
-use Rattle.values_vectors.proofs.request_of.Statement.{statement}
-use Rattle.values_vectors.proofs.request_of.Tie as tie
+use Rattle.vectors.proofs.request_of.Statement.{statement}
+use Rattle.vectors.proofs.request_of.Tie as tie
 
 number-at-requires : tie.Need-number-at-requires
 number-at-requires c κs = search needs
