@@ -4,7 +4,7 @@ ghost use mathlib.Core.Bool.{_&&_};
 ghost use Prim.Native.Nat.{_-_, _*_, _≤_, _<_};
 ghost use lib.Dec.{leb};
 ghost use Rattle.units.specs.Limits.{maxYearTicks};
-ghost use Rattle.book.specs.Book.{lengthFits, detailsFit, openYearFits, halvesOf, isMade, dueIfMade, runsFit, halvesMade, advancesFit, laterHalf, laterFits, creditFits, halvesFit, accountFits, isRun, levelFrom, bookedFits, advanceFits, balanceFits, closingFits, entryRanges, unnamedOf, entryKind, levelIn, yearsEnded, within};
+ghost use Rattle.book.specs.Book.{lengthFits, detailsFit, openYearFits, halvesOf, isMade, dueIfMade, runsFit, halvesMade, advancesFit, laterHalf, laterFits, creditFits, halvesFit, accountFits, isRun, levelFrom, bookedFits, advanceFits, balanceFits, closingFits, entryRanges, unnamedOf, entryKind, levelIn, within};
 ghost use Rattle.layout.specs.Fields.{recordLength, get, kindField, allZero, unnamedOfUser};
 ghost use lib.ListN.{length};
 ghost use Rattle.records.specs.Records.{accountIn};
@@ -321,11 +321,4 @@ pub fn level_of(r: &[u8]) -> u16
     } else {
         level_from(year, layout::booked_of(r))
     }
-}
-
-// The years that an entry ends: a closing its own, any other entry none.
-pub fn years_ended(kind: u8) -> u32
-    ensures { λ n. ⌜ n ≡ yearsEnded kind ⌝ }
-{
-    if kind == CLOSING { 1 } else { 0 }
 }
