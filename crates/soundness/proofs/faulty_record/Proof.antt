@@ -38,12 +38,12 @@ abbrev μ-users : tie.MeasureT-users
 counts-requires : tie.Need-counts-requires Inv-entries μ-entries Inv-users μ-users
 counts-requires c κs =
     let s = c .before in
-    used-counted (now (s .args .book)) (s .pre .1 .0) (s .pre .0)
+    (used-counted (now (s .args .book)) (s .pre .1 .0) (s .pre .0), s .pre .1 .0)
 
 by-owner-requires : tie.Need-by-owner-requires Inv-entries μ-entries Inv-users μ-users
 by-owner-requires c κs =
     let s = c .before .before in
-    used-counted (now (s .args .book)) (s .pre .1 .0) (s .pre .0)
+    (used-counted (now (s .args .book)) (s .pre .1 .0) (s .pre .0), s .pre .1 .0)
 
 used-requires : tie.Need-used-requires Inv-entries μ-entries Inv-users μ-users
 used-requires c κs = search needs
