@@ -1,4 +1,5 @@
 pub mod Guards
+pub mod Payments
 pub mod Hits
 pub mod RecordKinds
 pub mod Lengths

@@ -12,7 +12,7 @@ use Rattle.layout.specs.Fields.{userKind, advanceKind, closingKind}
 use Rattle.book.specs.Book.{used, kindAt, hasKind, isUser, isAdvance, isClosing, entryKind, isEntry, keepsYear}
 
 -- of a record below u the kind decides
-kind-decides : (b : List ℕ) (kind i : ℕ) → 1 ≤ i → i < used b → hasKind b kind i ≡ eqb (kindAt b i) kind
+pub kind-decides : (b : List ℕ) (kind i : ℕ) → 1 ≤ i → i < used b → hasKind b kind i ≡ eqb (kindAt b i) kind
 unfolding hasKind
 kind-decides b kind i p h = rw (lt-ltb 0 i p, lt-ltb i (used b) h)
 

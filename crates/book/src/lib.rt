@@ -4,7 +4,7 @@ ghost use mathlib.Core.Bool.{_&&_};
 ghost use Prim.Native.Nat.{_-_, _*_, _≤_, _<_};
 ghost use lib.Dec.{leb};
 ghost use Rattle.units.specs.Limits.{maxYearTicks};
-ghost use Rattle.book.specs.Book.{lengthFits, detailsFit, openYearFits, halvesOf, isMade, dueIfMade, runsFit, halvesMade, advancesFit, laterHalf, laterFits, creditFits, halvesFit, accountFits, isRun, levelFrom, bookedFits, advanceFits, balanceFits, closingFits, entryRanges, unnamedOf, entryKind, levelIn, yearsEnded, within};
+ghost use Rattle.book.specs.Book.{lengthFits, detailsFit, openYearFits, halvesOf, isMade, dueIfMade, runsFit, halvesMade, advancesFit, laterHalf, laterFits, creditFits, halvesFit, accountFits, isRun, levelFrom, bookedFits, advanceFits, balanceFits, closingFits, entryRanges, unnamedOf, entryKind, levelIn, within};
 ghost use Rattle.layout.specs.Fields.{recordLength, get, kindField, allZero, unnamedOfUser};
 ghost use lib.ListN.{length};
 ghost use Rattle.records.specs.Records.{accountIn};
@@ -159,11 +159,14 @@ fn years_between(from: u16, to: u16) -> u64
     if from < to { (to - from) as u64 } else { 0 }
 }
 
-// An amount is at most that of a year for each year between two. No amount reaches that of 51,241 years.
+// An amount is at most that of a year for each year between two; most amounts here are nothing. None reaches that of 51,241 years.
 fn fits_years(amount: Ticks, from: u16, to: u16) -> bool
     ensures { λ r. ⌜ r ≡ leb (amount .0) (maxYearTicks * (to - from)) ⌝ }
 {
     let ticks = amount.0;
+    if ticks == 0 {
+        return true;
+    }
     let years = years_between(from, to);
     if years < 51_241 {
         ticks <= MAX_YEAR * years
@@ -184,13 +187,28 @@ fn halves_fit(a: Account) -> bool
     (a.half1.0 <= MAX_HALF_KWH) & (a.half2.0 <= MAX_HALF_KWH)
 }
 
+// What is paid of both open years: where no run of either is made, nothing.
+fn payments_fit(a: Account) -> bool
+    ensures { λ r. ⌜ r ≡ ((runsFit a && advancesFit a) && laterFits a) ⌝ }
+{
+    if (a.runs == 0) & (a.later_runs == 0) {
+        (a.advances.0 == 0) & (a.later_advances.0 == 0)
+    } else {
+        paid_fits(a) & later_fits(a)
+    }
+}
+
 // What is paid is looked at last, where all else fits.
 fn account_fits(a: Account) -> bool
     ensures { λ r. ⌜ r ≡ accountFits a ⌝ }
 {
     let details = !(a.number.0 == 0) & (details_fit(a.details, a.option) & open_year_fits(a));
-    if details & (credit_fits(a) & halves_fit(a)) {
-        paid_fits(a) & later_fits(a)
+    if details & halves_fit(a) {
+        if credit_fits(a) {
+            payments_fit(a)
+        } else {
+            false
+        }
     } else {
         false
     }
@@ -221,12 +239,18 @@ fn booked_fits(year: u16, booked: u16) -> bool
     (booked == 0) | (booked as u32 + 1 == year as u32)
 }
 
+// Most advances note no year of booking.
 fn advance_fits(activation: u16, open_year: u16, a: AdvanceRecord) -> bool
     ensures { λ r. ⌜ ((owner : Account) → owner .details .year ≡ activation → owner .«open_year» ≡ open_year → r ≡ advanceFits owner a) ⌝ }
 {
-    let level = level_from(a.year, a.booked);
-    let dated = year_fits(activation, open_year, level) & booked_fits(a.year, a.booked);
-    dated & (is_run(a.run) & (a.ticks.0 <= MAX_YEAR))
+    if !(is_run(a.run) & (a.ticks.0 <= MAX_YEAR)) {
+        return false;
+    }
+    if a.booked == 0 {
+        year_fits(activation, open_year, a.year)
+    } else {
+        year_fits(activation, open_year, a.booked) & booked_fits(a.year, a.booked)
+    }
 }
 
 fn balance_fits(balance: Balance) -> bool
@@ -297,11 +321,4 @@ pub fn level_of(r: &[u8]) -> u16
     } else {
         level_from(year, layout::booked_of(r))
     }
-}
-
-// The years that an entry ends: a closing its own, any other entry none.
-pub fn years_ended(kind: u8) -> u32
-    ensures { λ n. ⌜ n ≡ yearsEnded kind ⌝ }
-{
-    if kind == CLOSING { 1 } else { 0 }
 }

@@ -55,13 +55,18 @@ fn mean_rates() -> bool {
 
 // (5) to (7): tier rates of plant 1.
 fn tier_rates() -> bool {
-    if !line(5, tariff::tier_rate(1, 50_000, Rate(2_000), Rate(6_000)).0) {
+    let table = tariff::table_price(1, 50_000);
+    let limited = tariff::tier_rate(1, 50_000, table, Rate(2_000), Rate(6_000));
+    if !line(5, limited.0) {
         return false;
     }
-    if !line(6, tariff::tier_rate(1, 50_000, Rate(8_000), Rate(6_000)).0) {
+    let net_only = tariff::tier_rate(1, 50_000, table, Rate(8_000), Rate(6_000));
+    if !line(6, net_only.0) {
         return false;
     }
-    line(7, tariff::tier_rate(1, 20_000, Rate(2_000), Rate(6_000)).0)
+    let table = tariff::table_price(1, 20_000);
+    let small = tariff::tier_rate(1, 20_000, table, Rate(2_000), Rate(6_000));
+    line(7, small.0)
 }
 
 // (8) and (9): what a run pays.

@@ -1,11 +1,16 @@
 // The rules of document 01, "Book", on where the links of a record lead. Any bytes are a book here.
 ghost use mathlib.Core.Path.{_≡_};
 ghost use mathlib.Core.Bool.{true, _&&_};
+ghost use Prim.Native.Nat.{_<_};
 ghost use lib.Dec.{eqb};
 ghost use Rattle.layout.specs.Fields.{userKind};
-ghost use Rattle.book.specs.Book.{kindAt, isUser, numberOf, ownRulesFit, userNextFits, numberIsNew, firstEntryFits, entryNextFits, ownerFits, pointersTo, inOrder, firstInOrder, nextInOrder, linksFit, goodRecord, goodHead};
+ghost use Rattle.book.specs.Book.{used, usedFits, kindAt, isUser, numberOf, ownRulesFit, userNextFits, numberIsNew, firstEntryFits, entryNextFits, ownerFits, pointersTo, inOrder, firstInOrder, nextInOrder, linksFit, goodRecord, goodHead};
+ghost use Rattle.links.specs.Follows.{followsEntry};
+use layout::kind::ADVANCE;
+use layout::kind::CLOSING;
 use layout::kind::USER;
 use layout::record;
+use layout::whole_record;
 use units::RecordIndex;
 use units::UserNumber;
 use view::activation_of;
@@ -28,7 +33,11 @@ fn user_next_fits(book: &[u8], index: RecordIndex) -> bool
     ensures { λ r. ⌜ r ≡ userNextFits (now (book .entry)) (index .0) ⌝ }
 {
     let next = next_of(book, index);
-    (next.0 == 0) | (is_user(book, next) & (next.0 < index.0))
+    if next.0 == 0 {
+        true
+    } else {
+        is_user(book, next) & (next.0 < index.0)
+    }
 }
 
 // A user with the number. Most records have another.
@@ -59,18 +68,14 @@ fn first_entry_fits(book: &[u8], index: RecordIndex) -> bool
     ensures { λ r. ⌜ r ≡ firstEntryFits (now (book .entry)) (index .0) ⌝ }
 {
     let first = first_entry_of(book, index);
-    (first.0 == 0) | (is_entry(book, first) & (owner_of(book, first).0 == index.0))
+    if first.0 == 0 {
+        true
+    } else {
+        is_entry(book, first) & (owner_of(book, first).0 == index.0)
+    }
 }
 
 // LINKS OF AN ENTRY
-
-fn entry_next_fits(book: &[u8], index: RecordIndex) -> bool
-    ensures { λ r. ⌜ r ≡ entryNextFits (now (book .entry)) (index .0) ⌝ }
-{
-    let next = next_of(book, index);
-    let kin = is_entry(book, next) & (owner_of(book, next).0 == owner_of(book, index).0);
-    (next.0 == 0) | (kin & (next.0 < index.0))
-}
 
 pub fn owner_fits(book: &[u8], index: RecordIndex) -> bool
     ensures { λ r. ⌜ r ≡ ownerFits (now (book .entry)) (index .0) ⌝ }
@@ -107,16 +112,43 @@ fn first_in_order(book: &[u8], index: RecordIndex) -> bool
     )
 }
 
-fn next_in_order(book: &[u8], index: RecordIndex) -> bool
-    ensures { λ r. ⌜ r ≡ nextInOrder (now (book .entry)) (index .0) ⌝ }
+// An entry that stands behind one of an owner and of a level: it has the same owner, and its level is that one, or it is the closing
+// of the year before.
+fn follows(r: &[u8], owner: RecordIndex, level: u16) -> bool
+    ensures { λ s. ⌜ s ≡ followsEntry (now (r .entry)) (owner .0) level ⌝ }
 {
-    let activation = activation_of(book, owner_of(book, index));
-    in_order(
-        book,
-        activation,
-        level_of(book, index),
-        next_of(book, index),
-    )
+    let kind = layout::kind_of(r);
+    let kin = book::is_entry_kind(kind) & (layout::owner_of(r).0 == owner.0);
+    let behind = book::level_of(r);
+    let advance = (kind == ADVANCE) & (behind == level);
+    let closing = (kind == CLOSING) & (behind as u32 + 1 == level as u32);
+    kin & (advance | closing)
+}
+
+// Owner, next and order together: each of the records that they name is read once, and only where its index is below the entry's.
+fn entry_links_fit(book: &[u8], index: RecordIndex) -> bool
+    requires { ⌜ usedFits (now book) ≡ true ⌝ }
+    requires { ⌜ index .0 < used (now book) ⌝ }
+    ensures { λ r. ⌜ r ≡ ((ownerFits (now (book .entry)) (index .0) && entryNextFits (now (book .entry)) (index .0)) && nextInOrder (now (book .entry)) (index .0)) ⌝ }
+{
+    let r = whole_record(book, index.0 as usize);
+    let owner = layout::owner_of(r);
+    if (owner.0 == 0) | (index.0 <= owner.0) {
+        return false;
+    }
+    let home = whole_record(book, owner.0 as usize);
+    if layout::kind_of(home) != USER {
+        return false;
+    }
+    let level = book::level_of(r);
+    let next = layout::next_of(r);
+    if next.0 == 0 {
+        return level == layout::activation_year_of(home);
+    }
+    if index.0 <= next.0 {
+        return false;
+    }
+    follows(whole_record(book, next.0 as usize), owner, level)
 }
 
 // FAULTS
@@ -124,13 +156,15 @@ fn next_in_order(book: &[u8], index: RecordIndex) -> bool
 // Whether a user's number is new comes from the caller, who knows it of all users.
 fn links_fit(book: &[u8], index: RecordIndex, new: bool) -> bool
     requires { ⌜ (kindAt (now book) (index .0) ≡ userKind → new ≡ numberIsNew (now book) (index .0)) ⌝ }
+    requires { ⌜ usedFits (now book) ≡ true ⌝ }
+    requires { ⌜ index .0 < used (now book) ⌝ }
     ensures { λ r. ⌜ r ≡ linksFit (now (book .entry)) (index .0) ⌝ }
 {
     if kind_at(book, index) == USER {
         let user = user_next_fits(book, index) & new;
         user & (first_entry_fits(book, index) & first_in_order(book, index))
     } else {
-        (owner_fits(book, index) & entry_next_fits(book, index)) & next_in_order(book, index)
+        entry_links_fit(book, index)
     }
 }
 
@@ -140,6 +174,8 @@ pub fn good_record(book: &[u8], index: RecordIndex, pointers: u16, new: bool) ->
     requires { ⌜ pointers ≡ pointersTo (now book) (index .0) ⌝ }
     requires { ⌜ (kindAt (now book) (index .0) ≡ userKind → new ≡ numberIsNew (now book) (index .0)) ⌝ }
     requires { ⌜ ownRulesFit (now book) (index .0) ≡ true ⌝ }
+    requires { ⌜ usedFits (now book) ≡ true ⌝ }
+    requires { ⌜ index .0 < used (now book) ⌝ }
     ensures { λ r. ⌜ r ≡ goodRecord (now (book .entry)) (index .0) ⌝ }
 {
     links_fit(book, index, new) & (pointers == 1)

@@ -10,10 +10,11 @@ use lib.Dec.{ltb}
 use lib.ListN.{length, getD, set, replicate, getD-replicate}
 use lib.Seq.{getD-set-same, getD-set-other}
 use Rattle.book.specs.Book.{used, isEntry, ownerOf}
+use Rattle.book.proofs.RecordKinds.{entry-index}
 use Rattle.units.specs.Limits.{mostRecords}
 use Rattle.owners.specs.declared.Entries.{Entries}
 use Rattle.owners.specs.Owners.{owns, NextOwned, Linked}
-use Rattle.owners.proofs.Owned.{owns-entry, owns-owner, owns-own, owns-no-other, owned-none, owned-here, owned-further}
+use Rattle.owners.proofs.Owned.{owns-entry, owns-owner, owns-own, owns-no-other, owned-none, owned-here, owned-further, owned-all}
 
 -- the entries from `n` on are linked
 pub record LinkedFrom (b : List ℕ) (n : ℕ) (firsts laters : List ℕ) : Type 0 where
@@ -80,8 +81,10 @@ module _ (b : List ℕ) (n : ℕ) {firsts laters : List ℕ} (linked : LinkedFro
           later = λ k l o h q. later-kept k l o h q (ℕ-discrete k n);
         }
 
--- all records are passed
-pub linked-all : (b : List ℕ) (n : ℕ) (entries : Entries) → n ≡ 0 → LinkedFrom b n (entries .first) (entries .later) → Linked b entries
+-- all records but the head are passed, and the head is no entry
+pub linked-all : (b : List ℕ) (n : ℕ) (entries : Entries) → n ≤ 1 → LinkedFrom b n (entries .first) (entries .later) → Linked b entries
 linked-all b n entries end linked =
-    let from : LinkedFrom b 0 (entries .first) (entries .later) = subst (λ m. LinkedFrom b m (entries .first) (entries .later)) end linked in
-    record { first = from .first; later = λ o e h q. from .later e (omega arith) o h q }
+    record {
+      first = λ o h. owned-all b o n end (linked .first o h);
+      later = λ o e h q. let from = entry-index b e (owns-entry b o e q) .0 in linked .later e (omega (arith, from, end)) o h q;
+    }

@@ -55,3 +55,11 @@ module _ (b : List ℕ) (o : ℕ) where
       by-place : (k : ℕ) → n ≤ k → owns b o k ≡ true → Dec (k ≡ n) → (e ≡ 0 → ⊥) × (e ≤ k)
       by-place k l q (yes same) = let here : owns b o n ≡ true = rw same at q in absurd (true≢false (sym here ∙ not-here))
       by-place k l q (no d) = next .none-before k (omega (arith, d)) q
+
+  -- the head is none
+  pub owned-all : (n : ℕ) {e : ℕ} → n ≤ 1 → NextOwned b o n e → NextOwned b o 0 e
+  owned-all n end next =
+      record {
+        here = λ some. (next .here some .0, omega arith);
+        none-before = λ k l q. let from = entry-index b k (owns-entry b o k q) .0 in next .none-before k (omega (arith, from)) q;
+      }

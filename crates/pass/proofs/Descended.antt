@@ -7,11 +7,10 @@ use mathlib.Core.List.{List}
 use native.Mathlib.Decide.{ℕ-discrete}
 use native.Mathlib.Numerals.{add-one}
 use native.Mathlib.Omega.{arith}
-use borrow.Author.Tests.{ne-eqb, eqb-true}
+use borrow.Author.Tests.{ne-eqb, eqb-true, eqb-false}
 use lib.Dec.{eqb}
 use lib.ListN.{length, getD, set}
 use lib.Seq.{getD-set-same, getD-set-other}
-use Rattle.units.specs.Limits.{mostRecords}
 use Rattle.units.proofs.Bools.{and-left, and-right}
 use Rattle.units.proofs.Folds.{below-suc}
 use Rattle.layout.specs.Fields.{get, allZero, unnamedOfHead, recordAt, kindField, numberField, nextField, ownerField, userKind}
@@ -24,39 +23,44 @@ use Rattle.descent.proofs.Sound.{passed-sound}
 use Rattle.book.specs.Find.{findBelow, findUser}
 use Rattle.book.proofs.Find.{found-none}
 use Rattle.numbers.specs.Held.{Held, Inserted}
-use Rattle.pass.specs.Steps.{entryDue, yearDue, UserLeads, EntryLeads, StateAfter, firstMet}
+use Rattle.pass.specs.Steps.{entryDue, yearDue, UserLeads, EntryLeads, StateAfter, lastMet}
 
--- the user with a number is found among the records from `left` on, or is still to be looked for below
-pub record Sought (b : List ℕ) (n left found : ℕ) : Type 0 where
-  pub small : found ≤ mostRecords
+-- the user with a number is found among the records from `left` on, so that the number is held, or is still to be looked for below
+pub record Sought (b : List ℕ) (n left found : ℕ) (seen : List ℕ) : Type 0 where
   pub same : cond (eqb found 0) (findBelow b n left) found ≡ findUser b n
+  pub number : (found ≡ 0 → ⊥) → Held seen n
 
-sought-first : (b : List ℕ) (n : ℕ) {left : ℕ} → left ≡ used b → Sought b n left 0
+sought-first : (b : List ℕ) (n : ℕ) {left : ℕ} {seen : List ℕ} → left ≡ used b → Sought b n left 0 seen
 unfolding findUser
-sought-first b n l = record { small = omega arith; same = ap (findBelow b n) l }
+sought-first b n l = record { same = ap (findBelow b n) l; number = λ some. absurd (some refl) }
 
-module _ (b : List ℕ) (n : ℕ) {left found : ℕ} (s : Sought b n left found) (index : ℕ) (l : left ≡ index + 1) (most : left ≤ mostRecords) where
+module _ (b : List ℕ) (n : ℕ) {left found : ℕ} {seen : List ℕ} (s : Sought b n left found seen) (index : ℕ) (l : left ≡ index + 1) where
   below : findBelow b n left ≡ cond (isUser b index && eqb (numberOf b index) n) index (findBelow b n index)
   unfolding findBelow
   below = ap (findBelow b n) (l ∙ add-one index)
 
-  sought-past : isUser b index ≡ false → Sought b n index found
+  sought-past : isUser b index ≡ false → Sought b n index found seen
   sought-past other =
-      record { small = s .small; same = ap (λ (k : ℕ). cond (eqb found 0) k found) (sym (below ∙ rw other)) ∙ s .same }
+      record { same = ap (λ (k : ℕ). cond (eqb found 0) k found) (sym (below ∙ rw other)) ∙ s .same; number = s .number }
 
-  module _ (user : isUser b index ≡ true) (some : 1 ≤ index) {number : ℕ} (is : number ≡ numberOf b index) where
+  module _ (user : isUser b index ≡ true) (some : 1 ≤ index) {number : ℕ} (is : number ≡ numberOf b index) {seen' : List ℕ} (ins : Inserted seen number seen') where
     by-number : {t : Bool} → eqb number n ≡ t → findBelow b n left ≡ cond t index (findBelow b n index)
     by-number e = below ∙ rw (user, ← is, e)
 
-    met-with : (t f : Bool) → eqb number n ≡ t → eqb found 0 ≡ f → Sought b n index (cond (t && f) index found)
+    -- no other user that was met has the number
+    met-with : (t f : Bool) → eqb number n ≡ t → eqb found 0 ≡ f → Sought b n index (cond t index found) seen'
     met-with true true e z =
-        record { small = omega (arith, l, most); same = rw (ne-eqb index 0 (λ (q : index ≡ 0). omega (arith, q, some))) (sym (by-number e) ∙ (rw z at (s .same))) }
-    met-with true false e z = record { small = s .small; same = rw z (rw z at (s .same)) }
-    met-with false true e z = record { small = s .small; same = rw z (sym (by-number e) ∙ (rw z at (s .same))) }
-    met-with false false e z = record { small = s .small; same = rw z (rw z at (s .same)) }
+        record {
+          same = rw (ne-eqb index 0 (λ (q : index ≡ 0). omega (arith, q, some))) (sym (by-number e) ∙ (rw z at (s .same)));
+          number = λ _. subst (Held seen') (eqb-true number n e) (ins .held);
+        }
+    met-with true false e z = absurd (ins .fresh (subst (Held seen) (sym (eqb-true number n e)) (s .number (eqb-false found 0 z))))
+    met-with false true e z =
+        record { same = rw z (sym (by-number e) ∙ (rw z at (s .same))); number = λ k. ins .kept n (s .number k) }
+    met-with false false e z = record { same = rw z (rw z at (s .same)); number = λ k. ins .kept n (s .number k) }
 
-    sought-at : Sought b n index (firstMet found index number n)
-    unfolding firstMet
+    sought-at : Sought b n index (lastMet found index number n) seen'
+    unfolding lastMet
     sought-at = met-with (eqb number n) (eqb found 0) refl refl
 
 -- the records from `left` on are met
@@ -69,7 +73,7 @@ pub record Descended (b : List ℕ) (n left expected found : ℕ) (states seen :
   pub year : (o : ℕ) → yearDue (recordAt b o) (getD states o 0) ≡ dueYear b o gone
   pub each : (d : ℕ) → d < gone → MetUser b d ⊎ MetEntry b d
   pub held : (d : ℕ) → d < gone → isUser b (met b d) ≡ true → Held seen (numberOf b (met b d))
-  pub sought : Sought b n left found
+  pub sought : Sought b n left found seen
 
 -- no state is known at first
 pub started : (b : List ℕ) (wanted : ℕ) (states seen : List ℕ) → ((o : ℕ) → getD states o 0 ≡ 0) → {left expected : ℕ} → left ≡ used b → 1 ≤ used b → expected ≡ firstUser b
@@ -90,7 +94,7 @@ started b wanted states seen none l lo e =
 
 -- the record at `index` is met
 module _ (b : List ℕ) {wanted left expected found : ℕ} {states seen : List ℕ} (s : Descended b wanted left expected found states seen) (index : ℕ)
-    (l : left ≡ index + 1) (most : left ≤ mostRecords) (lo : 1 ≤ index) (r : List ℕ) (bytes : r ≡ recordAt b index)
+    (l : left ≡ index + 1) (lo : 1 ≤ index) (r : List ℕ) (bytes : r ≡ recordAt b index)
     (own : ownRulesFit b index ≡ true) where
   after : index + suc (s .gone) ≡ used b
   after = let p = s .place in omega arith
@@ -140,7 +144,7 @@ module _ (b : List ℕ) {wanted left expected found : ℕ} {states seen : List �
           unlike = λ e h u same. ins .fresh (subst (Held seen) (same ∙ ap (numberOf b) here ∙ sym number-here) (s .held e h u));
         }
 
-    pub user-met : {next : ℕ} → next ≡ get nextField r → Descended b wanted index next (firstMet found index number wanted) states seen'
+    pub user-met : {next : ℕ} → next ≡ get nextField r → Descended b wanted index next (lastMet found index number wanted) states seen'
     unfolding nextOf
     user-met e =
         record {
@@ -155,7 +159,7 @@ module _ (b : List ℕ) {wanted left expected found : ℕ} {states seen : List �
               below-suc (λ d. isUser b (met b d) ≡ true → Held seen' (numberOf b (met b d))) (s .gone)
               (λ d h u. ins .kept (numberOf b (met b d)) (s .held d h u))
               (λ u. subst (Held seen') (number-here ∙ ap (numberOf b) (sym here)) (ins .held));
-          sought = sought-at b wanted (s .sought) index l most user-here lo number-here;
+          sought = sought-at b wanted (s .sought) index l user-here lo number-here ins;
         }
 
   -- an entry
@@ -261,7 +265,7 @@ module _ (b : List ℕ) {wanted left expected found : ℕ} {states seen : List �
           held =
               below-suc (λ d. isUser b (met b d) ≡ true → Held seen (numberOf b (met b d))) (s .gone) (s .held)
               (λ u. absurd (not-both b (met b (s .gone)) u (met-entry .entry)));
-          sought = sought-past b wanted (s .sought) index l most no-user;
+          sought = sought-past b wanted (s .sought) index l no-user;
         }
 
 -- all records but the head are met

@@ -1,8 +1,8 @@
--- The own rules of a record, as the pass tests them: a user by itself, an entry by its owner's record too; and that a record that
--- breaks them, or whose owner is not before it, is not good.
+-- The own rules of a record, as the pass tests them: a user by itself, an entry by its owner's record too; and that a record whose
+-- owner is not before it is not good.
 use Prim.Native.Nat.{ℕ, _<_}
 use mathlib.Core.Path.{_≡_, sym, ap, _∙_}
-use mathlib.Core.Bool.{Bool, true, false, not, _&&_, _||_, and-false}
+use mathlib.Core.Bool.{true, false, not, _&&_, _||_, and-false}
 use mathlib.Core.List.{List}
 use mathlib.Core.Logic.{⊎-elim}
 use native.Mathlib.Omega.{arith}
@@ -12,7 +12,7 @@ use Rattle.units.proofs.Bools.{and-left, or-cases}
 use Rattle.layout.specs.Fields.{get, allZero, unnamedOfUser, recordAt, kindField, numberField, ownerField, userKind}
 use Rattle.records.specs.Records.{accountIn}
 use Rattle.book.specs.Book.{kindAt, hasKind, isUser, ownerOf, ownerFits, accountFits, entryRanges, rangesFit, unnamedOf, zeroBytesFit, ownRulesFit, goodRecord, detailsFit, openYearFits, runsFit, advancesFit, laterFits, creditFits, halvesFit}
-use Rattle.book.proofs.Faults.{own-bad, ownerless-bad}
+use Rattle.book.proofs.Faults.{ownerless-bad}
 
 -- a user that keeps its rules has a number
 pub number-some : (r : List ℕ) → (accountFits (accountIn r) && allZero unnamedOfUser r) ≡ true → 0 < get numberField r
@@ -54,6 +54,3 @@ module _ (b : List ℕ) (index : ℕ) {r : List ℕ} (bytes : r ≡ recordAt b i
 
     pub owner-bad : (eqb home 0 || leb index home) ≡ true → goodRecord b index ≡ false
     owner-bad t = ownerless-bad b index (λ e. other (sym kind-here ∙ e)) (unowned t)
-
-pub rules-bad : (b : List ℕ) (index : ℕ) {t : Bool} → ownRulesFit b index ≡ t → not t ≡ true → goodRecord b index ≡ false
-rules-bad b index {t} e n = own-bad b index (e ∙ not-true t n)

@@ -1,49 +1,68 @@
--- What is known between two records of the pass: those from `left` on keep their own rules, and as long as the chains lead to each
--- of them, what is due below.
+-- What is known between two records of the pass: those from `left` on and before `broken` keep their own rules; and where the chains
+-- are followed, what is due below.
 use Prim.Native.Nat.{ℕ, _+_, _*_, _≤_, _<_}
 use mathlib.Core.Path.{_≡_, refl, sym, ap, _∙_}
-use mathlib.Core.Bool.{Bool, true, false, _&&_, _||_, false≢true}
+use mathlib.Core.Bool.{Bool, true, false, cond, _&&_, _||_, false≢true}
 use mathlib.Core.List.{List}
 use native.Mathlib.Decide.{decLt}
 use native.Mathlib.Omega.{arith}
 use borrow.Author.Tests.{eqb-true}
 use lib.Dec.{eqb}
 use lib.ListN.{length, getD, set, length-set}
-use Rattle.units.specs.Limits.{mostRecords}
 use Rattle.units.specs.Units.{recordIndex}
 use Rattle.units.proofs.Bools.{and-left, and-right}
 use Rattle.layout.specs.Fields.{recordLength, get, allZero, unnamedOfHead, recordAt, kindField, numberField, nextField, ownerField, userKind}
 use Rattle.layout.proofs.Places.{length-record}
-use Rattle.book.specs.Book.{lengthFits, used, usedFits, firstUser, isUser, ownRulesFit, goodRecord, goodHead}
-use Rattle.book.proofs.Faults.{used-within, used-counted, used-whole}
+use Rattle.book.specs.Book.{used, usedFits, firstUser, isUser, ownRulesFit, goodRecord, goodHead}
+use Rattle.book.proofs.Faults.{used-within, used-whole}
 use Rattle.numbers.specs.Held.{Inserted}
 use Rattle.pass.specs.declared.Passed.{Passed}
-use Rattle.pass.specs.Steps.{UserLeads, EntryLeads, StateAfter, firstMet, brokenAt, Tables, PassedOver}
+use Rattle.pass.specs.Steps.{UserLeads, EntryLeads, StateAfter, lastMet, apartAt, Tables, Resumed, PassedOver}
 use Rattle.pass.proofs.Descended.{Descended, started, user-met, entry-met, descended, searched}
 
-pub record Passing (b : List ℕ) (n records places below left expected found : ℕ) (joined : Bool) (states seen : List ℕ) : Type 0 where
+pub record Passing (b : List ℕ) (n records places left expected found broken : ℕ) (chained : Bool) (states seen : List ℕ) : Type 0 where
   pub states-size : length states ≡ records
   pub seen-size : length seen ≡ places
   pub some : 1 ≤ left
-  pub within : left ≤ below
-  pub reach : below ≤ used b
-  pub own : (i : ℕ) → left ≤ i → i < below → ownRulesFit b i ≡ true
-  pub chains : joined ≡ true → Descended b n left expected found states seen
+  pub within : left ≤ broken
+  pub reach : broken ≤ used b
+  pub all : chained ≡ true → broken ≡ used b
+  pub faulty : broken < used b → goodRecord b broken ≡ false
+  pub own : (i : ℕ) → left ≤ i → i < broken → ownRulesFit b i ≡ true
+  pub chains : chained ≡ true → Descended b n left expected found states seen
 
-pub first : (b : List ℕ) (n : ℕ) → usedFits b ≡ true → {below : ℕ} → 1 ≤ below → below ≤ used b → {states seen : List ℕ} → Tables (used b) below states seen
-    → {records expected : ℕ} → records ≡ used b → expected ≡ firstUser b → Passing b n (length states) (length seen) below below expected 0 (eqb below records) states seen
-first b n u {below} lo hi {states} {seen} t {records} r e =
+-- from the last record, or where the pass is taken up
+pub first : (b : List ℕ) (n : ℕ) (chained : Bool) → usedFits b ≡ true → {states seen : List ℕ} → Tables (used b) chained states seen → {below : ℕ} → (chained ≡ false → Resumed b below)
+    → {records expected left : ℕ} → records ≡ used b → expected ≡ firstUser b → left ≡ cond chained records below
+    → Passing b n (length states) (length seen) left expected 0 records chained states seen
+first b n true u {states} {seen} t {below} taken-up {records} {expected} {left} r e l =
+    let lo = used-within b u .0 in
     record {
       states-size = refl;
       seen-size = refl;
-      some = lo;
-      within = omega arith;
-      reach = hi;
-      own = λ i from to. let z : ⊥ = omega arith in absurd z;
-      chains = λ all. let whole : below ≡ used b = eqb-true below records all ∙ r in started b n states seen (t .unknown whole) whole (used-within b u .0) e;
+      some = omega (arith, r, lo, l);
+      within = omega (arith, l);
+      reach = omega (arith, r);
+      all = λ _. r;
+      faulty = λ under. let z : ⊥ = omega (arith, r, under) in absurd z;
+      own = λ i from to. let z : ⊥ = omega (arith, l) in absurd z;
+      chains = λ on. started b n states seen (t .unknown on) (l ∙ r) lo e;
+    }
+first b n false u {states} {seen} t {below} taken-up {records} {expected} {left} r e l =
+    let up = taken-up refl in
+    record {
+      states-size = refl;
+      seen-size = refl;
+      some = omega (arith, up .from, l);
+      within = omega (arith, up .to, l, r);
+      reach = omega (arith, r);
+      all = λ on. absurd (false≢true on);
+      faulty = λ under. let z : ⊥ = omega (arith, r, under) in absurd z;
+      own = λ i from to. up .own i (omega (arith, l)) (omega (arith, r));
+      chains = λ on. absurd (false≢true on);
     }
 
-module _ (b : List ℕ) {n records places below left expected found : ℕ} {joined : Bool} {states seen : List ℕ} (s : Passing b n records places below left expected found joined states seen) (index : ℕ)
+module _ (b : List ℕ) {n records places left expected found broken : ℕ} {chained : Bool} {states seen : List ℕ} (s : Passing b n records places left expected found broken chained states seen) (index : ℕ)
     (l : left ≡ index + 1) (lo : 1 ≤ index) where
   -- the record at the index is in the book, whole, and has its place in the states
   pub inside : index < used b
@@ -59,44 +78,79 @@ module _ (b : List ℕ) {n records places below left expected found : ℕ} {join
   pub counted : used b ≤ records → index < length states
   counted room = let size = s .states-size in omega (arith, inside)
 
+  -- where the pass is left
+  pub parted : chained ≡ true → {p : Passed} → p ≡ apartAt (recordIndex index) → PassedOver b n chained p
+  parted on e =
+      rw e
+      record {
+        to = omega (arith, inside);
+        ended = λ done. let z : ⊥ = omega (arith, inside, done on) in absurd z;
+        left = λ _ _. record { from = omega arith; to = omega (arith, inside); own = λ i from to. s .own i (omega arith) (omega (arith, s .all on)) };
+        whole = λ t. absurd (false≢true t);
+      }
+
+  -- where it breaks a rule by itself, and the chains are not followed
+  pub broken-here : chained ≡ false → goodRecord b index ≡ false → Passing b n records places index expected found index chained states seen
+  broken-here off bad =
+      record {
+        states-size = s .states-size;
+        seen-size = s .seen-size;
+        some = lo;
+        within = omega arith;
+        reach = omega (arith, inside);
+        all = λ on. absurd (false≢true (sym off ∙ on));
+        faulty = λ _. bad;
+        own = λ i from to. let z : ⊥ = omega arith in absurd z;
+        chains = λ all. absurd (false≢true (sym off ∙ all));
+      }
+
   module _ (own : ownRulesFit b index ≡ true) where
-    own-here : (i : ℕ) → index ≤ i → i < below → ownRulesFit b i ≡ true
+    own-here : (i : ℕ) → index ≤ i → i < broken → ownRulesFit b i ≡ true
     own-here i from to = by-place (decLt index i)
       where
         by-place : Dec (index < i) → ownRulesFit b i ≡ true
         by-place (yes past) = s .own i (omega arith) to
         by-place (no here) = let same : i ≡ index = omega (arith, here) in rw same own
 
-    -- where the chains do not lead to it
-    pub apart : {next found′ : ℕ} {seen′ : List ℕ} → length seen′ ≡ places → Passing b n records places below index next found′ false states seen′
-    apart size =
-        record { states-size = s .states-size; seen-size = size; some = lo; within = omega (arith, s .within); reach = s .reach; own = own-here; chains = λ e. absurd (false≢true e) }
+    -- an entry to which the chains do not lead, where they are not followed
+    pub passed-by : chained ≡ false → Passing b n records places index expected found broken chained states seen
+    passed-by off =
+        record {
+          states-size = s .states-size;
+          seen-size = s .seen-size;
+          some = lo;
+          within = omega (arith, s .within);
+          reach = s .reach;
+          all = s .all;
+          faulty = s .faulty;
+          own = own-here;
+          chains = λ all. absurd (false≢true (sym off ∙ all));
+        }
 
-    module _ (fits : lengthFits b ≡ true) (u : usedFits b ≡ true) (r : List ℕ) (bytes : r ≡ recordAt b index) where
-      most : left ≤ mostRecords
-      most = omega (arith, used-counted b u fits, s .within, s .reach)
-
+    module _ (r : List ℕ) (bytes : r ≡ recordAt b index) where
+      -- a user to which the chains lead, with a new number, or one met where they are not followed
       pub user-passed : {kind : ℕ} → kind ≡ get kindField r → kind ≡ userKind → {number : ℕ} → number ≡ get numberField r → {seen′ : List ℕ} → length seen′ ≡ places
           → {new leads : Bool} → (new ≡ true → Inserted seen number seen′) → (leads ≡ true → UserLeads r index expected (getD states index 0))
-          → {next : ℕ} → next ≡ get nextField r → Passing b n records places below index next (firstMet found index number n) (joined && (new && leads)) states seen′
-      user-passed k user number-is size {new} {leads} ins f next-is =
+          → (chained ≡ true → (new && leads) ≡ true) → {next : ℕ} → next ≡ get nextField r
+          → Passing b n records places index next (lastMet found index number n) broken chained states seen′
+      user-passed k user number-is size {new} {leads} ins f led next-is =
           record {
             states-size = s .states-size;
             seen-size = size;
             some = lo;
             within = omega (arith, s .within);
             reach = s .reach;
+            all = s .all;
+            faulty = s .faulty;
             own = own-here;
             chains =
                 λ all.
-                let now-so = and-right joined (new && leads) all in
-                user-met b (s .chains (and-left joined (new && leads) all)) index l most lo r bytes own (sym k ∙ user) refl (f (and-right new leads now-so)) number-is
-                (ins (and-left new leads now-so)) next-is;
+                user-met b (s .chains all) index l lo r bytes own (sym k ∙ user) refl (f (and-right new leads (led all))) number-is (ins (and-left new leads (led all))) next-is;
           }
 
       pub entry-passed : used b ≤ records → {kind home : ℕ} → kind ≡ get kindField r → (kind ≡ userKind → ⊥) → home ≡ get ownerField r → 1 ≤ home → home < index → (owner : List ℕ)
           → owner ≡ recordAt b home → EntryLeads r owner index (getD states home 0) → {state : ℕ} → StateAfter r state
-          → Passing b n records places below index expected found joined (set states home state) seen
+          → Passing b n records places index expected found broken chained (set states home state) seen
       entry-passed counts {kind} {home} k other h home-lo home-hi owner owner-bytes f {state} after =
           let size = s .states-size in
           let room : home < length states = omega (arith, counted counts) in
@@ -106,35 +160,31 @@ module _ (b : List ℕ) {n records places below left expected found : ℕ} {join
             some = lo;
             within = omega (arith, s .within);
             reach = s .reach;
+            all = s .all;
+            faulty = s .faulty;
             own = own-here;
-            chains = λ all. entry-met b (s .chains all) index l most lo r bytes own k other h home-lo home-hi owner owner-bytes refl f after room;
+            chains = λ all. entry-met b (s .chains all) index l lo r bytes own k other h home-lo home-hi owner owner-bytes refl f after room;
           }
 
 -- what the pass says in the end
-pub passed : (b : List ℕ) {n records places below left expected found : ℕ} {joined : Bool} {states seen : List ℕ} → Passing b n records places below left expected found joined states seen → left ≤ 1
-    → usedFits b ≡ true → goodHead b ≡ true → PassedOver b n below record { broken = recordIndex below; joined = joined && eqb expected 0; user = recordIndex found }
+pub passed : (b : List ℕ) {n records places left expected found broken : ℕ} {chained : Bool} {states seen : List ℕ} → Passing b n records places left expected found broken chained states seen → left ≤ 1
+    → usedFits b ≡ true → goodHead b ≡ true → PassedOver b n chained record { broken = recordIndex broken; joined = chained && eqb expected 0; user = recordIndex found }
 unfolding goodHead
-passed b {n} {below} {left} {expected} {found} {joined} s l u g =
+passed b {n} {left} {expected} {found} {broken} {chained} s l u g =
     record {
-      from = omega (arith, s .some, s .within);
-      to = omega arith;
-      faulty = λ z. let w : ⊥ = omega arith in absurd w;
-      own = λ _ i from to. s .own i (omega arith) to;
+      to = s .reach;
+      ended =
+          λ _.
+          record {
+            from = omega (arith, s .some, s .within);
+            to = s .reach;
+            faulty = s .faulty;
+            own = λ j from to. s .own j (omega arith) to;
+          };
+      left = λ on under. let z : ⊥ = omega (arith, s .all on, under) in absurd z;
       whole =
           λ all.
-          let d = s .chains (and-left joined (eqb expected 0) all) in
+          let d = s .chains (and-left chained (eqb expected 0) all) in
           let rest = and-right (eqb (firstUser b) 0 || isUser b (firstUser b)) (allZero unnamedOfHead (recordAt b 0)) g in
-          (descended b d l (eqb-true expected 0 (and-right joined (eqb expected 0) all)) u rest, ap recordIndex (searched b d l));
-    }
-
--- a record that breaks a rule by itself
-pub at-fault : (b : List ℕ) (n below i : ℕ) → 1 ≤ i → i < below → goodRecord b i ≡ false → {p : Passed} → p ≡ brokenAt (recordIndex i) → PassedOver b n below p
-at-fault b n below i lo hi bad e =
-    rw e
-    record {
-      from = lo;
-      to = omega arith;
-      faulty = λ _. bad;
-      own = λ z. let w : ⊥ = omega arith in absurd w;
-      whole = λ t. absurd (false≢true t);
+          (descended b d l (eqb-true expected 0 (and-right chained (eqb expected 0) all)) u rest, ap recordIndex (searched b d l));
     }

@@ -24,12 +24,12 @@ user-tests r index {expected} {state} {year} {activation} {entry} y a e t =
       opened = sym y ∙ eqb-true year activation (and-right (eqb (entry .0) 0) (eqb year activation) ended) ∙ a;
     }
 
-pub entry-tests : (r owner : List ℕ) (index state : ℕ) {level from home kind ended : ℕ} {entry next : RecordIndex} → level ≡ levelIn r
-    → entry ≡ recordIndex (entryDue owner state) → next ≡ recordIndex (get nextField r) → home ≡ get kindField owner → kind ≡ get kindField r
-    → ended ≡ yearsEnded kind → from ≡ yearDue owner state
+pub entry-tests : (r owner : List ℕ) (index state : ℕ) {level from home ended : ℕ} {entry next : RecordIndex} → level ≡ levelIn r
+    → entry ≡ recordIndex (entryDue owner state) → next ≡ recordIndex (get nextField r) → home ≡ get kindField owner
+    → ended ≡ yearsEnded (get kindField r) → from ≡ yearDue owner state
     → (((eqb (entry .0) index && ltb (next .0) index) && (ltb 0 level && eqb home userKind)) && eqb (level + ended) from) ≡ true
     → EntryLeads r owner index state
-entry-tests r owner index state {level} {from} {home} {kind} {ended} {entry} {next} y e n k q d w t =
+entry-tests r owner index state {level} {from} {home} {ended} {entry} {next} y e n k d w t =
     let leads = eqb (entry .0) index && ltb (next .0) index in
     let dated = ltb 0 level && eqb home userKind in
     let both = and-left (leads && dated) (eqb (level + ended) from) t in
@@ -42,5 +42,5 @@ entry-tests r owner index state {level} {from} {home} {kind} {ended} {entry} {ne
       due = sym (ap (λ (i : RecordIndex). i .0) e) ∙ eqb-true (entry .0) index (and-left (eqb (entry .0) index) (ltb (next .0) index) led);
       next = omega (arith, ap (λ (i : RecordIndex). i .0) n);
       some = omega arith;
-      year = ap₂ (λ (m s : ℕ). m + s) (sym y) (ap yearsEnded (sym q) ∙ sym d) ∙ eqb-true (level + ended) from (and-right (leads && dated) (eqb (level + ended) from) t) ∙ w;
+      year = ap₂ (λ (m s : ℕ). m + s) (sym y) (sym d) ∙ eqb-true (level + ended) from (and-right (leads && dated) (eqb (level + ended) from) t) ∙ w;
     }

@@ -1,7 +1,7 @@
 -- What the pass keeps of each user, and what it tests where it meets a record.
 use Prim.Native.Nat.{ℕ, _+_, _/_, _%_, _≤_, _<_}
 use mathlib.Core.Path.{_≡_}
-use mathlib.Core.Bool.{true, false, cond, _&&_}
+use mathlib.Core.Bool.{Bool, true, false, cond}
 use mathlib.Core.List.{List}
 use lib.Dec.{eqb}
 use lib.ListN.{length, getD}
@@ -44,27 +44,14 @@ pub record StateAfter (r : List ℕ) (state : ℕ) : Type 0 where
   pub year : state % years ≡ levelIn r
 
 -- the record of the user that is looked for, once the record at `index` is met
-unfoldable pub firstMet : ℕ → ℕ → ℕ → ℕ → ℕ
-firstMet found index number wanted = cond (eqb number wanted && eqb found 0) index found
+unfoldable pub lastMet : ℕ → ℕ → ℕ → ℕ → ℕ
+lastMet found index number wanted = cond (eqb number wanted) index found
 
--- what the pass begins with: a state for each record and a table of numbers; and where it begins at u, no state is known
-pub record Tables (records below : ℕ) (states seen : List ℕ) : Type 0 where
+-- what the pass begins with: a state for each record and a table of numbers; and where it follows the chains, no state is known
+pub record Tables (records : ℕ) (chained : Bool) (states seen : List ℕ) : Type 0 where
   pub room : records ≤ length states
-  pub unknown : below ≡ records → (o : ℕ) → getD states o 0 ≡ 0
+  pub unknown : chained ≡ true → (o : ℕ) → getD states o 0 ≡ 0
   pub places : 0 < length seen
-
--- what the pass answers where it meets a record that breaks a rule by itself
-abbrev pub brokenAt : RecordIndex → Passed
-brokenAt i = record { broken = i; joined = false; user = recordIndex 0 }
-
--- What the pass over the records below an index says. Where the chains do not lead to every record, some record is faulty, and the
--- pass does not say which.
-pub record PassedOver (b : List ℕ) (n below : ℕ) (p : Passed) : Type 0 where
-  pub from : 1 ≤ p .broken .0
-  pub to : p .broken .0 ≤ below
-  pub faulty : p .broken .0 < below → goodRecord b (p .broken .0) ≡ false
-  pub own : p .broken .0 ≡ below → (i : ℕ) → 1 ≤ i → i < below → ownRulesFit b i ≡ true
-  pub whole : p .joined ≡ true → (sound b ≡ true) × (p .user ≡ recordIndex (findUser b n))
 
 -- an index below which all records keep their own rules, and whose record is faulty, or u
 pub record Broken (b : List ℕ) (i : ℕ) : Type 0 where
@@ -72,6 +59,24 @@ pub record Broken (b : List ℕ) (i : ℕ) : Type 0 where
   pub to : i ≤ used b
   pub faulty : i < used b → goodRecord b i ≡ false
   pub own : (j : ℕ) → 1 ≤ j → j < i → ownRulesFit b j ≡ true
+
+-- where the pass is taken up: the records from there on keep their own rules
+pub record Resumed (b : List ℕ) (below : ℕ) : Type 0 where
+  pub from : 1 ≤ below
+  pub to : below ≤ used b
+  pub own : (i : ℕ) → below ≤ i → i < used b → ownRulesFit b i ≡ true
+
+-- what the pass answers where it is left at a record
+abbrev pub apartAt : RecordIndex → Passed
+apartAt i = record { broken = i; joined = false; user = recordIndex 0 }
+
+-- What the pass says. Where it follows the chains it comes to its end, or is left at a record, after which all keep their own rules;
+-- and where it is not joined, some record is faulty, and it does not say which.
+pub record PassedOver (b : List ℕ) (n : ℕ) (chained : Bool) (p : Passed) : Type 0 where
+  pub to : p .broken .0 ≤ used b
+  pub ended : (chained ≡ true → p .broken .0 ≡ used b) → Broken b (p .broken .0)
+  pub left : chained ≡ true → p .broken .0 < used b → Resumed b (p .broken .0 + 1)
+  pub whole : p .joined ≡ true → (sound b ≡ true) × (p .user ≡ recordIndex (findUser b n))
 
 -- what the pass over all records says
 pub record PassedThrough (b : List ℕ) (n : ℕ) (p : Passed) : Type 0 where

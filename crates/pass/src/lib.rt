@@ -1,14 +1,15 @@
 // One pass over the records of a book, from the last one down (document 01, "Book"). It tests each record's own rules, tells
 // whether the chains lead to every record, and finds the user with a number on its way.
 ghost use mathlib.Core.Path.{_≡_};
-ghost use mathlib.Core.Bool.{true};
-ghost use Prim.Native.Nat.{_≤_, _<_};
+ghost use mathlib.Core.Bool.{true, false, cond};
+ghost use Prim.Native.Nat.{_<_};
 ghost use lib.ListN.{length};
 ghost use Rattle.units.specs.Units.{recordIndex};
-ghost use Rattle.layout.specs.Fields.{get, nextField};
-ghost use Rattle.book.specs.Book.{lengthFits, used, usedFits, goodHead, levelIn};
-ghost use Rattle.pass.specs.Steps.{years, entryDue, yearDue, UserLeads, EntryLeads, StateAfter, firstMet, brokenAt, Tables, PassedOver, PassedThrough};
+ghost use Rattle.layout.specs.Fields.{get, nextField, kindField};
+ghost use Rattle.book.specs.Book.{lengthFits, used, usedFits, goodHead, levelIn, yearsEnded};
+ghost use Rattle.pass.specs.Steps.{years, entryDue, yearDue, UserLeads, EntryLeads, StateAfter, lastMet, apartAt, Tables, Resumed, PassedOver, PassedThrough};
 use book::MOST_RECORDS;
+use layout::kind::CLOSING;
 use layout::kind::USER;
 use layout::whole_record;
 use numbers::PLACES;
@@ -23,8 +24,9 @@ pub struct Passed {
     pub user: RecordIndex,
 }
 
-fn broken_at(index: RecordIndex) -> Passed
-    ensures { λ p. ⌜ p ≡ brokenAt index ⌝ }
+// The pass is left at a record: the chains do not lead to it, or it breaks a rule by itself. Those after it keep their own rules.
+fn apart(index: RecordIndex) -> Passed
+    ensures { λ p. ⌜ p ≡ apartAt index ⌝ }
 {
     Passed {
         broken: index,
@@ -84,114 +86,149 @@ fn user_leads(r: &[u8], index: RecordIndex, expected: RecordIndex, state: State)
     (expected.0 == index.0) & ended
 }
 
-// An entry is met where its owner's chain leads. Its next is a record still to be met, so that the state has room for it.
-fn entry_leads(r: &[u8], owner: &[u8], index: RecordIndex, state: State, level: u16) -> bool
+// An entry of a level, which ends so many years, is met where its owner's chain leads. Its next is a record still to be met, so
+// that the state has room for it.
+fn level_leads(
+    r: &[u8],
+    owner: &[u8],
+    index: RecordIndex,
+    state: State,
+    level: u16,
+    ended: u32,
+) -> bool
     requires { ⌜ level ≡ levelIn (now r) ⌝ }
+    requires { ⌜ ended ≡ yearsEnded (get kindField (now r)) ⌝ }
     ensures { λ s. ⌜ (s ≡ true → EntryLeads (now (r .entry)) (now (owner .entry)) (index .0) (state .0)) ⌝ }
 {
     let due = entry_due(owner, state).0 == index.0;
     let leads = due & (layout::next_of(r).0 < index.0);
     let dated = (0 < level) & (layout::kind_of(owner) == USER);
-    let ended = book::years_ended(layout::kind_of(r));
     (leads & dated) & (level as u32 + ended == year_due(owner, state) as u32)
 }
 
-// The record of the user that is looked for: the first that is met with the number, as long as none was.
-fn first_met(found: u32, index: RecordIndex, number: UserNumber, wanted: UserNumber) -> u32
-    ensures { λ r. ⌜ r ≡ firstMet found (index .0) (number .0) (wanted .0) ⌝ }
+// By the kind, so that what both ask of it is asked once.
+fn entry_leads(r: &[u8], owner: &[u8], index: RecordIndex, state: State) -> bool
+    ensures { λ s. ⌜ (s ≡ true → EntryLeads (now (r .entry)) (now (owner .entry)) (index .0) (state .0)) ⌝ }
 {
-    if (number.0 == wanted.0) & (found == 0) {
-        index.0
+    if layout::kind_of(r) == CLOSING {
+        level_leads(r, owner, index, state, layout::year_of(r), 1)
     } else {
-        found
+        level_leads(r, owner, index, state, book::level_of(r), 0)
     }
 }
 
-// The records below an index, left at the first that breaks a rule by itself. Of each user the pass keeps its state, and of all the
-// numbers that it has seen. Only from u on it tells whether the chains lead to all records.
+// The record of the user that is looked for: the last that is met with the number. Where the chains lead to all records there is
+// one at most.
+fn last_met(found: u32, index: RecordIndex, number: UserNumber, wanted: UserNumber) -> u32
+    ensures { λ r. ⌜ r ≡ lastMet found (index .0) (number .0) (wanted .0) ⌝ }
+{
+    if number.0 == wanted.0 { index.0 } else { found }
+}
+
+// The chains are followed from the last record.
+fn top(chained: bool, records: u32, below: u32) -> u32
+    ensures { λ r. ⌜ r ≡ cond chained records below ⌝ }
+{
+    if chained { records } else { below }
+}
+
+// The records below an index, or all, by the chains. Of each user the pass keeps its state, and of all the numbers that it has seen.
+// While it follows the chains it is left at the first record that breaks a rule or to which they do not lead; else it goes on to the
+// smallest record that breaks a rule by itself.
 fn pass_over(
     book: &[u8],
     wanted: UserNumber,
     states: &mut [u32],
     seen: &mut [u32],
+    chained: bool,
     below: u32,
 ) -> Passed
     requires { ⌜ lengthFits (now book) ≡ true ⌝ }
     requires { ⌜ usedFits (now book) ≡ true ⌝ }
     requires { ⌜ goodHead (now book) ≡ true ⌝ }
-    requires { ⌜ (1 ≤ below) × (below ≤ used (now book)) ⌝ }
-    requires { ⌜ Tables (used (now book)) below (now states) (now seen) ⌝ }
-    ensures { λ p. ⌜ PassedOver (now (book .entry)) (wanted .0) below p ⌝ }
-    ensures { λ _. ⌜ (length (now (states .exit)) ≡ length (now (states .entry))) × (length (now (seen .exit)) ≡ length (now (seen .entry))) ⌝ }
+    requires { ⌜ Tables (used (now book)) chained (now states) (now seen) ⌝ }
+    requires { ⌜ (chained ≡ false → Resumed (now book) below) ⌝ }
+    ensures said { λ p. ⌜ PassedOver (now (book .entry)) (wanted .0) chained p ⌝ }
+    ensures sizes { λ _. ⌜ (length (now (states .exit)) ≡ length (now (states .entry))) × (length (now (seen .exit)) ≡ length (now (seen .entry))) ⌝ }
 {
-    let mut joined = below == view::used(book);
+    let records = view::used(book);
+    let mut broken = records;
     let mut found: u32 = 0;
     let mut expected = view::first_user(book).0;
-    let mut left = below;
+    let mut left = top(chained, records, below);
     while 1 < left {
         let last = left - 1;
         let index = RecordIndex(last);
         let r = whole_record(book, last as usize);
         if layout::kind_of(r) == USER {
-            if !book::user_record_fits(r) {
-                return broken_at(index);
+            if book::user_record_fits(r) {
+                let state = states[last as usize];
+                let leads = user_leads(r, index, RecordIndex(expected), State(state));
+                let number = layout::number_of(r);
+                let new = numbers::insert(seen, number);
+                if !(new & leads) {
+                    if chained {
+                        return apart(index);
+                    }
+                }
+                found = last_met(found, index, number, wanted);
+                expected = layout::next_of(r).0;
+            } else {
+                if chained {
+                    return apart(index);
+                }
+                broken = last;
             }
-            let number = layout::number_of(r);
-            let new = numbers::insert(seen, number);
-            let state = states[last as usize];
-            let leads = user_leads(r, index, RecordIndex(expected), State(state));
-            joined = joined & (new & leads);
-            found = first_met(found, index, number, wanted);
-            expected = layout::next_of(r).0;
         } else {
             let home = layout::owner_of(r);
             if (home.0 == 0) | (last <= home.0) {
-                return broken_at(index);
-            }
-            let owner = whole_record(book, home.0 as usize);
-            if !book::entry_record_fits(r, owner) {
-                return broken_at(index);
-            }
-            let state = states[home.0 as usize];
-            let level = book::level_of(r);
-            if entry_leads(r, owner, index, State(state), level) {
-                states[home.0 as usize] = state_after(r, level).0;
+                if chained {
+                    return apart(index);
+                }
+                broken = last;
             } else {
-                joined = false;
+                let owner = whole_record(book, home.0 as usize);
+                if book::entry_record_fits(r, owner) {
+                    let state = states[home.0 as usize];
+                    if entry_leads(r, owner, index, State(state)) {
+                        states[home.0 as usize] = state_after(r, book::level_of(r)).0;
+                    } else {
+                        if chained {
+                            return apart(index);
+                        }
+                    }
+                } else {
+                    if chained {
+                        return apart(index);
+                    }
+                    broken = last;
+                }
             }
         }
         left = last;
     }
     Passed {
-        broken: RecordIndex(below),
-        joined: joined & (expected == 0),
+        broken: RecordIndex(broken),
+        joined: chained & (expected == 0),
         user: RecordIndex(found),
     }
 }
 
-// All records: where one breaks a rule by itself, the pass is taken up again below it.
+// By the chains; and where it was left, without them.
 fn pass_through(book: &[u8], wanted: UserNumber, states: &mut [u32], seen: &mut [u32]) -> Passed
     requires { ⌜ lengthFits (now book) ≡ true ⌝ }
     requires { ⌜ usedFits (now book) ≡ true ⌝ }
     requires { ⌜ goodHead (now book) ≡ true ⌝ }
-    requires { ⌜ Tables (used (now book)) (used (now book)) (now states) (now seen) ⌝ }
+    requires { ⌜ Tables (used (now book)) true (now states) (now seen) ⌝ }
     ensures { λ p. ⌜ PassedThrough (now (book .entry)) (wanted .0) p ⌝ }
 {
-    let mut below = view::used(book);
-    let first = pass_over(book, wanted, states, seen, below);
-    let joined = first.joined;
-    let user = first.user;
-    let mut broken = first.broken.0;
-    while broken < below {
-        below = broken;
-        let again = pass_over(book, wanted, states, seen, below);
-        broken = again.broken.0;
+    let records = view::used(book);
+    let first = pass_over(book, wanted, states, seen, true, records);
+    let left = first.broken;
+    if left.0 == records {
+        return first;
     }
-    Passed {
-        broken: RecordIndex(broken),
-        joined,
-        user,
-    }
+    pass_over(book, wanted, states, seen, false, left.0 + 1)
 }
 
 // Tables for the records that the book uses: those for 800 take longer to clear than a small book to pass over.

@@ -1,5 +1,5 @@
 -- The pointers of a record by its two fields are those of the rule, for every target but the head.
-use Prim.Native.Nat.{ℕ, _+_, _*_, _≤_, _<_}
+use Prim.Native.Nat.{ℕ, _+_, _≤_, _<_}
 use mathlib.Core.Path.{_≡_, refl, ap, _∙_}
 use mathlib.Core.Bool.{Bool, true, false, cond, _||_}
 use mathlib.Core.List.{List}
@@ -7,32 +7,16 @@ use native.Mathlib.Omega.{arith}
 use native.Mathlib.Decide.{decLt}
 use borrow.Author.Tests.{ne-eqb, lt-ltb}
 use lib.Dec.{eqb}
-use Rattle.units.specs.declared.RecordIndex.{RecordIndex}
-use Rattle.units.specs.Units.{recordIndex}
 use Rattle.units.specs.Folds.{sumBelow}
-use Rattle.units.proofs.Folds.{sum-step, sum-cong, sum-capped}
+use Rattle.units.proofs.Folds.{sum-cong}
 use Rattle.layout.specs.Fields.{userKind}
 use Rattle.book.specs.Book.{used, firstUser, kindAt, entryKind, nextOf, firstEntryOf, hits, pointersFrom, pointersTo}
 use Rattle.pointers.specs.Pointers.{nextPointer, firstPointer}
-use Rattle.book.proofs.Hits.{hits-other, hits-at-most}
+use Rattle.book.proofs.Hits.{hits-other}
 
 -- how often the two fields of record j lead to record m
 abbrev pub pointed : List ℕ → ℕ → ℕ → ℕ
 pointed b m j = hits (nextPointer b j) m + hits (firstPointer b j) m
-
-pub tally-bound : (b : List ℕ) (m j : ℕ) → sumBelow j (pointed b m) ≤ 2 * j
-tally-bound b m j =
-    sum-capped j 2 (pointed b m) (λ i _. omega (arith, hits-at-most (nextPointer b i) m, hits-at-most (firstPointer b i) m))
-
--- both pointers of record j are counted
-pub tally-next : (b : List ℕ) (m j : ℕ) {next first : RecordIndex} {x y z : ℕ} → next ≡ recordIndex (nextPointer b j)
-    → first ≡ recordIndex (firstPointer b j) → x ≡ sumBelow j (pointed b m) → y ≡ x + hits (next .0) m → z ≡ y + hits (first .0) m
-    → z ≡ sumBelow (j + 1) (pointed b m)
-tally-next b m j n f p q r =
-    let s : sumBelow (j + 1) (pointed b m) ≡ sumBelow j (pointed b m) + pointed b m j = sum-step j (pointed b m) in
-    let hn = ap (λ (k : RecordIndex). hits (k .0) m) n in
-    let hf = ap (λ (k : RecordIndex). hits (k .0) m) f in
-    omega arith
 
 -- the rule's cases, for a target that no null pointer leads to
 by-tests : (head user entry : Bool) (start next first m : ℕ) → hits 0 m ≡ 0

@@ -164,7 +164,9 @@ fn limit_of(table: Rate, net: Rate) -> Rate
 }
 
 // "Tier rate: cogeneration net; renewable up to 20,000 W net + system; above, net + the smaller of system and the limit".
-pub fn tier_rate(plant: u8, power: u32, net: Rate, system: Rate) -> Rate
+// `table` is Table 1 for the plant and its power, which the caller looks up once for all its tiers.
+pub fn tier_rate(plant: u8, power: u32, table: Rate, net: Rate, system: Rate) -> Rate
+    requires { ⌜ table ≡ rate (unitsPerEuroMwh * tableEuroPerMwh plant power) ⌝ }
     requires { ⌜ (net .0 ≤ maxPrice) × (system .0 ≤ maxPrice) ⌝ }
     ensures { λ r. ⌜ r ≡ rate (tierRate plant power (net .0) (system .0)) ⌝ }
     ensures { λ r. ⌜ r .0 ≤ maxTierRate ⌝ }
@@ -175,7 +177,7 @@ pub fn tier_rate(plant: u8, power: u32, net: Rate, system: Rate) -> Rate
     if power <= SMALL_POWER {
         return Rate(net.0 + system.0);
     }
-    let limit = limit_of(table_price(plant, power), net);
+    let limit = limit_of(table, net);
     Rate(net.0 + smaller_rate(system, limit).0)
 }
 

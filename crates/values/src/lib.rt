@@ -4,9 +4,10 @@ ghost use mathlib.Core.List.{[]};
 ghost use Prim.Native.Nat.{ℕ, _+_, _*_, _≤_, _<_, min};
 ghost use lib.Dec.{ltb};
 ghost use lib.ListN.{getD};
-ghost use Rattle.units.specs.Units.{kwh, rate, ticks};
+ghost use Rattle.units.specs.Units.{kwh, rate, ticks, unitsPerEuroMwh};
 ghost use Rattle.units.specs.Limits.{maxKwh, maxPrice, maxTierRate, maxFlatRate};
 ghost use Rattle.units.specs.Folds.{sumBelow, anyBelow};
+ghost use Rattle.tariff.specs.Table1.{tableEuroPerMwh};
 ghost use Rattle.tariff.specs.Tariff.{monthlyThreshold, monthlyTiers, annualTiers, meanRate, flatRateOf};
 ghost use Rattle.sheet.specs.YearSheet.{Passed, monthWithdrawn, word};
 ghost use Rattle.prices.specs.Arrays.{energyAt, rowTotal};
@@ -119,16 +120,17 @@ fn rate_at(s: &[u8], month: usize, place: usize) -> Rate
 }
 
 // The tier rates of a month.
-fn month_rates(s: &[u8], month: usize, plant: u8, power: u32) -> [Rate; 4]
+fn month_rates(s: &[u8], month: usize, plant: u8, power: u32, table: Rate) -> [Rate; 4]
     requires { ⌜ Passed (now s) ⌝ }
     requires { ⌜ month < 12 ⌝ }
+    requires { ⌜ table ≡ rate (unitsPerEuroMwh * tableEuroPerMwh plant power) ⌝ }
     ensures { λ r. ⌜ Rates (monthRate (now (s .entry)) plant power month) r ⌝ }
 {
     let mut rates = [Rate(0); 4];
     for tier in 0..4 {
         let net = rate_at(s, month, 15 + tier);
         let system = rate_at(s, month, 19 + tier);
-        rates[tier] = tariff::tier_rate(plant, power, net, system);
+        rates[tier] = tariff::tier_rate(plant, power, table, net, system);
     }
     rates
 }
@@ -159,16 +161,24 @@ fn mean_over(s: &[u8], place: usize, from: usize, count: usize) -> Rate
 }
 
 // The tier rates of the annual method, "net and system apart".
-fn annual_rates(s: &[u8], from: usize, count: usize, plant: u8, power: u32) -> [Rate; 4]
+fn annual_rates(
+    s: &[u8],
+    from: usize,
+    count: usize,
+    plant: u8,
+    power: u32,
+    table: Rate,
+) -> [Rate; 4]
     requires { ⌜ Passed (now s) ⌝ }
     requires { ⌜ (0 < count) × (from + count ≤ 12) ⌝ }
+    requires { ⌜ table ≡ rate (unitsPerEuroMwh * tableEuroPerMwh plant power) ⌝ }
     ensures { λ r. ⌜ Rates (annualRate (now (s .entry)) plant power from count) r ⌝ }
 {
     let mut rates = [Rate(0); 4];
     for tier in 0..4 {
         let net = mean_over(s, 15 + tier, from, count);
         let system = mean_over(s, 19 + tier, from, count);
-        rates[tier] = tariff::tier_rate(plant, power, net, system);
+        rates[tier] = tariff::tier_rate(plant, power, table, net, system);
     }
     rates
 }
@@ -181,14 +191,16 @@ fn month_flat_rate(
     exchanged: Kwh,
     plant: u8,
     power: u32,
+    table: Rate,
 ) -> Ticks
     requires { ⌜ Passed (now s) ⌝ }
     requires { ⌜ month < 12 ⌝ }
     requires { ⌜ (exchanged .0 ≤ withdrawn .0) × (withdrawn .0 ≤ 3 * maxKwh) ⌝ }
+    requires { ⌜ table ≡ rate (unitsPerEuroMwh * tableEuroPerMwh plant power) ⌝ }
     ensures { λ r. ⌜ (r .0 ≡ flatRateOf (monthlyTiers (withdrawn .0) (exchanged .0)) (monthRate (now (s .entry)) plant power month)) × (r .0 ≤ maxTierRate * exchanged .0) ⌝ }
 {
     let energies = tariff::monthly_tiers(withdrawn, exchanged);
-    tariff::flat_rate_of(energies, month_rates(s, month, plant, power))
+    tariff::flat_rate_of(energies, month_rates(s, month, plant, power, table))
 }
 
 // The flat-rate part of a stretch of months in the annual method.
@@ -201,14 +213,16 @@ fn annual_flat_rate(
     class: u8,
     plant: u8,
     power: u32,
+    table: Rate,
 ) -> Ticks
     requires { ⌜ Passed (now s) ⌝ }
     requires { ⌜ (0 < count) × (from + count ≤ 12) ⌝ }
     requires { ⌜ (exchanged .0 ≤ withdrawn .0) × (withdrawn .0 ≤ 36 * maxKwh) ⌝ }
+    requires { ⌜ table ≡ rate (unitsPerEuroMwh * tableEuroPerMwh plant power) ⌝ }
     ensures { λ r. ⌜ (r .0 ≡ flatRateOf (annualTiers class (withdrawn .0) (exchanged .0)) (annualRate (now (s .entry)) plant power from count)) × (r .0 ≤ maxTierRate * exchanged .0) ⌝ }
 {
     let energies = tariff::annual_tiers(class, withdrawn, exchanged);
-    tariff::flat_rate_of(energies, annual_rates(s, from, count, plant, power))
+    tariff::flat_rate_of(energies, annual_rates(s, from, count, plant, power, table))
 }
 
 // The flat-rate part of a stretch of months in the monthly method.
@@ -220,22 +234,33 @@ fn monthly_flat_rate(
     exchanged: [Kwh; 12],
     plant: u8,
     power: u32,
+    table: Rate,
 ) -> Ticks
     requires { ⌜ Passed (now s) ⌝ }
     requires { ⌜ from + count ≤ 12 ⌝ }
     requires { ⌜ Months (monthWithdrawn (now s)) withdrawn × Months (monthExchanged (now s)) exchanged ⌝ }
+    requires { ⌜ table ≡ rate (unitsPerEuroMwh * tableEuroPerMwh plant power) ⌝ }
     ensures { λ r. ⌜ (r .0 ≡ sumBelow count (λ i. monthFlatRate (now (s .entry)) plant power (from + i))) × (r .0 ≤ maxTierRate * (3 * maxKwh * count)) ⌝ }
 {
     let mut sum: u64 = 0;
     for i in 0..count {
         let month = from + i;
-        let part = month_flat_rate(s, month, withdrawn[month], exchanged[month], plant, power);
+        let part = month_flat_rate(
+            s,
+            month,
+            withdrawn[month],
+            exchanged[month],
+            plant,
+            power,
+            table,
+        );
         sum = sum + part.0;
     }
     Ticks(sum)
 }
 
 // F, the flat-rate part, of a stretch of months for a class, a plant and its power in watts, by the months' energies.
+// Table 1 is looked up here, once for all months and tiers.
 fn flat_rate(
     s: &[u8],
     withdrawn: [Kwh; 12],
@@ -251,6 +276,7 @@ fn flat_rate(
     requires { ⌜ Months (monthWithdrawn (now s)) withdrawn × Months (monthInjected (now s)) injected ⌝ }
     ensures { λ r. ⌜ (r ≡ ticks (flatRateOver (now (s .entry)) from count class plant power)) × (r .0 ≤ maxFlatRate) ⌝ }
 {
+    let table = tariff::table_price(plant, power);
     if tariff::monthly_method(class, some_month_above(withdrawn, from, count)) {
         monthly_flat_rate(
             s,
@@ -260,11 +286,12 @@ fn flat_rate(
             exchanged(withdrawn, injected),
             plant,
             power,
+            table,
         )
     } else {
         let total = energy_over(withdrawn, from, count);
         let shared = units::smaller(total, energy_over(injected, from, count));
-        annual_flat_rate(s, from, count, total, shared, class, plant, power)
+        annual_flat_rate(s, from, count, total, shared, class, plant, power, table)
     }
 }
 

@@ -1,4 +1,4 @@
--- By the years between: few, or more than any amount needs.
+-- Nothing; else by the years between: few, or more than any amount needs.
 use Prim.Native.Nat.{ℕ, _-_, _*_}
 use mathlib.Core.Path.{ap, sym}
 use native.Mathlib.Omega.{arith}
@@ -17,12 +17,17 @@ mul-result c = omega arith
 
 returns : tie.Need-returns
 returns c =
-    ap (λ (y : ℕ). leb (c .before .before .args .amount .0) (maxYearTicks * y)) (c .before .years-between .ensures)
+    let a = c .before .args in
+    sym (le-leb (a .amount .0) (maxYearTicks * (a .to - a .from)) (omega (arith, c .if1 .taken)))
 
 returns-2 : tie.Need-returns-2
 returns-2 c =
-    let a = c .before .before .args in
-    sym (le-leb (a .amount .0) (maxYearTicks * (a .to - a .from)) (omega (arith, c .before .before .good .0 .1)))
+    ap (λ (y : ℕ). leb (c .before .before .before .args .amount .0) (maxYearTicks * y)) (c .before .years-between .ensures)
+
+returns-3 : tie.Need-returns-3
+returns-3 c =
+    let s = c .before .before .before in
+    sym (le-leb (s .args .amount .0) (maxYearTicks * (s .args .to - s .args .from)) (omega (arith, s .good .0 .1)))
 
 pub fits-years-spec : {M : Type 1} → statement M
-fits-years-spec = tie.close (tie.spec years-between-requires mul-result returns returns-2)
+fits-years-spec = tie.close (tie.spec returns years-between-requires mul-result returns-2 returns-3)

@@ -1,9 +1,6 @@
 -- The rule, by whether a run of the later year is made.
-use mathlib.Core.Path.{_≡_}
-use lib.Dec.{eqb}
-use Rattle.accounts.specs.declared.Account.{Account}
-use Rattle.book.specs.Book.{isMade, laterHalf, laterFits}
-use Rattle.book.proofs.Guards.{none-is-zero}
+use Rattle.book.specs.Book.{laterFits}
+use Rattle.book.proofs.Payments.{later-unpaid}
 use borrow.Author.Needs.{needs}
 use Rattle.book.proofs.later_fits.Statement.{statement}
 use Rattle.book.proofs.later_fits.Tie as tie
@@ -20,12 +17,8 @@ add-halves c = search needs
 mul-result : tie.Need-mul-result
 mul-result c = search needs
 
-unpaid : (a : Account) → a .«later_runs» ≡ 0 → eqb (a .«later_advances» .0) 0 ≡ laterFits a
-unfolding isMade laterHalf laterFits
-unpaid a e = rw e (none-is-zero (a .«later_advances» .0))
-
 returns : tie.Need-returns
-returns c = unpaid (c .before .before .before .args .a) (c .before .if1 .taken)
+returns c = later-unpaid (c .before .before .before .args .a) (c .before .if1 .taken)
 
 returns-2 : tie.Need-returns-2
 unfolding laterFits

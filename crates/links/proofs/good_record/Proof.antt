@@ -15,12 +15,12 @@ unfolding goodRecord pointedOnce
 of-tests b i o l p = rw (o, l, p)
 
 links-fit-requires : tie.Need-links-fit-requires
-links-fit-requires c κs = c .before .pre .1 .0
+links-fit-requires c κs = let p = c .before .pre in (p .1 .0, p .1 .1 .1)
 
 returns : tie.Need-returns
 returns c =
     let s = c .before .before in
-    of-tests (now (s .args .book)) (s .args .index .0) (s .pre .1 .1) (c .links-fit .ensures) (s .pre .0)
+    of-tests (now (s .args .book)) (s .args .index .0) (s .pre .1 .1 .0) (c .links-fit .ensures) (s .pre .0)
 
 pub good-record-spec : {M : Type 1} → statement M
 good-record-spec = tie.close (tie.spec links-fit-requires returns)

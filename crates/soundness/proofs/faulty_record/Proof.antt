@@ -38,12 +38,12 @@ abbrev μ-users : tie.MeasureT-users
 counts-requires : tie.Need-counts-requires Inv-entries μ-entries Inv-users μ-users
 counts-requires c κs =
     let s = c .before in
-    used-counted (now (s .args .book)) (s .pre .1 .0) (s .pre .0)
+    (used-counted (now (s .args .book)) (s .pre .1 .0) (s .pre .0), s .pre .1 .0)
 
 by-owner-requires : tie.Need-by-owner-requires Inv-entries μ-entries Inv-users μ-users
 by-owner-requires c κs =
     let s = c .before .before in
-    used-counted (now (s .args .book)) (s .pre .1 .0) (s .pre .0)
+    (used-counted (now (s .args .book)) (s .pre .1 .0) (s .pre .0), s .pre .1 .0)
 
 used-requires : tie.Need-used-requires Inv-entries μ-entries Inv-users μ-users
 used-requires c κs = search needs
@@ -113,7 +113,7 @@ good-record-requires c κs =
     let s = a .before .before .before .before .before in
     let i = a .users .i in
     let own = s .pre .1 .1 .own i (a .users .inv .0 .0) (omega (arith, under n, a .users .inv .0 .1 .1)) in
-    (a .before .before .before .counts .ensures i (a .users .inv .0 .0) (place (n .before) .1), (λ _. c .is-new .ensures, own))
+    (a .before .before .before .counts .ensures i (a .users .inv .0 .0) (place (n .before) .1), (λ _. c .is-new .ensures, (own, (s .pre .1 .0, place (n .before) .0))))
 
 cast-e : tie.Need-cast-e Inv-entries μ-entries Inv-users μ-users
 cast-e c = search needs
@@ -168,7 +168,7 @@ good-record-requires-2 c κs =
     let test = e-some e (l .entries .bad) (c .entries-test .taken) in
     let own = s .pre .1 .1 .own e (at .0 .0) (omega (arith, test .1, l .entries .inv .0, a .users .inv .0 .1 .1)) in
     let entry = entry-here b (a .users .bad) (a .users .i) e (l .entries .inv .1) (test .0) in
-    (a .before .before .before .counts .ensures e (at .0 .0) (at .1), (λ user. absurd (entry-no-user b e entry user), own))
+    (a .before .before .before .counts .ensures e (at .0 .0) (at .1), (λ user. absurd (entry-no-user b e entry user), (own, (s .pre .1 .0, at .0 .1))))
 
 cast-e-2 : tie.Need-cast-e-2 Inv-entries μ-entries Inv-users μ-users
 cast-e-2 c = let p = entry-there (c .before .before) in search needs

@@ -10,16 +10,13 @@ use Rattle.tariff.proofs.tier_rate.Tie as tie
 returns : tie.Need-returns
 returns c = (ap rate (sym (rate-of-cogeneration _ _ _ (c .if1 .taken))), omega arith)
 
-add-t7 : tie.Need-add-t7
-add-t7 c = search needs
+add-t8 : tie.Need-add-t8
+add-t8 c = search needs
 
 returns-2 : tie.Need-returns-2
 returns-2 c =
     let large = c .before .before in
     (ap rate (sym (rate-of-small _ _ (large .before .if1 .left) (large .if2 .taken))), omega arith)
-
-table-price-requires : tie.Need-table-price-requires
-table-price-requires c κs = search needs
 
 limit-of-requires : tie.Need-limit-of-requires
 limit-of-requires c κs = search needs
@@ -27,14 +24,14 @@ limit-of-requires c κs = search needs
 smaller-rate-requires : tie.Need-smaller-rate-requires
 smaller-rate-requires c κs = search needs
 
-add-t9 : tie.Need-add-t9
-add-t9 c = omega arith
+add-t10 : tie.Need-add-t10
+add-t10 c = omega arith
 
 returns-3 : tie.Need-returns-3
 returns-3 c =
     let called = c .before .before in
-    let large = called .before .before .before in
-    let table = ap (λ r. r .0) (called .before .before .table-price .ensures) in
+    let large = called .before .before in
+    let table = ap (λ r. r .0) (large .before .before .pre .0) in
     let cap = called .before .limit-of .ensures in
     let exact = rate-of-large _ _ (large .before .if1 .left) (large .if2 .left) table cap (called .smaller-rate .ensures) in
     (ap rate (sym exact), omega (arith, called .smaller-rate .ensures))
@@ -44,10 +41,9 @@ tier-rate-spec =
     tie.close
     (tie.spec
     returns
-    add-t7
+    add-t8
     returns-2
-    table-price-requires
     limit-of-requires
     smaller-rate-requires
-    add-t9
+    add-t10
     returns-3)

@@ -15,11 +15,11 @@ use Rattle.values.proofs.annual_rates.Statement.{statement}
 use Rattle.values.proofs.annual_rates.Tie as tie
 
 abbrev Inv-loop : tie.InvT-loop
-Inv-loop s from count plant power rates₀ tier₀ rates tier =
+Inv-loop s from count plant power table rates₀ tier₀ rates tier =
     (tier ≤ 4) × ((length rates ≡ 4) × Filled (rate 0) (λ t. rate (annualRate s plant power from count t)) tier rates)
 
 abbrev μ-loop : tie.MeasureT-loop
-μ-loop s from count plant power rates₀ tier₀ rates tier = 4 - tier
+μ-loop s from count plant power table rates₀ tier₀ rates tier = 4 - tier
 
 loop-holds : tie.Need-loop-holds Inv-loop μ-loop
 loop-holds c = (search needs, (refl, λ m l. absurd (not-suc-le-zero l)))

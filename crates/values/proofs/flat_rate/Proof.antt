@@ -14,6 +14,9 @@ use borrow.Author.Needs.{needs}
 use Rattle.values.proofs.flat_rate.Statement.{statement}
 use Rattle.values.proofs.flat_rate.Tie as tie
 
+table-price-requires : tie.Need-table-price-requires
+table-price-requires c κs = search needs
+
 some-month-above-requires : tie.Need-some-month-above-requires
 some-month-above-requires c κs = search needs
 
@@ -25,19 +28,22 @@ exchanged-requires c κs = search needs
 
 monthly-flat-rate-requires : tie.Need-monthly-flat-rate-requires
 monthly-flat-rate-requires c κs =
-    let start = c .before .before .before .before .before in
+    let start = c .before .before .before .before .before .before in
     let s = now (start .args .s) in
-    (start .pre .0, (search needs, (start .pre .1 .1 .0, exchanged-months s (start .args .withdrawn) (start .args .injected) (c .exchanged .result) (start .pre .1 .1 .0) (start .pre .1 .1 .1) (c .exchanged .ensures))))
+    let table = c .before .before .before .before .table-price .ensures in
+    let months = start .pre .1 .1 in
+    let shared = exchanged-months s (start .args .withdrawn) (start .args .injected) (c .exchanged .result) (months .0) (months .1) (c .exchanged .ensures) in
+    (start .pre .0, (search needs, ((months .0, shared), table)))
 
 energy-over-requires : tie.Need-energy-over-requires
 energy-over-requires c κs =
-    let start = c .before .before .before .before in
+    let start = c .before .before .before .before .before in
     let s = now (start .args .s) in
     (search needs, months-capped (monthWithdrawn s) (start .args .withdrawn) (3 * maxKwh) (start .pre .1 .1 .0) (sheets-bounded s (start .pre .0 .past13) .month-withdrawn))
 
 energy-over-requires-2 : tie.Need-energy-over-requires-2
 energy-over-requires-2 c κs =
-    let start = c .before .before .before .before .before in
+    let start = c .before .before .before .before .before .before in
     let s = now (start .args .s) in
     (search needs, months-capped (monthInjected s) (start .args .injected) (3 * maxKwh) (start .pre .1 .1 .1) (sheets-bounded s (start .pre .0 .past13) .month-injected))
 
@@ -46,13 +52,14 @@ smaller-requires c κs = search needs
 
 annual-flat-rate-requires : tie.Need-annual-flat-rate-requires
 annual-flat-rate-requires c κs =
-    let start = c .before .before .before .before .before .before .before in
+    let start = c .before .before .before .before .before .before .before .before in
     let shared = c .smaller .ensures in
-    (start .pre .0, (start .pre .1 .0, (omega arith, omega (arith, c .before .before .energy-over .ensures .1))))
+    let table = c .before .before .before .before .before .before .table-price .ensures in
+    (start .pre .0, (start .pre .1 .0, ((omega arith, omega (arith, c .before .before .energy-over .ensures .1)), table)))
 
 returns : tie.Need-returns
 returns c =
-    let start = c .before .before .before .before .before .before in
+    let start = c .before .before .before .before .before .before .before in
     let a = start .args in
     let s = now (a .s) in
     let above = c .before .before .before .before .some-month-above in
@@ -62,7 +69,7 @@ returns c =
 
 returns-2 : tie.Need-returns-2
 returns-2 c =
-    let start = c .before .before .before .before .before .before .before .before in
+    let start = c .before .before .before .before .before .before .before .before .before in
     let a = start .args in
     let s = now (a .s) in
     let above = c .before .before .before .before .before .before .some-month-above in
@@ -77,6 +84,7 @@ pub flat-rate-spec : {M : Type 1} → statement M
 flat-rate-spec =
     tie.close
     (tie.spec
+    table-price-requires
     some-month-above-requires
     monthly-method-requires
     exchanged-requires

@@ -16,11 +16,11 @@ use Rattle.values.proofs.monthly_flat_rate.Statement.{statement}
 use Rattle.values.proofs.monthly_flat_rate.Tie as tie
 
 abbrev Inv-loop : tie.InvT-loop
-Inv-loop s from count plant power withdrawn exchanged sum₀ i₀ sum i =
+Inv-loop s from count plant power withdrawn exchanged table sum₀ i₀ sum i =
     (i ≤ count) × ((sum ≤ maxTierRate * (3 * maxKwh * i)) × (sum ≡ sumBelow i (λ j. monthFlatRate s plant power (from + j))))
 
 abbrev μ-loop : tie.MeasureT-loop
-μ-loop s from count plant power withdrawn exchanged sum₀ i₀ sum i = count - i
+μ-loop s from count plant power withdrawn exchanged table sum₀ i₀ sum i = count - i
 
 loop-holds : tie.Need-loop-holds Inv-loop μ-loop
 loop-holds c = (search needs, (search needs, sym (sum-zero (λ j. monthFlatRate (now (c .before .args .s)) (c .before .args .plant) (c .before .args .power) (c .before .args .from + j)))))
@@ -47,8 +47,10 @@ month-flat-rate-requires c κs =
     let m = a .from + c .before .before .before .loop .i in
     let inside : m < 12 = omega arith in
     let s = now (a .s) in
-    let months = start .pre .1 .1 in
-    (start .pre .0, (inside, (rw (months .0 m inside, months .1 m inside) (exchanged-within s m), months-capped (monthWithdrawn s) (a .t4) (3 * maxKwh) (months .0) (sheets-bounded s (start .pre .0 .past13) .month-withdrawn) m inside)))
+    let months = start .pre .1 .1 .0 in
+    let bounded = sheets-bounded s (start .pre .0 .past13) .month-withdrawn in
+    let capped = months-capped (monthWithdrawn s) (a .t4) (3 * maxKwh) (months .0) bounded m inside in
+    (start .pre .0, (inside, ((rw (months .0 m inside, months .1 m inside) (exchanged-within s m), capped), start .pre .1 .1 .1)))
 
 -- a month's part is at most the limit of a rate for each kWh of a month
 within : (c : tie.After-struct-known Inv-loop μ-loop) → c .before .month-flat-rate .result .0 ≤ maxTierRate * (3 * maxKwh)
@@ -58,7 +60,7 @@ within c =
     let m = a .from + c .before .before .before .before .before .loop .i in
     let inside : m < 12 = omega arith in
     let s = now (a .s) in
-    let months = start .pre .1 .1 in
+    let months = start .pre .1 .1 .0 in
     let w = sheets-bounded s (start .pre .0 .past13) .month-withdrawn m inside in
     let e = exchanged-within s m in
     let held = ap (λ (k : Kwh). k .0) (months .1 m inside) in
@@ -81,7 +83,7 @@ loop-again c =
     let m = a .from + l .i in
     let inside : m < 12 = omega arith in
     let s = now (a .s) in
-    let months = start .pre .1 .1 in
+    let months = start .pre .1 .1 .0 in
     let part = c .before .month-flat-rate .ensures in
     let small = within c in
     (search needs, (omega arith, sum-next (l .i) (λ j. monthFlatRate s (a .plant) (a .power) (a .from + j)) (l .inv .1 .1) (month-flat s (a .t4) (a .t5) (a .plant) (a .power) m (c .before .month-flat-rate .result .0) inside (months .0) (months .1) (part .0))))
