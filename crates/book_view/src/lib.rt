@@ -38,7 +38,7 @@ pub fn used_fits(book: &[u8]) -> bool
 
 // WHAT A RECORD IS
 
-pub fn kind_at(book: &[u8], index: RecordIndex) -> u8
+fn kind_at(book: &[u8], index: RecordIndex) -> u8
     ensures { λ r. ⌜ r ≡ kindAt (now (book .entry)) (index .0) ⌝ }
 {
     book_layout::kind_of(record(book, index))

@@ -18,7 +18,6 @@ use book_view::is_advance;
 use book_view::is_closing;
 use book_view::is_entry;
 use book_view::is_user;
-use book_view::kind_at;
 use book_view::level_of;
 use book_view::next_of;
 use book_view::number_of;
@@ -160,7 +159,7 @@ fn links_fit(book: &[u8], index: RecordIndex, new: bool) -> bool
     requires { ⌜ index .0 < used (now book) ⌝ }
     ensures { λ r. ⌜ r ≡ linksFit (now (book .entry)) (index .0) ⌝ }
 {
-    if kind_at(book, index) == USER {
+    if book_layout::kind_of(whole_record(book, index.0 as usize)) == USER {
         let user = user_next_fits(book, index) & new;
         user & (first_entry_fits(book, index) & first_in_order(book, index))
     } else {
