@@ -8,7 +8,7 @@ use lib.ListN.{length}
 use Rattle.io.specs.Digits.{digits}
 use Rattle.decimals.specs.Decimals.{decimal}
 use Rattle.decimals.proofs.Written.{decimal-short}
-use Rattle.output.specs.Rows.{joined, blanks}
+use Rattle.output.specs.InnerRows.{joined, blanks}
 use Rattle.output.proofs.Joins.{joined-on}
 use Rattle.account.specs.Amounts.{ticksPerEuro, blanksBefore, AmountJoined}
 

@@ -6,20 +6,20 @@ use mathlib.Core.List.{List}
 use native.Mathlib.Omega.{arith}
 use Rattle.units.specs.declared.RecordIndex.{RecordIndex}
 use Rattle.units.specs.Units.{recordIndex}
-use Rattle.records.specs.Records.{accountIn}
-use Rattle.book.specs.Book.{isUser, activationOf, openYearOf}
-use Rattle.book.proofs.Faultless.{Faultless, sound-faultless}
-use Rattle.soundness.specs.Verdicts.{Accepted}
+use Rattle.book_records.specs.Records.{accountIn}
+use Rattle.book_rules.specs.Book.{isUser, activationOf, openYearOf}
+use Rattle.book_rules.proofs.Faultless.{Faultless, sound-faultless}
+use Rattle.check_book.specs.Verdicts.{Accepted}
 use Rattle.chains.specs.Statements.{statementAt}
 use Rattle.chains.proofs.Ranges.{user-years}
 use Rattle.chains.proofs.Fit.{sums-small}
-use Rattle.book.specs.Find.{findUser}
-use Rattle.bookings.proofs.Numbers.{found}
+use Rattle.book_rules.specs.Find.{findUser}
+use Rattle.call_keeps.proofs.Numbers.{found}
 use Rattle.statements.specs.declared.Sums.{Sums}
-use Rattle.statements.specs.Walk.{sumsOf}
+use Rattle.statements.specs.InnerWalk.{sumsOf}
 use Rattle.units.specs.Limits.{mostYears, lastOpenYear}
-use Rattle.conservation.specs.Conservation.{Small}
-use Rattle.conservation.proofs.Sizes.{small-sums}
+use Rattle.account_conserved.specs.Conservation.{Small}
+use Rattle.account_conserved.proofs.Sizes.{small-sums}
 
 module _ (b : List ℕ) (a : Accepted b) (i : ℕ) (user : isUser b i ≡ true) where
   faultless : Faultless b

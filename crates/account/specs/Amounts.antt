@@ -7,7 +7,7 @@ use lib.Dec.{ltb}
 use lib.ListN.{length}
 use Rattle.io.specs.Digits.{digits}
 use Rattle.decimals.specs.Decimals.{decimal}
-use Rattle.output.specs.Rows.{joined, blanks}
+use Rattle.output.specs.InnerRows.{joined, blanks}
 
 -- the width of a column, and ticks to the euro
 abbrev pub columnWidth : ℕ

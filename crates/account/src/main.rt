@@ -1,10 +1,10 @@
 // A user's account for a clerk: a book on standard input, a user number as the argument. It prints
 // the account year by year, oldest first, then the totals of the statement and the conserved sum, in euro.
-use accounts::Balance;
-use history::Year;
+use account_steps::Balance;
+use account_years::Year;
+use check_book::Verdict;
 use input::Input;
 use output::Row;
-use soundness::Verdict;
 use statements::Sums;
 use text::Number;
 use units::RecordIndex;
@@ -14,11 +14,11 @@ ghost use mathlib.Core.Path.{_≡_};
 ghost use mathlib.Core.Bool.{true};
 ghost use Prim.Native.Nat.{_+_};
 ghost use Rattle.io.specs.Digits.{digits};
-ghost use Rattle.output.specs.Rows.{textOf, joined};
+ghost use Rattle.output.specs.InnerRows.{textOf, joined};
 ghost use Rattle.account.specs.Amounts.{blanksBefore, AmountJoined};
-ghost use Rattle.book.specs.Book.{isUser};
-ghost use Rattle.soundness.specs.Verdicts.{Accepted};
-ghost use Rattle.conservation.specs.Conservation.{Small};
+ghost use Rattle.book_rules.specs.Book.{isUser};
+ghost use Rattle.check_book.specs.Verdicts.{Accepted};
+ghost use Rattle.account_conserved.specs.Conservation.{Small};
 
 // "user number (not 0)", and what it may be at most.
 const MOST: u64 = 4_294_967_295;
@@ -93,7 +93,7 @@ fn put_paid(row: Row, paid: Ticks) -> Row {
 }
 
 fn put_balance(row: Row, balance: Balance) -> Row {
-    if accounts::signed(balance) < 0 {
+    if account_steps::signed(balance) < 0 {
         put_amount(row, b"-", std::num::wrapping_sub_u64(0, balance.0))
     } else {
         put_amount(row, b"", balance.0)
@@ -143,10 +143,10 @@ fn say_years(book: &[u8], user: RecordIndex) -> bool
     requires { ⌜ Accepted (now book) ⌝ }
     requires { ⌜ isUser (now book) (user .0) ≡ true ⌝ }
 {
-    let activation = view::activation_of(book, user);
-    let open = view::open_year_of(book, user);
+    let activation = book_view::activation_of(book, user);
+    let open = book_view::open_year_of(book, user);
     for n in 0..open - activation {
-        if !say_year(history::year_of(book, user, n)) {
+        if !say_year(account_years::year_of(book, user, n)) {
             return false;
         }
     }
@@ -181,12 +181,12 @@ fn say_open_years(book: &[u8], user: RecordIndex) -> bool
     requires { ⌜ Accepted (now book) ⌝ }
     requires { ⌜ isUser (now book) (user .0) ≡ true ⌝ }
 {
-    let open = view::open_year_of(book, user);
-    if !say_advances_of(open, history::advances_of(book, user, open)) {
+    let open = book_view::open_year_of(book, user);
+    if !say_advances_of(open, account_years::advances_of(book, user, open)) {
         return false;
     }
     let later = open + 1;
-    say_advances_of(later, history::advances_of(book, user, later))
+    say_advances_of(later, account_years::advances_of(book, user, later))
 }
 
 fn say_advances(advances: Ticks) -> bool {
@@ -210,10 +210,10 @@ fn say_rest(sums: Sums) -> bool
     if !say_advances(sums.advances) {
         return false;
     }
-    if !say_conserved(conservation::conserved_sum(sums)) {
+    if !say_conserved(account_conserved::conserved_sum(sums)) {
         return false;
     }
-    if conservation::is_conserved(sums) {
+    if account_conserved::is_conserved(sums) {
         return say_text(b"The sum holds: it is the value of the injected energy.");
     }
     say_text(b"The sum does not hold: it is not the value of the injected energy.")
@@ -254,7 +254,7 @@ fn answer_sound(book: &[u8], user: RecordIndex) -> bool
 }
 
 fn answer(book: &[u8], number: UserNumber) -> bool {
-    match soundness::find(book, number) {
+    match check_book::find(book, number) {
         Verdict::Length => say_text(b"refused 1"),
         Verdict::Faulty(_) => say_text(b"refused 2"),
         Verdict::Sound(user) => answer_sound(book, user),

@@ -10,19 +10,19 @@ use Rattle.units.specs.Units.{recordIndex}
 use Rattle.sheet.specs.declared.Position.{Position}
 use Rattle.sheet.specs.YearSheet.{sheetUser, refused11, refused13, refused19, nowhere, Tells, Passed}
 use Rattle.sheet.proofs.Faults.{untold-before}
-use Rattle.accounts.specs.declared.Account.{Account}
-use Rattle.book.specs.Book.{accountAt}
-use Rattle.book.specs.Find.{findUser}
-use Rattle.soundness.specs.Verdicts.{Accepted}
-use Rattle.calls.specs.Rules.{refusedBy, testOf}
-use Rattle.calls.specs.Refusals.{lookAt}
-use Rattle.calls.specs.Calls.{recordNamed}
-use Rattle.calls.proofs.Rules.{passes}
-use Rattle.answers.specs.declared.Reply.{Reply}
-use Rattle.answers.specs.Answers.{AnsweredBy}
-use Rattle.answers.specs.Looks.{LookedAt}
-use Rattle.answers.specs.Replies.{refusedWith}
-use Rattle.answers.proofs.Answers.{refused-after, past-look, refuses}
+use Rattle.account_steps.specs.declared.Account.{Account}
+use Rattle.book_rules.specs.Book.{accountAt}
+use Rattle.book_rules.specs.Find.{findUser}
+use Rattle.check_book.specs.Verdicts.{Accepted}
+use Rattle.call_rules.specs.Rules.{refusedBy, testOf}
+use Rattle.call_rules.specs.Refusals.{lookAt}
+use Rattle.call_rules.specs.Calls.{recordNamed}
+use Rattle.call_rules.proofs.Rules.{passes}
+use Rattle.call_answers.specs.declared.Reply.{Reply}
+use Rattle.call_answers.specs.Answers.{AnsweredBy}
+use Rattle.call_answers.specs.InnerLooks.{LookedAt}
+use Rattle.call_answers.specs.Replies.{refusedWith}
+use Rattle.call_answers.proofs.Answers.{refused-after, past-look, refuses}
 use Rattle.sheet_more_sun.specs.declared.Addition.{Addition}
 use Rattle.sheet_more_sun.specs.MoreSun.{moreSun}
 use Rattle.call_more_sun.specs.declared.MoreSun.{MoreSun}

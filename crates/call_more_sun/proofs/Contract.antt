@@ -2,7 +2,7 @@
 use mathlib.Core.Path.{_≡_}
 use denote.Ref.{now}
 use Rattle.sheet.specs.YearSheet.{Tells}
-use Rattle.answers.specs.Answers.{AnsweredBy}
+use Rattle.call_answers.specs.Answers.{AnsweredBy}
 use Rattle.call_more_sun.specs.Asked.{moreSunOrder, additionAnswered}
 use Rattle.call_more_sun.proofs.more_sun.Reads as reads
 

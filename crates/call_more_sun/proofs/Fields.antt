@@ -11,7 +11,7 @@ use Rattle.sheet.specs.declared.Objection.{Objection}
 use Rattle.sheet.specs.YearSheet.{injectedReading, byBands, refused13, refused19, Tells}
 use Rattle.sheet.specs.Objections.{objectionOf, FaultTold}
 use Rattle.sheet.proofs.Faults.{told-past, untold}
-use Rattle.calls.specs.Rules.{refusedBy}
+use Rattle.call_rules.specs.Rules.{refusedBy}
 use Rattle.sheet_more_sun.specs.MoreSun.{FieldStands}
 use Rattle.call_more_sun.specs.Asked.{hasField, fieldRules}
 

@@ -3,8 +3,8 @@ use Prim.Native.Nat.{ℕ}
 use mathlib.Core.Path.{_≡_, refl}
 use mathlib.Core.Bool.{true}
 use mathlib.Core.List.{List, [], _∷_}
-use Rattle.calls.specs.Rules.{numbersOf, without}
-use Rattle.calls.specs.Refusals.{Look}
+use Rattle.call_rules.specs.Rules.{numbersOf, without}
+use Rattle.call_rules.specs.Refusals.{Look}
 use Rattle.call_more_sun.specs.Asked.{fieldRules, moreSunRules, moreSunOrder}
 
 pub more-sun-order : (b s : List ℕ) (month band : ℕ) → numbersOf (moreSunOrder b s month band) ≡ 1 ∷ 2 ∷ 11 ∷ 6 ∷ 13 ∷ 19 ∷ 23 ∷ []

@@ -1,6 +1,6 @@
 -- An answer beside a refusal: for the contracts of the inner functions alone.
 use Rattle.sheet.specs.declared.Position.{Position}
-use Rattle.answers.specs.declared.Reply.{Reply}
+use Rattle.call_answers.specs.declared.Reply.{Reply}
 use Rattle.sheet_more_sun.specs.declared.Addition.the-variants as addition
 use Rattle.call_more_sun.specs.declared.MoreSun.{MoreSun}
 

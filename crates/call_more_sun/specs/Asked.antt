@@ -5,9 +5,9 @@ use mathlib.Core.Bool.{Bool, not, _&&_, _||_}
 use mathlib.Core.List.{List, [], _∷_}
 use lib.Dec.{leb, eqb}
 use Rattle.sheet.specs.YearSheet.{sheetUser, injectedReading, byBands, refused11, refused13, refused19}
-use Rattle.book.specs.Book.{lengthFits, sound}
-use Rattle.calls.specs.Rules.{Rule, _unless_}
-use Rattle.calls.specs.Refusals.{Look, lookAt, present, userAt}
+use Rattle.book_rules.specs.Book.{lengthFits, sound}
+use Rattle.call_rules.specs.Rules.{Rule, _unless_}
+use Rattle.call_rules.specs.Refusals.{Look, lookAt, present, userAt}
 use Rattle.sheet_more_sun.specs.declared.Addition.{Addition}
 use Rattle.sheet_more_sun.specs.declared.Addition.the-variants as addition
 use Rattle.sheet_more_sun.specs.MoreSun.{pick, moreSun}

@@ -3,11 +3,11 @@
 ghost use mathlib.Core.Path.{_≡_};
 ghost use lib.ListN.{length};
 ghost use Rattle.sheet.specs.YearSheet.{sheetLength, Tells};
-ghost use Rattle.calls.specs.Rules.{refusedBy};
-ghost use Rattle.answers.specs.Answers.{AnsweredBy};
+ghost use Rattle.call_rules.specs.Rules.{refusedBy};
+ghost use Rattle.call_answers.specs.Answers.{AnsweredBy};
 ghost use Rattle.call_more_sun.specs.Asked.{hasField, fieldRules, moreSunOrder, additionAnswered};
 ghost use Rattle.call_more_sun.specs.Answers.{refusedSun};
-use answers::Reply;
+use call_answers::Reply;
 use sheet::NOWHERE;
 use sheet::Objection;
 use sheet::Position;
@@ -35,7 +35,7 @@ fn field_objection(s: &[u8], month: u32, band: u32) -> Objection
     ensures { λ r. ⌜ r .refusal ≡ refusedBy (fieldRules (now (s .entry)) month band) ⌝ }
     ensures { λ r. ⌜ Tells (now (s .entry)) (r .refusal) (r .position) ⌝ }
 {
-    let fault = refusals::sheet_fault(s);
+    let fault = call_refusals::sheet_fault(s);
     if has_field(s, month, band) {
         return fault;
     }
@@ -61,23 +61,23 @@ pub fn more_sun(book: &[u8], s: &[u8], month: u32, band: u32) -> MoreSun
     ensures { λ r. ⌜ Tells (now (s .entry)) (r .reply .refusal) (r .position) ⌝ }
     ensures { λ r. ⌜ r .addition ≡ additionAnswered (now (book .entry)) (now (s .entry)) month band (r .reply .refusal) ⌝ }
 {
-    let looked = answers::look(book, sheet::user(s));
+    let looked = call_answers::look(book, sheet::user(s));
     let reply = looked.reply;
     if reply.refusal != 0 {
         return nothing_added(reply, NOWHERE);
     }
     if sheet::header_wrong(s) {
-        return nothing_added(answers::refused(11), NOWHERE);
+        return nothing_added(call_answers::refused(11), NOWHERE);
     }
     let user = looked.user;
     if user.0 == 0 {
-        return nothing_added(answers::refused(6), NOWHERE);
+        return nothing_added(call_answers::refused(6), NOWHERE);
     }
     let objection = field_objection(s, month, band);
     if objection.refusal != 0 {
-        return nothing_added(answers::refused(objection.refusal), objection.position);
+        return nothing_added(call_answers::refused(objection.refusal), objection.position);
     }
-    let account = view::account_at(book, user);
+    let account = book_view::account_at(book, user);
     let addition = sheet_more_sun::more_sun(
         s,
         account.details,

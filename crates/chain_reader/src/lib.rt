@@ -1,7 +1,7 @@
 // The chain reader: a struct that holds the book's slice and the current index (document 01, "Book": chains run by a next
 // index, and zero ends the chain). The functions over it are few and thin: the work is done on the plain slice and the index.
 ghost use mathlib.Core.Path.{_≡_};
-ghost use Rattle.chain_reader.specs.Link.{linkIn, linkAt};
+ghost use Rattle.chain_reader.specs.InnerLink.{linkIn, linkAt};
 use units::RecordIndex;
 
 // A place on a chain of a book.
@@ -19,8 +19,8 @@ pub struct Link {
 fn link_in(r: &[u8]) -> Link
     ensures { λ l. ⌜ l ≡ linkIn (now (r .entry)) ⌝ }
 {
-    let next = layout::next_of(r);
-    let kind = layout::kind_of(r);
+    let next = book_layout::next_of(r);
+    let kind = book_layout::kind_of(r);
     Link { next, kind }
 }
 
@@ -28,10 +28,10 @@ fn link_in(r: &[u8]) -> Link
 fn link_at(book: &[u8], at: RecordIndex) -> Link
     ensures { λ r. ⌜ r ≡ linkAt (now (book .entry)) (at .0) ⌝ }
 {
-    if layout::has_whole(book, at) {
-        link_in(layout::whole_record(book, at.0 as usize))
+    if book_layout::has_whole(book, at) {
+        link_in(book_layout::whole_record(book, at.0 as usize))
     } else {
-        link_in(layout::record(book, at))
+        link_in(book_layout::record(book, at))
     }
 }
 

@@ -8,7 +8,7 @@ use native.Mathlib.Decide.{decLt}
 use native.Mathlib.Omega.{arith}
 use lib.ListN.{length}
 use borrow.Author.Tests.{eq-eqb, ne-eqb}
-use Rattle.book.specs.Chains.{chain, chainFrom}
+use Rattle.book_rules.specs.Chains.{chain, chainFrom}
 use Rattle.chains.proofs.Lists.{_∈_, All, Falling, all-map}
 
 -- zero, which ends a chain, or an index of the set

@@ -4,12 +4,12 @@ use mathlib.Core.Path.{_≡_, subst}
 use mathlib.Core.Bool.{true}
 use mathlib.Core.Logic.{_⊎_}
 use mathlib.Core.List.{List}
-use Rattle.book.specs.Book.{used, isUser, isEntry, ownerOf, nextOf, firstEntryOf}
-use Rattle.book.proofs.Faultless.{Faultless}
-use Rattle.book.specs.Chains.{entriesOf}
+use Rattle.book_rules.specs.Book.{used, isUser, isEntry, ownerOf, nextOf, firstEntryOf}
+use Rattle.book_rules.proofs.Faultless.{Faultless}
+use Rattle.book_rules.specs.Chains.{entriesOf}
 use Rattle.chains.proofs.Lists.{_∈_, All, Falling}
 use Rattle.chains.proofs.Chain.{chain-holds-only, chain-falling, chain-complete, falls-closed}
-use Rattle.book.proofs.RecordKinds.{entry-index}
+use Rattle.book_rules.proofs.RecordKinds.{entry-index}
 use Rattle.chains.proofs.Links.{Owned, entry-owner, first-entry, entries-fall}
 use Rattle.chains.proofs.Pointers.{entry-pointed}
 

@@ -11,18 +11,18 @@ use lib.IntN.{natAbs}
 use lib.ListN.{length}
 use Rattle.units.specs.Limits.{maxYearTicks, maxFlatRate, maxContribution, mostYears, mostRecords}
 use Rattle.units.proofs.Bools.{and-left}
-use Rattle.layout.specs.Fields.{recordAt, advanceKind, closingKind}
-use Rattle.accounts.specs.declared.ClosingSums.{ClosingSums}
-use Rattle.records.specs.Records.{accountIn, advanceIn, closingIn}
-use Rattle.book.specs.Book.{lengthFits, used, isUser, isAdvance, isClosing, nextOf, firstEntryOf, activationOf, openYearOf, accountAt}
-use Rattle.book.proofs.Lengths.{capacity-most}
-use Rattle.book.proofs.Faults.{used-within}
-use Rattle.book.proofs.Faultless.{Faultless}
+use Rattle.book_layout.specs.Fields.{recordAt, advanceKind, closingKind}
+use Rattle.account_steps.specs.declared.ClosingSums.{ClosingSums}
+use Rattle.book_records.specs.Records.{accountIn, advanceIn, closingIn}
+use Rattle.book_rules.specs.Book.{lengthFits, used, isUser, isAdvance, isClosing, nextOf, firstEntryOf, activationOf, openYearOf, accountAt}
+use Rattle.book_rules.proofs.Lengths.{capacity-most}
+use Rattle.book_rules.proofs.Faults.{used-within}
+use Rattle.book_rules.proofs.Faultless.{Faultless}
 use Rattle.ledger.specs.Ledger.{Statement}
-use Rattle.book.specs.Chains.{entriesOf}
+use Rattle.book_rules.specs.Chains.{entriesOf}
 use Rattle.chains.specs.Statements.{closingPart, advancePart, balancePart, sumOver, sumOverℤ, statementAt}
 use Rattle.chains.proofs.Chain.{chain-from-length}
-use Rattle.book.proofs.RecordKinds.{kinds-apart, entry-index}
+use Rattle.book_rules.proofs.RecordKinds.{kinds-apart, entry-index}
 use Rattle.chains.proofs.Links.{Owned, first-entry}
 use Rattle.chains.proofs.Entries.{entries-only}
 use Rattle.chains.proofs.Order.{chain-ordered}

@@ -7,9 +7,9 @@ use mathlib.Core.List.{List}
 use lib.Dec.{eqb, ltb}
 use borrow.Author.Tests.{eqb-true, ltb-true}
 use Rattle.units.proofs.Bools.{and-left, and-right, or-cases}
-use Rattle.layout.specs.Fields.{allZero, unnamedOfHead, recordAt}
-use Rattle.book.specs.Book.{firstUser, isUser, isEntry, ownerOf, nextOf, firstEntryOf, userNextFits, firstEntryFits, entryNextFits, goodHead}
-use Rattle.book.proofs.Faultless.{Faultless, EntryLinks, owner-before}
+use Rattle.book_layout.specs.Fields.{allZero, unnamedOfHead, recordAt}
+use Rattle.book_rules.specs.Book.{firstUser, isUser, isEntry, ownerOf, nextOf, firstEntryOf, userNextFits, firstEntryFits, entryNextFits, goodHead}
+use Rattle.book_rules.proofs.Faultless.{Faultless, EntryLinks, owner-before}
 use Rattle.chains.proofs.Chain.{Falls}
 
 -- an entry of the user at index i

@@ -8,14 +8,14 @@ use native.Mathlib.Omega.{arith}
 use lib.Dec.{eqb}
 use borrow.Author.Tests.{eqb-true, ne-eqb}
 use Rattle.units.proofs.Bools.{and-left, and-right, or-cases}
-use Rattle.layout.specs.Fields.{advanceKind, closingKind}
-use Rattle.book.specs.Book.{isUser, keepsYear, isClosing, nextOf, firstEntryOf, levelOf, inOrder, activationOf, openYearOf, firstInOrder, nextInOrder}
-use Rattle.book.proofs.Faultless.{Faultless}
-use Rattle.book.specs.Chains.{chainFrom, entriesOf}
+use Rattle.book_layout.specs.Fields.{advanceKind, closingKind}
+use Rattle.book_rules.specs.Book.{isUser, keepsYear, isClosing, nextOf, firstEntryOf, levelOf, inOrder, activationOf, openYearOf, firstInOrder, nextInOrder}
+use Rattle.book_rules.proofs.Faultless.{Faultless}
+use Rattle.book_rules.specs.Chains.{chainFrom, entriesOf}
 use Rattle.chains.specs.Statements.{sumOver}
 use Rattle.chains.proofs.Lists.{All, all-map}
 use Rattle.chains.proofs.Chain.{chain-induction}
-use Rattle.book.proofs.RecordKinds.{kinds-apart, entry-index}
+use Rattle.book_rules.proofs.RecordKinds.{kinds-apart, entry-index}
 use Rattle.chains.proofs.Links.{Owned, first-entry, entry-links, entries-fall}
 
 -- what may stand where entries of year y follow, with all that stands behind it

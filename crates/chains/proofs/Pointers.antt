@@ -10,10 +10,10 @@ use native.Mathlib.Omega.{arith}
 use lib.Dec.{eqb}
 use borrow.Author.Tests.{eqb-true, eqb-false}
 use Rattle.units.specs.Folds.{sumBelow}
-use Rattle.layout.specs.Fields.{userKind}
-use Rattle.book.specs.Book.{used, firstUser, kindAt, entryKind, isUser, isEntry, ownerOf, nextOf, firstEntryOf, hits, pointersFrom, pointersTo, pointedOnce}
-use Rattle.book.proofs.RecordKinds.{has-kind, user-index, entry-of-kind, entry-index, not-both}
-use Rattle.book.proofs.Faultless.{Faultless}
+use Rattle.book_layout.specs.Fields.{userKind}
+use Rattle.book_rules.specs.Book.{used, firstUser, kindAt, entryKind, isUser, isEntry, ownerOf, nextOf, firstEntryOf, hits, pointersFrom, pointersTo, pointedOnce}
+use Rattle.book_rules.proofs.RecordKinds.{has-kind, user-index, entry-of-kind, entry-index, not-both}
+use Rattle.book_rules.proofs.Faultless.{Faultless}
 use Rattle.chains.proofs.Links.{Owned, first-user, user-next, first-entry, entry-links, entry-next}
 
 -- a sum that is not zero has a term that is not

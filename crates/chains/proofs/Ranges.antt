@@ -12,15 +12,15 @@ use mir.Val.{toZ}
 use borrow.Author.Tests.{leb-true, lt-ltb, le-ltb}
 use Rattle.units.specs.Limits.{maxYearTicks, maxFlatRate, maxContribution, maxPower, firstActivation, lastActivation, lastOpenYear, mostYears}
 use Rattle.units.proofs.Bools.{and-left, and-right, or-cases}
-use Rattle.accounts.specs.declared.Account.{Account}
-use Rattle.layout.specs.Fields.{recordAt}
-use Rattle.accounts.specs.declared.ClosingSums.{ClosingSums}
-use Rattle.records.specs.declared.ClosingRecord.{ClosingRecord}
-use Rattle.records.specs.Records.{advanceIn, closingIn}
-use Rattle.book.specs.Book.{within, isUser, isAdvance, isClosing, ownerOf, accountAt, accountFits, detailsFit, openYearFits, runsFit, advancesFit, laterFits, creditFits, halvesFit, yearFits, levelFrom, bookedFits, isRun, advanceFits, balanceFits, closingFits}
-use Rattle.book.proofs.Faultless.{Faultless}
-use Rattle.book.proofs.Faultless as book
-use Rattle.book.proofs.RecordKinds.{advance-entry, closing-entry}
+use Rattle.account_steps.specs.declared.Account.{Account}
+use Rattle.book_layout.specs.Fields.{recordAt}
+use Rattle.account_steps.specs.declared.ClosingSums.{ClosingSums}
+use Rattle.book_records.specs.declared.ClosingRecord.{ClosingRecord}
+use Rattle.book_records.specs.Records.{advanceIn, closingIn}
+use Rattle.book_rules.specs.Book.{within, isUser, isAdvance, isClosing, ownerOf, accountAt, accountFits, detailsFit, openYearFits, runsFit, advancesFit, laterFits, creditFits, halvesFit, yearFits, levelFrom, bookedFits, isRun, advanceFits, balanceFits, closingFits}
+use Rattle.book_rules.proofs.Faultless.{Faultless}
+use Rattle.book_rules.proofs.Faultless as book
+use Rattle.book_rules.proofs.RecordKinds.{advance-entry, closing-entry}
 use Rattle.chains.proofs.Links.{entry-owner}
 
 pub record YearsFit (a : Account) : Type 0 where

@@ -10,7 +10,7 @@ use lib.Dec.{ltb}
 use lib.IntN.{ℤ, pos, negsuc, natAbs, negℤ, subℕ, _+ℤ_, _-ℤ_, +ℤ-assoc, +ℤ-negℤ-cancel}
 use lib.ListN.{length}
 use borrow.Author.Tests.{ltb-true}
-use Rattle.book.specs.Book.{isAdvance, isClosing, levelOf}
+use Rattle.book_rules.specs.Book.{isAdvance, isClosing, levelOf}
 use Rattle.chains.specs.Statements.{sumOver, sumOverℤ}
 use Rattle.chains.proofs.Lists.{All}
 use Rattle.chains.proofs.Order.{Ordered, nothing, advance, closing}

@@ -10,12 +10,12 @@ use borrow.Author.Tests.{eq-eqb, not-true}
 use Rattle.units.specs.Folds.{anyBelow}
 use Rattle.units.proofs.Bools.{and-both}
 use Rattle.units.proofs.Folds.{none-at}
-use Rattle.book.specs.Book.{used, firstUser, isUser, nextOf, numberOf, numberIsNew}
-use Rattle.book.proofs.Faultless.{Faultless}
-use Rattle.book.specs.Chains.{usersOf}
+use Rattle.book_rules.specs.Book.{used, firstUser, isUser, nextOf, numberOf, numberIsNew}
+use Rattle.book_rules.proofs.Faultless.{Faultless}
+use Rattle.book_rules.specs.Chains.{usersOf}
 use Rattle.chains.proofs.Lists.{_∈_, Falling}
 use Rattle.chains.proofs.Chain.{chain-falling, chain-complete}
-use Rattle.book.proofs.RecordKinds.{user-index}
+use Rattle.book_rules.proofs.RecordKinds.{user-index}
 use Rattle.chains.proofs.Links.{first-user, users-fall}
 use Rattle.chains.proofs.Pointers.{user-pointed}
 

@@ -6,12 +6,12 @@ use mathlib.Core.Logic.{⊎-map}
 use mathlib.Core.List.{List, _∷_}
 use native.Mathlib.Omega.{arith}
 use lib.ListN.{length}
-use Rattle.layout.specs.Fields.{recordLength}
-use Rattle.book.specs.Book.{lengthFits, sound, isUser, isEntry, nextOf, firstEntryOf}
-use Rattle.book.proofs.Faultless.{Faultless, sound-faultless}
-use Rattle.book.proofs.Faults.{used-whole}
-use Rattle.book.proofs.RecordKinds.{user-index, entry-index}
-use Rattle.book.specs.Chains.{chainFrom}
+use Rattle.book_layout.specs.Fields.{recordLength}
+use Rattle.book_rules.specs.Book.{lengthFits, sound, isUser, isEntry, nextOf, firstEntryOf}
+use Rattle.book_rules.proofs.Faultless.{Faultless, sound-faultless}
+use Rattle.book_rules.proofs.Faults.{used-whole}
+use Rattle.book_rules.proofs.RecordKinds.{user-index, entry-index}
+use Rattle.book_rules.specs.Chains.{chainFrom}
 use Rattle.chains.proofs.Chain.{On, Falls, inside, on-next, less, chain-cons}
 use Rattle.chains.proofs.Links.{entry-next, first-entry}
 

@@ -7,12 +7,12 @@ use lib.Dec.{ltb}
 use lib.IntN.{ℤ, pos, _+ℤ_}
 use mir.Syntax.{w64}
 use mir.Val.{toZ}
-use Rattle.layout.specs.Fields.{recordAt}
-use Rattle.accounts.specs.declared.ClosingSums.{ClosingSums}
-use Rattle.records.specs.Records.{advanceIn, closingIn}
-use Rattle.book.specs.Book.{isAdvance, isClosing, accountAt}
+use Rattle.book_layout.specs.Fields.{recordAt}
+use Rattle.account_steps.specs.declared.ClosingSums.{ClosingSums}
+use Rattle.book_records.specs.Records.{advanceIn, closingIn}
+use Rattle.book_rules.specs.Book.{isAdvance, isClosing, accountAt}
 use Rattle.ledger.specs.Ledger.{Statement}
-use Rattle.book.specs.Chains.{entriesOf}
+use Rattle.book_rules.specs.Chains.{entriesOf}
 
 -- what an entry adds to a sum over the closings, and to a sum over the advances whose year passes a test
 unfoldable pub closingPart : (ClosingSums → ℕ) → List ℕ → ℕ → ℕ

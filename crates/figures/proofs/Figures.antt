@@ -4,7 +4,7 @@ use Rattle.units.specs.Folds.{sumBelow}
 use Rattle.tariff.specs.Table1.{table1, rowsOfKind, reaches, firstReaching, tableEuroPerMwh}
 use Rattle.tariff.specs.Tariff.{domestic, between, above, tiers, annualTiers, flatRateOf, meanRate, limit, tierRate}
 use Rattle.calendar.specs.ElectionAndAdvances.{paidOf}
-use Rattle.accounts.specs.Closing.{contributionOf, liquidationOf, lapsedOf, creditAfter}
+use Rattle.account_steps.specs.Closing.{contributionOf, liquidationOf, lapsedOf, creditAfter}
 use Rattle.figures.specs.Figures.{Figures}
 
 pub figures : Figures

@@ -1,8 +1,8 @@
 -- The three years of figure (10) are within the ranges of a closing.
 use native.Mathlib.Omega.{arith}
-use Rattle.accounts.specs.declared.Account.{Account}
-use Rattle.accounts.specs.Closing.{creditAfter}
-use Rattle.accounts.specs.Account.{accountElected, accountClosed, closedOf, InRange}
+use Rattle.account_steps.specs.declared.Account.{Account}
+use Rattle.account_steps.specs.Closing.{creditAfter}
+use Rattle.account_steps.specs.Account.{accountElected, accountClosed, closedOf, InRange}
 use Rattle.figures.specs.Accounts.{opened, yearOf}
 
 pub first-in-range : InRange (yearOf 10 4) opened

@@ -1,8 +1,8 @@
 -- The account and the years of figure (10), as the program holds them.
 use Prim.Native.Nat.{ℕ}
 use Rattle.units.specs.Units.{kwh, ticks, userNumber}
-use Rattle.values.specs.declared.YearValues.{YearValues}
-use Rattle.accounts.specs.declared.Account.{Account}
+use Rattle.sheet_values.specs.declared.YearValues.{YearValues}
+use Rattle.account_steps.specs.declared.Account.{Account}
 
 -- an account on credit, before its first closing
 abbrev pub opened : Account

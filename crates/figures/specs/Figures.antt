@@ -6,7 +6,7 @@ use mathlib.Core.List.{List, [], _∷_}
 use lib.ListN.{getD}
 use Rattle.tariff.specs.Tariff.{annualTiers, flatRateOf, meanRate, tierRate}
 use Rattle.calendar.specs.ElectionAndAdvances.{paidOf}
-use Rattle.accounts.specs.Closing.{contributionOf, liquidationOf, lapsedOf, creditAfter}
+use Rattle.account_steps.specs.Closing.{contributionOf, liquidationOf, lapsedOf, creditAfter}
 
 -- the tiers of (1): class 1, W 3,000, E the smaller of W and injected 1,800
 abbrev tiersOf : ℕ → ℕ → List ℕ

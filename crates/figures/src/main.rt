@@ -1,13 +1,13 @@
 // The ten figures of document 01, "Figures to prove, one table", as the proved functions work them: a figure a line, its
 // number and then its values.
-use accounts::Account;
+use account_steps::Account;
 use output::Row;
+use sheet_values::Details;
+use sheet_values::YearValues;
 use units::Kwh;
 use units::Rate;
 use units::Ticks;
 use units::UserNumber;
-use values::Details;
-use values::YearValues;
 ghost use mathlib.Core.Path.{_≡_};
 ghost use Rattle.figures.specs.Accounts.{opened, yearOf};
 
@@ -128,8 +128,8 @@ fn closings() -> bool {
     let mut row = output::put_field(begin(10), first.settlement.contribution.0);
     row = output::put_field(row, second.settlement.contribution.0);
     row = output::put_field(row, third.settlement.contribution.0);
-    row = output::put_field(row, accounts::liquidation_in(outcome).0);
-    row = output::put_field(row, accounts::lapsed_in(outcome).0);
+    row = output::put_field(row, account_steps::liquidation_in(outcome).0);
+    row = output::put_field(row, account_steps::lapsed_in(outcome).0);
     say(output::put_field(row, third.account.credit.0))
 }
 

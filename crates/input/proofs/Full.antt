@@ -4,7 +4,7 @@ use mathlib.Core.Path.{_≡_}
 use mathlib.Core.Bool.{false}
 use mathlib.Core.List.{List}
 use lib.ListN.{length}
-use Rattle.book.specs.Book.{lengthFits}
+use Rattle.book_rules.specs.Book.{lengthFits}
 use Rattle.input.specs.Input.{roomForBook}
 
 pub full-refused : (b : List ℕ) → length b ≡ roomForBook → lengthFits b ≡ false

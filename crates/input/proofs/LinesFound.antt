@@ -12,7 +12,7 @@ use Rattle.input.specs.declared.Found.{Found}
 use Rattle.input.specs.declared.Found.the-variants as found
 use Rattle.input.specs.Input.{ReadOn}
 use Rattle.input.proofs.Repeated.{Longer, nothing-read, more-read, front-kept}
-use Rattle.input.specs.Lines.{NoFeed, LineEnd, RestKept, nothingHeld, lineAt, atEnd, LineHeld, FoundPassed, LinePassed, FoundRead, LineRead, FoundAfter, LineAfter}
+use Rattle.input.specs.InnerLines.{NoFeed, LineEnd, RestKept, nothingHeld, lineAt, atEnd, LineHeld, FoundPassed, LinePassed, FoundRead, LineRead, FoundAfter, LineAfter}
 
 -- the end of a line among the first n bytes
 pub record Fed (held : List ℕ) (from to : ℕ) : Type 0 where

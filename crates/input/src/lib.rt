@@ -7,7 +7,7 @@ ghost use mathlib.Core.Path.{_≡_};
 ghost use lib.ListN.{length};
 ghost use Rattle.libc.specs.Io.{Moved};
 ghost use Rattle.input.specs.Input.{roomForLines, roomForBook, Means, ReadOnce, ReadOn, RestRead};
-ghost use Rattle.input.specs.Lines.{LineEnd, RestKept, NoFeed, nothingHeld, lineAt, atEnd, LineHeld, LinePassed, LineRead, LineAfter};
+ghost use Rattle.input.specs.InnerLines.{LineEnd, RestKept, NoFeed, nothingHeld, lineAt, atEnd, LineHeld, LinePassed, LineRead, LineAfter};
 
 // What a program holds of its lines at once, more than the longest line that is no error.
 const LINES: usize = 262_144;

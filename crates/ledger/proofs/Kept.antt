@@ -6,9 +6,9 @@ use mathlib.Core.Bool.{cond}
 use native.Mathlib.Omega.{arith}
 use lib.Dec.{eqb, ltb}
 use lib.IntN.{pos, _+ℤ_, _-ℤ_, +ℤ-comm}
-use Rattle.values.specs.declared.Details.{Details}
-use Rattle.accounts.specs.Closing.{liquidates, contributionOf, lapsedOf, creditAfter, balanceOf}
-use Rattle.accounts.proofs.Closing.{one-year}
+use Rattle.sheet_values.specs.declared.Details.{Details}
+use Rattle.account_steps.specs.Closing.{liquidates, contributionOf, lapsedOf, creditAfter, balanceOf}
+use Rattle.account_steps.proofs.Closing.{one-year}
 use Rattle.ledger.specs.Ledger.{Ledger, yearAfter, openYear, sumItems, sumBalances, sumAdvances, enrolled, elected, advanceAmount, advanced, itemOf, Figures, closedWith, statementOf}
 use Rattle.ledger.specs.Accounting.{lapsedOver, conserved, Consecutive, Accounts}
 use Rattle.ledger.proofs.Standing.{figure, standing-exists}

@@ -9,7 +9,7 @@ use native.Mathlib.Decide.{decLe}
 use native.Mathlib.Omega.{arith}
 use lib.ListN.{take}
 use Rattle.units.proofs.Bools.{or-left, or-right, or-neither}
-use Rattle.accounts.specs.Closing.{liquidates, creditAfter}
+use Rattle.account_steps.specs.Closing.{liquidates, creditAfter}
 use Rattle.ledger.specs.Ledger.{Item, sumItems}
 use Rattle.ledger.specs.Accounting.{Run, Standing, holdsLiquidation, valueOver, costOver}
 

@@ -6,7 +6,7 @@ use mathlib.Core.List.{List, [], _∷_}
 use mathlib.Core.Logic.{_⊎_}
 use lib.ListN.{length, take}
 use lib.IntN.{ℤ, pos, _+ℤ_, _-ℤ_}
-use Rattle.accounts.specs.Closing.{liquidates}
+use Rattle.account_steps.specs.Closing.{liquidates}
 use Rattle.ledger.specs.Ledger.{Item, Ledger, Statement, yearAfter, sumItems, statementOf}
 
 -- (b) "advances of closed years plus balances, less flat-rate parts, plus liquidations, plus lapsed credit, plus standing

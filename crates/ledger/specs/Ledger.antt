@@ -5,12 +5,12 @@ use mathlib.Core.Bool.{Bool, true, false, cond, _||_}
 use mathlib.Core.List.{List, [], _∷_}
 use lib.Dec.{eqb}
 use lib.IntN.{ℤ, pos, _+ℤ_}
-use Rattle.values.specs.declared.Details.{Details}
-use Rattle.prices.specs.ValueAndCost.{valueOf, costOf}
-use Rattle.values.specs.YearsValues.{flatRateOver, halfOf, onIsland, isPhotovoltaic}
+use Rattle.sheet_values.specs.declared.Details.{Details}
+use Rattle.sheet_prices.specs.ValueAndCost.{valueOf, costOf}
+use Rattle.sheet_values.specs.YearsValues.{flatRateOver, halfOf, onIsland, isPhotovoltaic}
 use Rattle.sheet.specs.YearSheet.{sheetYear}
 use Rattle.calendar.specs.ElectionAndAdvances.{halvesPaid, amountOf}
-use Rattle.accounts.specs.Closing.{contributionOf, liquidationOf, lapsedOf, creditAfter, balanceOf}
+use Rattle.account_steps.specs.Closing.{contributionOf, liquidationOf, lapsedOf, creditAfter, balanceOf}
 
 -- "posts one item: year, option, C, O, F and the sums of "Closing""
 pub record Item : Type 0 where

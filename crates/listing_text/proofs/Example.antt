@@ -1,13 +1,13 @@
 -- "User 7 with (10, 4) closed for 2014 alone prints `7 2015 6`."
 use mathlib.Core.Path.{_≡_}
 use mathlib.Core.List.{[], _∷_}
-use Rattle.values.specs.declared.YearValues.{YearValues}
-use Rattle.accounts.specs.declared.Account.{Account}
-use Rattle.accounts.specs.Closing.{creditAfter}
-use Rattle.accounts.specs.Account.{accountClosed}
+use Rattle.sheet_values.specs.declared.YearValues.{YearValues}
+use Rattle.account_steps.specs.declared.Account.{Account}
+use Rattle.account_steps.specs.Closing.{creditAfter}
+use Rattle.account_steps.specs.Account.{accountClosed}
 use Rattle.decimals.specs.Decimals.{decimalOf}
 use Rattle.listing_text.specs.Listing.{blank, lineFeed}
-use Rattle.listing_text.specs.Written.{field, accountLine}
+use Rattle.listing_text.specs.InnerWritten.{field, accountLine}
 
 pub user-7 : (a : Account) (v : YearValues) → a .number .0 ≡ 7 → a .option ≡ 0 → a .«open_year» ≡ 2014 → a .credit .0 ≡ 0
     → v .value .0 ≡ 10 → v .cost .0 ≡ 4

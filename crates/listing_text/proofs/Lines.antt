@@ -4,12 +4,12 @@ use mathlib.Core.Path.{_≡_, sym, ap, _∙_}
 use mathlib.Core.List.{List, [], _∷_, _++_, append-assoc}
 use native.Mathlib.Omega.{arith}
 use lib.ListN.{length, length-append}
-use Rattle.accounts.specs.declared.Account.{Account}
+use Rattle.account_steps.specs.declared.Account.{Account}
 use Rattle.codec.specs.Bytes.{stored}
 use Rattle.decimals.specs.Decimals as decimals
-use Rattle.book.specs.Book.{accountAt}
+use Rattle.book_rules.specs.Book.{accountAt}
 use Rattle.listing_text.specs.Listing.{mostDigits, decimal, blank, lineFeed, line}
-use Rattle.listing_text.specs.Written.{longestField, longestLine, field, accountLine}
+use Rattle.listing_text.specs.InnerWritten.{longestField, longestLine, field, accountLine}
 use Rattle.codec.proofs.Pieces.{stored-then}
 use Rattle.decimals.proofs.Written.{most-digits, all-digits}
 

@@ -8,14 +8,14 @@ use lib.ListN.{length}
 use lib.Seq.{sets}
 use Rattle.codec.specs.Bytes.{stored}
 use Rattle.codec.proofs.Stores.{sets-stored, length-stored}
-use Rattle.book.specs.Book.{lengthFits, sound}
-use Rattle.book.specs.Chains.{usersOf}
+use Rattle.book_rules.specs.Book.{lengthFits, sound}
+use Rattle.book_rules.specs.Chains.{usersOf}
 use Rattle.units.specs.declared.RecordIndex.{RecordIndex}
-use Rattle.soundness.specs.declared.Verdict.{Verdict}
-use Rattle.soundness.specs.declared.Verdict.the-variants.{Length, Sound, Faulty}
-use Rattle.soundness.specs.Verdicts.{BookJudged, Accepted, Objected}
+use Rattle.check_book.specs.declared.Verdict.{Verdict}
+use Rattle.check_book.specs.declared.Verdict.the-variants.{Length, Sound, Faulty}
+use Rattle.check_book.specs.Verdicts.{BookJudged, Accepted, Objected}
 use Rattle.listing_text.specs.Listing.{blank, lineFeed, lines, refused, listing}
-use Rattle.listing_text.specs.Written.{longestRefusal, longestText, field, AllWritten}
+use Rattle.listing_text.specs.InnerWritten.{longestRefusal, longestText, field, AllWritten}
 use Rattle.codec.proofs.Pieces.{stored-then}
 use Rattle.listing_text.proofs.Walk.{text-short}
 use Rattle.listing_text.proofs.Lines.{field-short}

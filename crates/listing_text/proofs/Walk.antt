@@ -6,21 +6,21 @@ use mathlib.Core.Logic.{⊎-elim}
 use mathlib.Core.List.{List, [], _∷_, _++_}
 use native.Mathlib.Omega.{arith}
 use lib.ListN.{length, length-append}
-use Rattle.accounts.specs.declared.Account.{Account}
+use Rattle.account_steps.specs.declared.Account.{Account}
 use Rattle.codec.specs.Bytes.{stored}
 use Rattle.codec.proofs.Stores.{length-stored}
-use Rattle.layout.specs.Fields.{recordLength}
-use Rattle.book.specs.Book.{firstUser, lengthFits, sound, isUser, nextOf, accountAt}
-use Rattle.book.proofs.Lengths.{capacity-most}
-use Rattle.book.proofs.Faults.{used-within, used-whole}
-use Rattle.book.proofs.Faultless.{Faultless, sound-faultless}
-use Rattle.book.specs.Chains.{chainFrom, usersOf}
+use Rattle.book_layout.specs.Fields.{recordLength}
+use Rattle.book_rules.specs.Book.{firstUser, lengthFits, sound, isUser, nextOf, accountAt}
+use Rattle.book_rules.proofs.Lengths.{capacity-most}
+use Rattle.book_rules.proofs.Faults.{used-within, used-whole}
+use Rattle.book_rules.proofs.Faultless.{Faultless, sound-faultless}
+use Rattle.book_rules.specs.Chains.{chainFrom, usersOf}
 use Rattle.chains.proofs.Chain.{On, chain-none, chain-from-length}
-use Rattle.book.proofs.RecordKinds.{user-index}
+use Rattle.book_rules.proofs.RecordKinds.{user-index}
 use Rattle.chains.proofs.Links.{first-user, users-fall}
 use Rattle.chains.proofs.Walks.{walk-here, walk-on, walk-falls, walk-chain}
 use Rattle.listing_text.specs.Listing.{line, lines}
-use Rattle.listing_text.specs.Written.{longestLine, mostUsers, longestText, accountLine}
+use Rattle.listing_text.specs.InnerWritten.{longestLine, mostUsers, longestText, accountLine}
 use Rattle.codec.proofs.Pieces.{stored-then, stored-none}
 use Rattle.listing_text.proofs.Lines.{line-short, user-line}
 

@@ -5,8 +5,8 @@ use Prim.Native.Nat.{ℕ}
 use mathlib.Core.Bool.{cond}
 use mathlib.Core.List.{List, [], _∷_, _++_}
 use Rattle.decimals.specs.Decimals.{decimalOf}
-use Rattle.book.specs.Book.{lengthFits, sound, accountAt}
-use Rattle.book.specs.Chains.{usersOf}
+use Rattle.book_rules.specs.Book.{lengthFits, sound, accountAt}
+use Rattle.book_rules.specs.Chains.{usersOf}
 
 -- twenty digits hold every number of 64 bits
 abbrev pub mostDigits : ℕ

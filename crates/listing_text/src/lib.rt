@@ -4,13 +4,13 @@ ghost use mathlib.Core.Bool.{true};
 ghost use Prim.Native.Nat.{_+_, _≤_};
 ghost use lib.ListN.{length};
 ghost use Rattle.codec.specs.Bytes.{stored};
-ghost use Rattle.book.specs.Book.{lengthFits, sound};
-ghost use Rattle.book.specs.Chains.{usersOf};
+ghost use Rattle.book_rules.specs.Book.{lengthFits, sound};
+ghost use Rattle.book_rules.specs.Chains.{usersOf};
 ghost use Rattle.listing_text.specs.Listing.{lines, refused, listing};
-ghost use Rattle.listing_text.specs.Written.{longestField, longestLine, longestRefusal, longestText, field, accountLine, ListingAnswered};
-use accounts::Account;
-use book::MOST_RECORDS;
-use soundness::Verdict;
+ghost use Rattle.listing_text.specs.InnerWritten.{longestField, longestLine, longestRefusal, longestText, field, accountLine, ListingAnswered};
+use account_steps::Account;
+use book_rules::MOST_RECORDS;
+use check_book::Verdict;
 
 // The longest listing: of each user three numbers of at most twenty digits, each with a byte after it.
 const MOST_USERS: usize = MOST_RECORDS - 1;
@@ -65,10 +65,10 @@ fn lines_of(book: &[u8], out: &mut [u8]) -> usize
     ensures { λ _. ⌜ now (out .exit) ≡ stored 0 (lines (now (book .entry)) (usersOf (now (book .entry)))) (now (out .entry)) ⌝ }
 {
     let mut end = 0;
-    let mut user = view::first_user(book);
+    let mut user = book_view::first_user(book);
     while user.0 != 0 {
         let link = chain_reader::follow(book, user);
-        let account = view::account_at(book, user);
+        let account = book_view::account_at(book, user);
         end = line_at(out, end, account);
         user = link.next;
     }
@@ -98,7 +98,7 @@ fn text_of(book: &[u8], out: &mut [u8]) -> usize
     ensures { λ r. ⌜ r ≡ length (listing (now (book .entry))) ⌝ }
     ensures { λ _. ⌜ now (out .exit) ≡ stored 0 (listing (now (book .entry))) (now (out .entry)) ⌝ }
 {
-    match soundness::check(book) {
+    match check_book::check(book) {
         Verdict::Length => refusal_of(out, 1),
         Verdict::Sound(_) => lines_of(book, out),
         Verdict::Faulty(_) => refusal_of(out, 2),

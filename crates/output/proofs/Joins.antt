@@ -6,7 +6,7 @@ use native.Mathlib.Numerals.{add-one}
 use native.Mathlib.Omega.{arith}
 use lib.ListN.{length, getD, take, set, length-append}
 use lib.Seq.{take-all, take-at, take-suc, take-suc-set, length-take-le}
-use Rattle.output.specs.Rows.{rowRoom, joined, blanks}
+use Rattle.output.specs.InnerRows.{rowRoom, joined, blanks}
 
 pub full : (bytes : List ℕ) (count b : ℕ) → length bytes ≡ rowRoom → rowRoom ≤ count → take count bytes ≡ joined (take count bytes) (b ∷ [])
 unfolding joined

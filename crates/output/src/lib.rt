@@ -6,7 +6,7 @@ ghost use mathlib.Core.Path.{_≡_};
 ghost use mathlib.Core.List.{[], _∷_};
 ghost use Rattle.io.specs.Digits.{digits};
 ghost use Rattle.decimals.specs.Decimals.{decimal};
-ghost use Rattle.output.specs.Rows.{textOf, joined, blanks};
+ghost use Rattle.output.specs.InnerRows.{textOf, joined, blanks};
 
 // What a row holds at most.
 const ROOM: usize = 256;

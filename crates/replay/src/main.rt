@@ -1,33 +1,33 @@
 // Replays a script of calls on a book and on sheets: one call a line on standard input, one answer a line on standard output,
 // numbers in decimal with one blank between. A line that is no call is answered `error` and changes nothing.
-use accounts::Balance;
-use accounts::ClosingSums;
-use advance::Advanced;
-use answers::Reply;
+use account_steps::Balance;
+use account_steps::ClosingSums;
+use call_advance::Advanced;
+use call_answers::Reply;
+use call_close::Closed;
 use call_more_sun::MoreSun;
-use close::Closed;
+use call_statement::Stated;
 use input::Found;
 use listing_text::Listed;
 use output::Row;
-use script::Digits;
-use script::Order;
+use replay_script::Digits;
+use replay_script::Order;
 use sheet::Position;
 use sheet_losses::Raised;
 use sheet_losses::Rests;
 use sheet_more_sun::Addition;
 use sheet_text::Read;
 use sheet_text::Written;
-use statement::Stated;
+use sheet_values::Details;
 use statements::Sums;
 use text::Bytes;
 use units::Rate;
 use units::UserNumber;
 use units::WideKwh;
-use values::Details;
 ghost use Prim.Native.Nat.{_+_, _*_, _≤_};
 ghost use lib.ListN.{length};
-ghost use Rattle.script.specs.Orders.{longestBook};
-ghost use Rattle.replay.specs.Lines.{LineDone, FoundDone};
+ghost use Rattle.replay_script.specs.Orders.{longestBook};
+ghost use Rattle.replay.specs.InnerLines.{LineDone, FoundDone};
 
 // What the longest answer takes: a row of numbers, two digits a byte, and the line feed.
 const ANSWER: usize = 131_329;
@@ -55,7 +55,7 @@ fn say(row: Row) -> bool {
 }
 
 fn put_balance(row: Row, balance: Balance) -> Row {
-    if accounts::signed(balance) < 0 {
+    if account_steps::signed(balance) < 0 {
         output::put_number(
             output::put_text(row, b" -"),
             std::num::wrapping_sub_u64(0, balance.0),
@@ -168,7 +168,7 @@ fn close_year(book: &mut [u8], line: &[u8], at: usize) -> bool {
     let Bytes::Read(count) = text::hex_from(line, at, &mut sheet) else {
         return say_error();
     };
-    say_closed(close::close(book, &sheet[..count]))
+    say_closed(call_close::close(book, &sheet[..count]))
 }
 
 // 1 and the least addition, or zeros where there is none.
@@ -395,7 +395,7 @@ fn call(order: Order, line: &[u8], book: &mut [u8], out: &mut [u8]) -> bool
     requires { ⌜ 2 * longestBook + 257 ≤ length (now out) ⌝ }
 {
     match order {
-        Order::Fresh => say_fresh(soundness::fresh(book)),
+        Order::Fresh => say_fresh(check_book::fresh(book)),
         Order::Enrol {
             number,
             class,
@@ -414,7 +414,7 @@ fn call(order: Order, line: &[u8], book: &mut [u8], out: &mut [u8]) -> bool
                 month,
                 island,
             };
-            say_record(enrol::enrol(book, UserNumber(number), details, option))
+            say_record(call_enrol::enrol(book, UserNumber(number), details, option))
         }
         Order::Elect {
             number,
@@ -422,7 +422,7 @@ fn call(order: Order, line: &[u8], book: &mut [u8], out: &mut [u8]) -> bool
             year,
             month,
             day,
-        } => { say_elected(elect::elect(book, UserNumber(number), option, year, month, day)) }
+        } => { say_elected(call_elect::elect(book, UserNumber(number), option, year, month, day)) }
         Order::Advance {
             number,
             year,
@@ -431,7 +431,7 @@ fn call(order: Order, line: &[u8], book: &mut [u8], out: &mut [u8]) -> bool
             estimate1,
             estimate2,
         } => {
-            say_advanced(advance::advance(
+            say_advanced(call_advance::advance(
                 book,
                 UserNumber(number),
                 year,
@@ -442,7 +442,7 @@ fn call(order: Order, line: &[u8], book: &mut [u8], out: &mut [u8]) -> bool
             ))
         }
         Order::Close(at) => close_year(book, line, at),
-        Order::Statement(number) => say_stated(statement::statement(book, UserNumber(number))),
+        Order::Statement(number) => say_stated(call_statement::statement(book, UserNumber(number))),
         Order::Archive { sheet, buffer } => rearrange(line, sheet, buffer, Work::Archive, out),
         Order::Restore { archive, buffer } => rearrange(line, archive, buffer, Work::Restore, out),
         Order::Raise { sheet, factor } => raise(line, sheet, factor, out),
@@ -463,7 +463,7 @@ fn answer(line: &[u8], buffer: &mut [u8], len: usize, out: &mut [u8]) -> Step
     requires { ⌜ 2 * length (now buffer) + 257 ≤ length (now out) ⌝ }
     ensures { λ r. ⌜ LineDone (now (line .entry)) (now (buffer .entry)) (now (buffer .exit)) len (r .len) ⌝ }
 {
-    let order = script::order_of(line);
+    let order = replay_script::order_of(line);
     match order {
         Order::New(n) => Step {
             len: new_book(buffer, n),

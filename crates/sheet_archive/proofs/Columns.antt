@@ -4,7 +4,7 @@ use mathlib.Core.Path.{_≡_, refl, ap₂, _∙_}
 use native.Mathlib.Numerals.{add-one}
 use native.Mathlib.Omega.{arith}
 use Rattle.sheet_archive.specs.Archive.{minus, plus, differences, sums}
-use Rattle.sheet_archive.specs.Steps.{before}
+use Rattle.sheet_archive.specs.InnerSteps.{before}
 
 -- every number has 32 bits
 abbrev pub Words : (ℕ → ℕ) → Type 0

@@ -16,7 +16,7 @@ use Rattle.sheet.specs.YearSheet.{sheetLength}
 use Rattle.sheet_archive.specs.declared.Four.{Four}
 use Rattle.sheet_archive.specs.Tables.{headerLength, header, numberIn, lines}
 use Rattle.sheet_archive.specs.Archive.{plus, sums, inArchive, sheetColumns, sheetMonths}
-use Rattle.sheet_archive.specs.Steps.{before, nextFour, numberStored, fourStored, Stands, Restored}
+use Rattle.sheet_archive.specs.InnerSteps.{before, nextFour, numberStored, fourStored, Stands, Restored}
 use Rattle.sheet_archive.proofs.Tables.{length-header, header-first, table-of-parts}
 use Rattle.sheet_archive.proofs.Columns.{Words, before-next, sum-from-before}
 

@@ -1,4 +1,4 @@
 pub mod Tables
 pub mod Archive
-pub mod Steps
+pub mod InnerSteps
 pub mod RoundTrips

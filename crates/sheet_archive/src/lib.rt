@@ -8,7 +8,7 @@ ghost use Rattle.sheet.specs.YearSheet.{sheetLength};
 ghost use Rattle.sheet_archive.specs.Tables.{headerLength, header};
 ghost use Rattle.sheet_archive.specs.Archive.{minus, plus, inSheet, inArchive, sheetColumns, sheetMonths};
 ghost use Rattle.sheet_archive.specs.Archive.{sizesFit, answer, archiveAfter, sheetAfter};
-ghost use Rattle.sheet_archive.specs.Steps.{Holds, headerWords, headerWord, columnWritten, nextFour, fourStored, Restored};
+ghost use Rattle.sheet_archive.specs.InnerSteps.{Holds, headerWords, headerWord, columnWritten, nextFour, fourStored, Restored};
 use sheet::HEADER;
 use sheet::LENGTH;
 use sheet::MONTHS;

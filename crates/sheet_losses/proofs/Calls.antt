@@ -14,7 +14,7 @@ use Rattle.sheet_losses.specs.declared.Raised.{Raised}
 use Rattle.sheet_losses.specs.declared.Bands.{Bands}
 use Rattle.sheet_losses.specs.declared.Worked.{Worked}
 use Rattle.sheet_losses.specs.Losses.{maxFactor, raisedReading, injectedPlace, threeReadings, withInjected, raisedSheet, someAbove, refusalOf, decembersRests, answerOf, raisedAfter}
-use Rattle.sheet_losses.specs.Steps.{byBand, inBand, readingsIn, WorkedOut}
+use Rattle.sheet_losses.specs.InnerSteps.{byBand, inBand, readingsIn, WorkedOut}
 
 -- readings that are the same in each band make the same sheet
 three-cong : (f g : ℕ → ℕ) → f 0 ≡ g 0 → f 1 ≡ g 1 → f 2 ≡ g 2 → threeReadings f ≡ threeReadings g

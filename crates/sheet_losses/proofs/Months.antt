@@ -16,7 +16,7 @@ use Rattle.sheet_losses.specs.declared.Rests.{Rests}
 use Rattle.sheet_losses.specs.declared.Divided.{Divided}
 use Rattle.sheet_losses.specs.declared.WideBands.{WideBands}
 use Rattle.sheet_losses.specs.Losses.{thousandths, restTo, raised, bandOf, raisedReading, readingAbove, monthAbove}
-use Rattle.sheet_losses.specs.Steps.{dividedOf, byBand, inWide, restsTo, raisedBands, WithinLimit}
+use Rattle.sheet_losses.specs.InnerSteps.{dividedOf, byBand, inWide, restsTo, raisedBands, WithinLimit}
 
 pub rest-below : (factor : ℕ) (raw : ℕ → ℕ) (month : ℕ) → restTo factor raw month < 1000
 unfolding restTo

@@ -20,7 +20,7 @@ use Rattle.sheet_losses.specs.declared.Bands.{Bands}
 use Rattle.sheet_losses.specs.declared.WideBands.{WideBands}
 use Rattle.sheet_losses.specs.declared.Worked.{Worked}
 use Rattle.sheet_losses.specs.Losses.{maxFactor, restTo, decembersRest, readingAbove, monthAbove, someAbove, placeIn, earliestAbove, refusalOf, noRests}
-use Rattle.sheet_losses.specs.Steps.{inWide, narrowedTo, restsTo, raisedBands, noBands, noMonths, answerWith, WorkedOut}
+use Rattle.sheet_losses.specs.InnerSteps.{inWide, narrowedTo, restsTo, raisedBands, noBands, noMonths, answerWith, WorkedOut}
 use Rattle.sheet_losses.proofs.Months.{first-reading}
 
 module _ (factor : ℕ) (s : List ℕ) where

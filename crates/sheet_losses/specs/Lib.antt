@@ -1,3 +1,3 @@
 pub mod Losses
-pub mod Steps
+pub mod InnerSteps
 pub mod Laws

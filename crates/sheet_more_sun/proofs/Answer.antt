@@ -11,15 +11,15 @@ use Rattle.units.specs.Units.{ticks}
 use Rattle.units.specs.Limits.{maxKwh, maxPrice, maxYearTicks}
 use Rattle.sheet.specs.YearSheet.{injectedReading, byBands, injected, Passed}
 use Rattle.sheet.proofs.Limits.{passed-length, passed-energy}
-use Rattle.prices.specs.Arrays.{priceRow, priceAt}
-use Rattle.prices.specs.ValueAndCost.{costOf, valueOf}
-use Rattle.prices.proofs.SheetRows.{band-price-fits, single-price-fits}
-use Rattle.values.specs.declared.Details.{Details}
-use Rattle.values.specs.YearsValues.{onIsland, isPhotovoltaic}
+use Rattle.sheet_prices.specs.InnerArrays.{priceRow, priceAt}
+use Rattle.sheet_prices.specs.ValueAndCost.{costOf, valueOf}
+use Rattle.sheet_prices.proofs.SheetRows.{band-price-fits, single-price-fits}
+use Rattle.sheet_values.specs.declared.Details.{Details}
+use Rattle.sheet_values.specs.YearsValues.{onIsland, isPhotovoltaic}
 use Rattle.sheet_more_sun.specs.declared.Addition.{Addition}
 use Rattle.sheet_more_sun.specs.MoreSun.{additions, reaches, moreSun, FieldStands}
 use Rattle.sheet_more_sun.specs.Laws.{IsLeast}
-use Rattle.sheet_more_sun.specs.Steps.{InLimits, comesTo, fieldPrice}
+use Rattle.sheet_more_sun.specs.InnerSteps.{InLimits, comesTo, fieldPrice}
 use Rattle.sheet_more_sun.proofs.Least.{least-is, least-same}
 use Rattle.sheet_more_sun.proofs.Value.{row-price, value-raised}
 

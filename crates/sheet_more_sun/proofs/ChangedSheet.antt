@@ -12,7 +12,7 @@ use Rattle.codec.specs.Bytes.{littleEndian, bytesOf, part, number, stored}
 use Rattle.codec.proofs.Numbers.{length-bytes}
 use Rattle.codec.proofs.Stores.{length-stored, part-before, part-after, number-stored}
 use Rattle.sheet.specs.YearSheet.{sheetLength, word, withdrawnReading, injectedReading, injected}
-use Rattle.prices.specs.ValueAndCost.{costIn, costOf}
+use Rattle.sheet_prices.specs.ValueAndCost.{costIn, costOf}
 use Rattle.sheet_more_sun.specs.MoreSun.{withMore}
 use Rattle.sheet_more_sun.specs.Laws.{ChangesOneField}
 

@@ -13,7 +13,7 @@ use Rattle.units.proofs.Folds.{any-of, none-of, First, first-below, first-is}
 use Rattle.sheet_more_sun.specs.declared.Addition.{Addition}
 use Rattle.sheet_more_sun.specs.MoreSun.{pick, leastBelow, moreSun, additions, reaches}
 use Rattle.sheet_more_sun.specs.Laws.{IsLeast, AnswersLeast}
-use Rattle.sheet_more_sun.specs.Steps.{LeastWorth, InLimits, comesTo}
+use Rattle.sheet_more_sun.specs.InnerSteps.{LeastWorth, InLimits, comesTo}
 
 -- the answer that is least is the one that is searched for
 pub least-is : (n : ℕ) (test : ℕ → Bool) (r : Addition) → IsLeast n test r → r ≡ leastBelow n test

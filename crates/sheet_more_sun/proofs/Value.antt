@@ -10,8 +10,8 @@ use Rattle.units.specs.Limits.{maxKwh}
 use Rattle.units.specs.Folds.{sumBelow}
 use Rattle.units.proofs.Folds.{sum-cong, sum-changed}
 use Rattle.sheet.specs.YearSheet.{sheetLength, word, injectedReading, byBands, injected}
-use Rattle.prices.specs.Arrays.{priceRow, priceAt}
-use Rattle.prices.specs.ValueAndCost.{bandPrice, singlePrice, valueIn, valueOf}
+use Rattle.sheet_prices.specs.InnerArrays.{priceRow, priceAt}
+use Rattle.sheet_prices.specs.ValueAndCost.{bandPrice, singlePrice, valueIn, valueOf}
 use Rattle.sheet_more_sun.specs.MoreSun.{withMore}
 use Rattle.sheet_more_sun.proofs.ChangedSheet.{kept-other, kept-injected-reading, raised}
 

@@ -7,8 +7,8 @@ use lib.ListN.{length}
 use Rattle.units.specs.Limits.{maxKwh}
 use Rattle.codec.specs.Bytes.{part}
 use Rattle.sheet.specs.YearSheet.{sheetLength, word, injected}
-use Rattle.prices.specs.ValueAndCost.{costOf}
-use Rattle.values.specs.declared.Details.{Details}
+use Rattle.sheet_prices.specs.ValueAndCost.{costOf}
+use Rattle.sheet_values.specs.declared.Details.{Details}
 use Rattle.sheet_more_sun.specs.declared.Addition.{Addition}
 use Rattle.sheet_more_sun.specs.MoreSun.{withMore, reaches, additions, moreSun}
 

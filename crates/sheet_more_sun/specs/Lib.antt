@@ -1,3 +1,3 @@
 pub mod MoreSun
 pub mod Laws
-pub mod Steps
+pub mod InnerSteps

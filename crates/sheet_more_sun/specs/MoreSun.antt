@@ -10,9 +10,9 @@ use Rattle.units.specs.Limits.{maxKwh}
 use Rattle.units.specs.Folds.{anyBelow, firstBelow}
 use Rattle.codec.specs.Bytes.{bytesOf, stored}
 use Rattle.sheet.specs.YearSheet.{injectedReading, byBands, injected}
-use Rattle.prices.specs.ValueAndCost.{costOf, valueOf}
-use Rattle.values.specs.declared.Details.{Details}
-use Rattle.values.specs.YearsValues.{onIsland, isPhotovoltaic}
+use Rattle.sheet_prices.specs.ValueAndCost.{costOf, valueOf}
+use Rattle.sheet_values.specs.declared.Details.{Details}
+use Rattle.sheet_values.specs.YearsValues.{onIsland, isPhotovoltaic}
 use Rattle.sheet_more_sun.specs.declared.Addition.{Addition}
 use Rattle.sheet_more_sun.specs.declared.Addition.the-variants as addition
 

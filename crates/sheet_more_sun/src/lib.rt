@@ -6,13 +6,13 @@ ghost use Rattle.units.specs.Limits.{maxKwh, maxPrice, maxYearTicks};
 ghost use Rattle.sheet.specs.YearSheet.{Passed};
 ghost use Rattle.sheet_more_sun.specs.MoreSun.{FieldStands, moreSun};
 ghost use Rattle.sheet_more_sun.specs.Laws.{IsLeast};
-ghost use Rattle.sheet_more_sun.specs.Steps.{LeastWorth, InLimits, comesTo, fieldPrice};
+ghost use Rattle.sheet_more_sun.specs.InnerSteps.{LeastWorth, InLimits, comesTo, fieldPrice};
+use sheet_values::Details;
 use units::Kwh;
 use units::MAX_KWH;
 use units::Rate;
 use units::Ticks;
 use units::WideKwh;
-use values::Details;
 
 // The least addition, or none within the field's limit.
 pub enum Addition {
@@ -43,7 +43,7 @@ fn price_of(s: &[u8], details: Details, month: usize, band: usize) -> Rate
     ensures { λ r. ⌜ (r .0 ≡ fieldPrice (now (s .entry)) details month band) × (r .0 ≤ maxPrice) ⌝ }
 {
     let bands = sheet::injected_reading(s) == 1;
-    let prices = prices::price_row(s, bands, details.island == 1, details.plant == 1, month);
+    let prices = sheet_prices::price_row(s, bands, details.island == 1, details.plant == 1, month);
     prices[band]
 }
 
@@ -73,7 +73,7 @@ pub fn more_sun(s: &[u8], details: Details, month: usize, band: usize) -> Additi
 {
     let price = price_of(s, details, month, band);
     let field = Kwh(sheet::number_at(s, month, 3 + band));
-    let cost = prices::cost(s);
-    let value = prices::value(s, details.island == 1, details.plant == 1);
+    let cost = sheet_prices::cost(s);
+    let value = sheet_prices::value(s, details.island == 1, details.plant == 1);
     least_addition(cost, value, price, field)
 }

@@ -11,7 +11,7 @@ use Rattle.units.proofs.Bools.{or-neither}
 use Rattle.units.proofs.Folds.{any-zero, any-step, any-of, any-cong, none-at, none-of, first-is}
 use Rattle.sheet_text.specs.Lines.{places}
 use Rattle.sheet_text.specs.Reading.{someAbove, firstAbove}
-use Rattle.sheet_text.specs.Steps.{placeAbove}
+use Rattle.sheet_text.specs.InnerSteps.{placeAbove}
 
 first-within : (n : ℕ) (p : ℕ → Bool) → anyBelow n p ≡ true → firstBelow n p < n
 unfolding anyBelow firstBelow

@@ -11,7 +11,7 @@ use lib.ListN.{drop}
 use Rattle.decimals.specs.declared.Field.{Field}
 use Rattle.decimals.specs.Decimals.{value, beginsField, behind, FieldRead}
 use Rattle.sheet_text.specs.Lines.{semicolon, lineFeed, months, places, fromNumber, beginsLine, kwhAt}
-use Rattle.sheet_text.specs.Steps.{tooMuch, kwhOf, LineRead}
+use Rattle.sheet_text.specs.InnerSteps.{tooMuch, kwhOf, LineRead}
 
 -- what counts of a number tells whether it is a month
 month-told : (n month : ℕ) → month ≤ months → eqb (min n tooMuch) month ≡ eqb n month

@@ -15,7 +15,7 @@ use Rattle.decimals.proofs.Written.{decimal-digit, length-more, decimal-short, 
 use Rattle.sheet_text.specs.Lines.{semicolon, months, places, line, lines}
 use Rattle.sheet_text.specs.Reading.{Within}
 use Rattle.sheet_text.specs.Writing.{textRoom}
-use Rattle.sheet_text.specs.Steps.{stopAt, numbersTo}
+use Rattle.sheet_text.specs.InnerSteps.{stopAt, numbersTo}
 
 module _ (kwh : ℕ → ℕ) where
   pub numbers-none : [] ≡ numbersTo kwh 0

@@ -12,7 +12,7 @@ use Rattle.sheet_text.specs.declared.Read.{Read}
 use Rattle.sheet_text.specs.declared.Measures.{Measures}
 use Rattle.sheet_text.specs.Lines.{months, kwhIn}
 use Rattle.sheet_text.specs.Reading.{lineWrong, wrongSize, wrongLine, aboveIn, firstAbove, objectionTo, someRefused, firstRefused, textAnswer, filled, readAnswer, sheetAfter}
-use Rattle.sheet_text.specs.Steps.{yearOf, MeasuresRead}
+use Rattle.sheet_text.specs.InnerSteps.{yearOf, MeasuresRead}
 use Rattle.sheet_text.proofs.Filling.{months-same}
 
 objection-told : (t : List ℕ) (m : ℕ) → objectionTo t m .refusal ≡ 0 → ⊥

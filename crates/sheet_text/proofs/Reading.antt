@@ -17,7 +17,7 @@ use Rattle.sheet_text.specs.declared.Line.{Line}
 use Rattle.sheet_text.specs.declared.Measures.{Measures}
 use Rattle.sheet_text.specs.Lines.{months, places, beginsLine, kwhAt, behindLine, fromLine, kwhIn}
 use Rattle.sheet_text.specs.Reading.{lineWrong, someAbove, firstAbove, lineRefused, accepted, wrongLine, aboveIn, objectionTo, someRefused, firstRefused, textAnswer}
-use Rattle.sheet_text.specs.Steps.{tooMuch, kwhOf, yearOf, placeAbove, LineRead, MonthPut, MeasuresRead}
+use Rattle.sheet_text.specs.InnerSteps.{tooMuch, kwhOf, yearOf, placeAbove, LineRead, MonthPut, MeasuresRead}
 use Rattle.sheet_text.proofs.Above.{none-above, place-same}
 
 module _ (t : List ℕ) where

@@ -14,7 +14,7 @@ use Rattle.sheet.specs.YearSheet.{sheetLength, word, nowhere}
 use Rattle.sheet_text.specs.Lines.{months, places}
 use Rattle.sheet_text.specs.Reading.{someAbove, Within}
 use Rattle.sheet_text.specs.Writing.{textRoom, sizesFit, sheetAbove, monthAbove}
-use Rattle.sheet_text.specs.Steps.{kwhOf, placeAbove, positionAbove, MonthOf}
+use Rattle.sheet_text.specs.InnerSteps.{kwhOf, placeAbove, positionAbove, MonthOf}
 use Rattle.sheet_text.proofs.Above.{found-place, none-found, none-above, place-same}
 
 pub sizes-of : (s b : List ℕ) → sizesFit s b ≡ true → (length s ≡ sheetLength) × (length b ≡ textRoom)

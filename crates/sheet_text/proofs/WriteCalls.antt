@@ -12,7 +12,7 @@ use Rattle.sheet.specs.YearSheet.{sheetLength, word, nowhere}
 use Rattle.sheet_text.specs.Lines.{yearText}
 use Rattle.sheet_text.specs.Reading.{firstAbove}
 use Rattle.sheet_text.specs.Writing.{textRoom, sizesFit, sheetAbove, monthAbove, sizeRefused, textWritten, writeAnswer, bufferAfter}
-use Rattle.sheet_text.specs.Steps.{positionAbove}
+use Rattle.sheet_text.specs.InnerSteps.{positionAbove}
 
 either-wrong : (x y : Bool) → (not x || not y) ≡ true → (x && y) ≡ false
 either-wrong true true e = sym e

@@ -9,7 +9,7 @@ ghost use Rattle.sheet.specs.YearSheet.{sheetLength, word};
 ghost use Rattle.sheet_text.specs.Lines.{months, places, line, yearText};
 ghost use Rattle.sheet_text.specs.Reading.{wrongLine, aboveIn, readAnswer, sheetAfter, monthFilled, filled};
 ghost use Rattle.sheet_text.specs.Writing.{sizesFit, sheetAbove, textRoom, writeAnswer, bufferAfter};
-ghost use Rattle.sheet_text.specs.Steps.{kwhOf, yearOf, placeAbove, positionAbove, stopAt, numbersTo, LineRead, MonthPut, MeasuresRead, MonthOf};
+ghost use Rattle.sheet_text.specs.InnerSteps.{kwhOf, yearOf, placeAbove, positionAbove, stopAt, numbersTo, LineRead, MonthPut, MeasuresRead, MonthOf};
 use sheet::HEADER;
 use sheet::LENGTH;
 use sheet::MONTHS;

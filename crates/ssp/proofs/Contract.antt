@@ -5,16 +5,16 @@ use Rattle.sheet_archive.specs.Archive.{answer, archiveAfter, sheetAfter}
 use Rattle.sheet_losses.specs.Losses.{answerOf, raisedAfter}
 use Rattle.sheet_text.specs.Reading as reading
 use Rattle.sheet_text.specs.Writing.{writeAnswer, bufferAfter}
-use Rattle.book.specs.Book.{used}
-use Rattle.soundness.specs.Verdicts.{freshAnswer, freshAfter}
+use Rattle.book_rules.specs.Book.{used}
+use Rattle.check_book.specs.Verdicts.{freshAnswer, freshAfter}
 use Rattle.sheet.specs.YearSheet.{Tells}
-use Rattle.calls.specs.Calls.{enrol, elect, advance, close, statement}
-use Rattle.answers.specs.Answers.{Answered}
-use Rattle.advance.specs.Advances.{ticksAnswered}
-use Rattle.close.specs.Closings.{sumsAnswered}
-use Rattle.statement.specs.Stated.{sumsStated}
+use Rattle.call_rules.specs.Calls.{enrol, elect, advance, close, statement}
+use Rattle.call_answers.specs.Answers.{Answered}
+use Rattle.call_advance.specs.Advances.{ticksAnswered}
+use Rattle.call_close.specs.Closings.{sumsAnswered}
+use Rattle.call_statement.specs.Stated.{sumsStated}
 use Rattle.ssp.specs.Flat.{interfaceNumber, detailsOf, positionOf, flatClosed, flatSums, flatRead, flatWritten, flatRaised}
-use Rattle.answers.specs.Answers.{AnsweredBy}
+use Rattle.call_answers.specs.Answers.{AnsweredBy}
 use Rattle.call_more_sun.specs.Asked.{moreSunOrder, additionAnswered}
 use Rattle.ssp.specs.FlatSun.{flatSun}
 use Rattle.ssp.proofs.ssp_interface.Reads as interface-of

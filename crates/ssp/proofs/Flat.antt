@@ -8,12 +8,12 @@ use mir.Val.{Fits, toZ, ofZ}
 use mir.Facts.{ofZ-toZ}
 use Rattle.sheet.specs.declared.Position.{Position}
 use Rattle.sheet.specs.YearSheet.{Tells}
-use Rattle.calls.specs.Calls.{close, statement}
-use Rattle.answers.specs.Answers.{Answered}
-use Rattle.accounts.specs.declared.ClosingSums.{ClosingSums}
-use Rattle.close.specs.Closings.{sumsAnswered}
+use Rattle.call_rules.specs.Calls.{close, statement}
+use Rattle.call_answers.specs.Answers.{Answered}
+use Rattle.account_steps.specs.declared.ClosingSums.{ClosingSums}
+use Rattle.call_close.specs.Closings.{sumsAnswered}
 use Rattle.statements.specs.declared.Sums as statements
-use Rattle.statement.specs.Stated.{sumsStated}
+use Rattle.call_statement.specs.Stated.{sumsStated}
 use Rattle.ssp.specs.declared.Closed.{Closed}
 use Rattle.ssp.specs.declared.Sums.{Sums}
 use Rattle.ssp.specs.Flat.{positionOf, flatClosed, flatSums}

@@ -4,7 +4,7 @@ use mathlib.Core.Path.{_≡_, ap, sym, subst}
 use mathlib.Core.List.{List}
 use Rattle.sheet.specs.declared.Position.{Position}
 use Rattle.sheet.specs.YearSheet.{Tells}
-use Rattle.answers.specs.Answers.{AnsweredBy}
+use Rattle.call_answers.specs.Answers.{AnsweredBy}
 use Rattle.sheet_more_sun.specs.declared.Addition.{Addition}
 use Rattle.call_more_sun.specs.Asked.{moreSunOrder, additionAnswered}
 use Rattle.ssp.specs.declared.Sun.{Sun}

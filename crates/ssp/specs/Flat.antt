@@ -2,9 +2,9 @@
 use Prim.Native.Nat.{ℕ}
 use mir.Syntax.{w64}
 use mir.Val.{toZ}
-use Rattle.values.specs.declared.Details.{Details}
+use Rattle.sheet_values.specs.declared.Details.{Details}
 use Rattle.sheet.specs.declared.Position.{Position}
-use Rattle.accounts.specs.declared.ClosingSums.{ClosingSums}
+use Rattle.account_steps.specs.declared.ClosingSums.{ClosingSums}
 use Rattle.statements.specs.declared.Sums as statements
 use Rattle.sheet_text.specs.declared.Read as sheet-text-read
 use Rattle.sheet_text.specs.declared.Written as sheet-text-written

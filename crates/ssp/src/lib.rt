@@ -5,23 +5,23 @@ ghost use Rattle.sheet_archive.specs.Archive.{answer, archiveAfter, sheetAfter}
 ghost use Rattle.sheet_losses.specs.Losses.{answerOf, raisedAfter};
 ghost use Rattle.sheet_text.specs.Reading as reading;
 ghost use Rattle.sheet_text.specs.Writing.{writeAnswer, bufferAfter};
-ghost use Rattle.book.specs.Book.{used};
-ghost use Rattle.soundness.specs.Verdicts.{freshAnswer, freshAfter};
+ghost use Rattle.book_rules.specs.Book.{used};
+ghost use Rattle.check_book.specs.Verdicts.{freshAnswer, freshAfter};
 ghost use Rattle.sheet.specs.YearSheet.{Tells};
-ghost use Rattle.calls.specs.Calls.{enrol, elect, advance, close, statement};
-ghost use Rattle.answers.specs.Answers.{Answered};
-ghost use Rattle.answers.specs.Answers.{AnsweredBy};
+ghost use Rattle.call_rules.specs.Calls.{enrol, elect, advance, close, statement};
+ghost use Rattle.call_answers.specs.Answers.{Answered};
+ghost use Rattle.call_answers.specs.Answers.{AnsweredBy};
 ghost use Rattle.call_more_sun.specs.Asked.{moreSunOrder, additionAnswered};
-ghost use Rattle.advance.specs.Advances.{ticksAnswered};
-ghost use Rattle.close.specs.Closings.{sumsAnswered};
-ghost use Rattle.statement.specs.Stated.{sumsStated};
+ghost use Rattle.call_advance.specs.Advances.{ticksAnswered};
+ghost use Rattle.call_close.specs.Closings.{sumsAnswered};
+ghost use Rattle.call_statement.specs.Stated.{sumsStated};
 ghost use Rattle.ssp.specs.Flat.{interfaceNumber, detailsOf, positionOf, flatClosed, flatSums, flatRead, flatWritten, flatRaised};
 ghost use Rattle.ssp.specs.FlatSun.{flatSun};
 use sheet_more_sun::Addition;
+use sheet_values::Details;
 use units::Rate;
 use units::UserNumber;
 use units::WideKwh;
-use values::Details;
 
 // The number of this interface, SSP_INTERFACE of the header: it rises with each landing that changes a struct or a function.
 const INTERFACE: u32 = 6;
@@ -107,11 +107,11 @@ pub struct Sun {
     pub added: u32,
 }
 
-fn flat_closed(closed: close::Closed) -> Closed
+fn flat_closed(closed: call_close::Closed) -> Closed
     ensures { λ r. ⌜ r ≡ flatClosed (closed .reply .refusal) (closed .reply .record .0) (closed .position) (closed .sums) ⌝ }
 {
     let year = closed.sums;
-    let balance = accounts::signed(year.balance);
+    let balance = account_steps::signed(year.balance);
     Closed {
         refusal: closed.reply.refusal,
         record: closed.reply.record.0,
@@ -127,11 +127,11 @@ fn flat_closed(closed: close::Closed) -> Closed
     }
 }
 
-fn flat_sums(stated: statement::Stated) -> Sums
+fn flat_sums(stated: call_statement::Stated) -> Sums
     ensures { λ r. ⌜ r ≡ flatSums (stated .reply .refusal) (stated .reply .record .0) (stated .sums) ⌝ }
 {
     let sums = stated.sums;
-    let balance = accounts::signed(sums.balance);
+    let balance = account_steps::signed(sums.balance);
     Sums {
         refusal: stated.reply.refusal,
         record: stated.reply.record.0,
@@ -221,7 +221,7 @@ pub extern "C" fn ssp_interface() -> u32
 pub extern "C" fn ssp_fresh(book: &mut [u8]) -> u32
     ensures { λ r. ⌜ (r ≡ freshAnswer (now (book .entry))) × (now (book .exit) ≡ freshAfter (now (book .entry))) ⌝ }
 {
-    soundness::fresh(book)
+    check_book::fresh(book)
 }
 
 #[no_mangle]
@@ -246,7 +246,7 @@ pub extern "C" fn ssp_enrol(
         month,
         island,
     };
-    let said = enrol::enrol(book, UserNumber(number), details, option);
+    let said = call_enrol::enrol(book, UserNumber(number), details, option);
     Booked {
         refusal: said.refusal,
         record: said.record.0,
@@ -264,7 +264,7 @@ pub extern "C" fn ssp_elect(
 ) -> Booked
     ensures { λ r. ⌜ Answered (now (book .entry)) (elect number option year month day) 0 (r .refusal) (r .record) (now (book .exit)) ⌝ }
 {
-    let said = elect::elect(book, UserNumber(number), option, year, month, day);
+    let said = call_elect::elect(book, UserNumber(number), option, year, month, day);
     Booked {
         refusal: said.refusal,
         record: said.record.0,
@@ -284,7 +284,7 @@ pub extern "C" fn ssp_advance(
     ensures { λ r. ⌜ Answered (now (book .entry)) (advance number year run rate estimate1 estimate2) 0 (r .refusal) (r .record) (now (book .exit)) ⌝ }
     ensures { λ r. ⌜ r .ticks ≡ ticksAnswered (now (book .entry)) number year run rate estimate1 estimate2 (r .refusal) .0 ⌝ }
 {
-    let said = advance::advance(
+    let said = call_advance::advance(
         book,
         UserNumber(number),
         year,
@@ -306,7 +306,7 @@ pub extern "C" fn ssp_close(book: &mut [u8], sheet: &[u8]) -> Closed
     ensures { λ r. ⌜ Tells (now (sheet .entry)) (r .refusal) (positionOf (r .month) (r .place)) ⌝ }
     ensures { λ r. ⌜ r ≡ flatClosed (r .refusal) (r .record) (positionOf (r .month) (r .place)) (sumsAnswered (now (book .entry)) (now (sheet .entry)) (r .refusal)) ⌝ }
 {
-    flat_closed(close::close(book, sheet))
+    flat_closed(call_close::close(book, sheet))
 }
 
 #[no_mangle]
@@ -314,7 +314,7 @@ pub extern "C" fn ssp_statement(book: &[u8], number: u32) -> Sums
     ensures { λ r. ⌜ Answered (now (book .entry)) (statement number) 0 (r .refusal) (r .record) (now (book .entry)) ⌝ }
     ensures { λ r. ⌜ r ≡ flatSums (r .refusal) (r .record) (sumsStated (now (book .entry)) number (r .refusal)) ⌝ }
 {
-    flat_sums(statement::statement(book, UserNumber(number)))
+    flat_sums(call_statement::statement(book, UserNumber(number)))
 }
 
 #[no_mangle]

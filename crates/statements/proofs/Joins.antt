@@ -8,12 +8,12 @@ use native.Mathlib.Omega.{arith}
 use lib.IntN.{ℤ, pos, _+ℤ_, +ℤ-idl}
 use mir.Syntax.{w64}
 use mir.Val.{toZ}
-use Rattle.layout.specs.Fields.{recordAt, advanceKind, closingKind}
-use Rattle.accounts.specs.declared.ClosingSums.{ClosingSums}
-use Rattle.records.specs.Records.{advanceIn, closingIn}
-use Rattle.book.specs.Book.{isAdvance, isClosing}
+use Rattle.book_layout.specs.Fields.{recordAt, advanceKind, closingKind}
+use Rattle.account_steps.specs.declared.ClosingSums.{ClosingSums}
+use Rattle.book_records.specs.Records.{advanceIn, closingIn}
+use Rattle.book_rules.specs.Book.{isAdvance, isClosing}
 use Rattle.chains.specs.Statements.{closingPart, advancePart, balancePart, sumOver, sumOverℤ}
-use Rattle.book.proofs.RecordKinds.{kinds-apart}
+use Rattle.book_rules.proofs.RecordKinds.{kinds-apart}
 
 module _ (b : List ℕ) (e : ℕ) (es : List ℕ) where
   -- a closing joins the sums over closings and passes those over advances

@@ -5,12 +5,12 @@ use mathlib.Core.Bool.{true}
 use mathlib.Core.Logic.{⊎-elim}
 use mathlib.Core.List.{List}
 use native.Mathlib.Omega.{arith}
-use Rattle.layout.specs.Fields.{recordAt, advanceKind, closingKind}
-use Rattle.records.specs.Records.{advanceIn, closingIn}
-use Rattle.book.specs.Book.{isAdvance, isClosing, isEntry, kindAt}
-use Rattle.book.proofs.RecordKinds.{has-kind, kind-index, kinds-apart, entry-cases, entry-index}
+use Rattle.book_layout.specs.Fields.{recordAt, advanceKind, closingKind}
+use Rattle.book_records.specs.Records.{advanceIn, closingIn}
+use Rattle.book_rules.specs.Book.{isAdvance, isClosing, isEntry, kindAt}
+use Rattle.book_rules.proofs.RecordKinds.{has-kind, kind-index, kinds-apart, entry-cases, entry-index}
 use Rattle.statements.specs.declared.Sums.{Sums}
-use Rattle.statements.specs.Walk.{closingAdded, advanceAdded, entryAdded}
+use Rattle.statements.specs.InnerWalk.{closingAdded, advanceAdded, entryAdded}
 
 module _ (b : List ℕ) (e kind : ℕ) (entry : isEntry b e ≡ true) (shown : kind ≡ kindAt b e) where
   pub closing-shown : kind ≡ closingKind → isClosing b e ≡ true

@@ -13,19 +13,19 @@ use mir.Val.{ofZ, toZ}
 use mir.Facts.{ofZ-toZ, fits-ofZ}
 use Rattle.units.specs.Units.{ticks}
 use Rattle.units.specs.Limits.{maxContribution, mostYears}
-use Rattle.accounts.proofs.Balances.{signed-back}
-use Rattle.layout.specs.Fields.{recordAt}
-use Rattle.records.specs.declared.AdvanceRecord.{AdvanceRecord}
-use Rattle.accounts.specs.declared.ClosingSums.{ClosingSums}
-use Rattle.records.specs.Records.{advanceIn, closingIn}
-use Rattle.book.specs.Book.{isAdvance, isClosing}
+use Rattle.account_steps.proofs.Balances.{signed-back}
+use Rattle.book_layout.specs.Fields.{recordAt}
+use Rattle.book_records.specs.declared.AdvanceRecord.{AdvanceRecord}
+use Rattle.account_steps.specs.declared.ClosingSums.{ClosingSums}
+use Rattle.book_records.specs.Records.{advanceIn, closingIn}
+use Rattle.book_rules.specs.Book.{isAdvance, isClosing}
 use Rattle.ledger.specs.Ledger.{Statement}
 use Rattle.chains.specs.Statements.{closingPart, advancePart, balancePart, sumOver, sumOverℤ}
 use Rattle.chains.proofs.Sums.{size-before, size-of-sum}
 use Rattle.chains.proofs.Fit.{SumsFit}
 use Rattle.statements.proofs.Joins.{closing-joins, closing-passes, balance-part, advance-joins, advance-passes, advance-keeps-balance}
 use Rattle.statements.specs.declared.Sums.{Sums}
-use Rattle.statements.specs.Walk.{sumsOf, closingAdded, advanceAdded, ClosingRoom, AdvanceRoom}
+use Rattle.statements.specs.InnerWalk.{sumsOf, closingAdded, advanceAdded, ClosingRoom, AdvanceRoom}
 
 pub record Toward (b : List ℕ) (whole : Statement) (es : List ℕ) (s : Sums) : Type 0 where
   pub openYear : s .«open_year» ≡ whole .openYear

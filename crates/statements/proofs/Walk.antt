@@ -7,17 +7,17 @@ use mathlib.Core.List.{List, _∷_}
 use native.Mathlib.Omega.{arith}
 use lib.Dec.{ltb}
 use lib.IntN.{+ℤ-idl}
-use Rattle.book.specs.Book.{lengthFits, sound, isUser, isAdvance, isClosing, accountAt, nextOf, firstEntryOf}
-use Rattle.book.proofs.Faultless.{Faultless}
+use Rattle.book_rules.specs.Book.{lengthFits, sound, isUser, isAdvance, isClosing, accountAt, nextOf, firstEntryOf}
+use Rattle.book_rules.proofs.Faultless.{Faultless}
 use Rattle.ledger.specs.Ledger.{Statement}
-use Rattle.book.specs.Chains.{chainFrom, entriesOf}
+use Rattle.book_rules.specs.Chains.{chainFrom, entriesOf}
 use Rattle.chains.specs.Statements.{closingPart, advancePart, balancePart, sumOver, sumOverℤ, statementAt}
 use Rattle.chains.proofs.Chain.{chain-none}
-use Rattle.book.proofs.RecordKinds.{entry-cases}
+use Rattle.book_rules.proofs.RecordKinds.{entry-cases}
 use Rattle.chains.proofs.Fit.{SumsFit, sums-fit, balance-sizes}
 use Rattle.chains.proofs.Walks.{Ahead, begins, entry-here, ahead-next, chain-here}
 use Rattle.statements.specs.declared.Sums.{Sums}
-use Rattle.statements.specs.Walk.{sumsOf, sumsBefore, entryAdded, EntryRoom}
+use Rattle.statements.specs.InnerWalk.{sumsOf, sumsBefore, entryAdded, EntryRoom}
 use Rattle.statements.proofs.Steps.{closing-entry-added, advance-entry-added}
 use Rattle.statements.proofs.Toward.{Toward, closing-room, advance-room, after-closing, after-advance, arrived}
 

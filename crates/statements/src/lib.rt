@@ -7,16 +7,16 @@ ghost use lib.IntN.{_+ℤ_};
 ghost use lib.Signed.{mag};
 ghost use mir.Syntax.{w64};
 ghost use mir.Val.{toZ};
-ghost use Rattle.layout.specs.Fields.{recordLength};
-ghost use Rattle.accounts.specs.Account.{balanceBits};
-ghost use Rattle.book.specs.Book.{lengthFits, sound, isUser, isEntry, kindAt};
+ghost use Rattle.book_layout.specs.Fields.{recordLength};
+ghost use Rattle.account_steps.specs.Account.{balanceBits};
+ghost use Rattle.book_rules.specs.Book.{lengthFits, sound, isUser, isEntry, kindAt};
 ghost use Rattle.chains.specs.Statements.{statementAt};
-ghost use Rattle.statements.specs.Walk.{sumsOf, sumsBefore, closingAdded, advanceAdded, entryAdded, ClosingRoom, AdvanceRoom, EntryRoom};
-use accounts::Account;
-use accounts::Balance;
-use accounts::ClosingSums;
-use layout::kind;
-use records::AdvanceRecord;
+ghost use Rattle.statements.specs.InnerWalk.{sumsOf, sumsBefore, closingAdded, advanceAdded, entryAdded, ClosingRoom, AdvanceRoom, EntryRoom};
+use account_steps::Account;
+use account_steps::Balance;
+use account_steps::ClosingSums;
+use book_layout::kind;
+use book_records::AdvanceRecord;
 use units::RecordIndex;
 use units::Ticks;
 
@@ -89,12 +89,12 @@ fn with_entry(book: &[u8], at: RecordIndex, kind: u8, sums: Sums) -> Sums
     requires { ⌜ recordLength * at .0 + recordLength ≤ length (now book) ⌝ }
     ensures { λ r. ⌜ r ≡ entryAdded (now (book .entry)) (at .0) sums ⌝ }
 {
-    let r = layout::whole_record(book, at.0 as usize);
+    let r = book_layout::whole_record(book, at.0 as usize);
     if kind == kind::CLOSING {
-        let closing = records::read_closing(r);
+        let closing = book_records::read_closing(r);
         sums.with_closing(closing.sums)
     } else {
-        sums.with_advance(records::read_advance(r))
+        sums.with_advance(book_records::read_advance(r))
     }
 }
 
@@ -123,9 +123,9 @@ pub fn statement_of(book: &[u8], user: RecordIndex) -> Sums
     requires { ⌜ isUser (now book) (user .0) ≡ true ⌝ }
     ensures { λ r. ⌜ r ≡ sumsOf (statementAt (now (book .entry)) (user .0)) ⌝ }
 {
-    let r = layout::record(book, user);
-    let mut sums = sums_before(records::read_account(r));
-    let mut at = layout::first_entry_of(r);
+    let r = book_layout::record(book, user);
+    let mut sums = sums_before(book_records::read_account(r));
+    let mut at = book_layout::first_entry_of(r);
     while at.0 != 0 {
         let link = chain_reader::follow(book, at);
         sums = with_entry(book, at, link.kind, sums);

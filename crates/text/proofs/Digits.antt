@@ -9,7 +9,7 @@ use lib.Dec.{ltb}
 use lib.ListN.{drop}
 use Rattle.decimals.specs.Decimals.{digits, value}
 use Rattle.text.specs.declared.Number.the-variants as number
-use Rattle.text.specs.Text.{numberAt}
+use Rattle.text.specs.InnerText.{numberAt}
 
 pub number-read : (s : List ℕ) (at next n : ℕ) → at < next → n < 2 ^ 64 → next ≡ at + digits (drop at s)
     → n ≡ value (drop at s) → number.Read n next ≡ numberAt s at

@@ -10,7 +10,7 @@ use lib.ListN.{length, getD, set}
 use lib.Seq.{getD-set-same, getD-set-other}
 use Rattle.text.specs.declared.Number.{Number}
 use Rattle.text.specs.declared.Number.the-variants as number
-use Rattle.text.specs.Text.{numberAt, isBlankAt, afterBlank, fieldAt, afterFields}
+use Rattle.text.specs.InnerText.{numberAt, isBlankAt, afterBlank, fieldAt, afterFields}
 
 pub field-none : (s : List ℕ) (at start : ℕ) → start ≡ afterBlank s at → start ≡ at → number.Missing ≡ fieldAt s at
 unfolding afterBlank fieldAt

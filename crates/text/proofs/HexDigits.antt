@@ -9,7 +9,7 @@ use lib.Dec.{leb}
 use lib.ListN.{length, getD}
 use Rattle.units.proofs.Bools.{and-left, and-right}
 use Rattle.decimals.specs.Decimals.{isDigit}
-use Rattle.text.specs.Text.{isHexDigit, hexDigit}
+use Rattle.text.specs.InnerText.{isHexDigit, hexDigit}
 use Rattle.decimals.proofs.Digits.{inside, digit-bounds}
 
 letter : (d : Bool) (x : Bool) → d ≡ false → (d || x) ≡ true → x ≡ true

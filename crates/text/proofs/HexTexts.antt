@@ -11,7 +11,7 @@ use lib.Seq.{getD-drop}
 use Rattle.units.specs.Folds.{allBelow}
 use Rattle.units.proofs.Bools.{and-left, and-right}
 use Rattle.units.proofs.Folds.{all-at}
-use Rattle.text.specs.Text.{isHexDigit, isHex, hexByte}
+use Rattle.text.specs.InnerText.{isHexDigit, isHex, hexByte}
 
 -- the byte at a place of what follows another place
 pub hex-byte-at : (s : List ℕ) (at k : ℕ) → hexByte s (at + k) ≡ hexByte (drop at s) k

@@ -9,7 +9,7 @@ use borrow.Author.Tests.{le-leb}
 use lib.ListN.{length, getD, set, length-set}
 use lib.Seq.{getD-set-same, getD-set-other}
 use Rattle.decimals.specs.Decimals.{isDigit}
-use Rattle.text.specs.Text.{isHexDigit, hexDigit, hexByte, HexSpelt}
+use Rattle.text.specs.InnerText.{isHexDigit, hexDigit, hexByte, HexSpelt}
 use Rattle.text.proofs.HexDigits.{above-nine}
 
 pub digit-to-nine : (n : ℕ) → n < 10 → (isHexDigit (48 + n) ≡ true) × (hexDigit (48 + n) ≡ n)

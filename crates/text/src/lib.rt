@@ -4,7 +4,7 @@ ghost use mathlib.Core.Path.{_≡_};
 ghost use mathlib.Core.Bool.{true};
 ghost use Prim.Native.Nat.{_+_, _*_, _^_, _≤_};
 ghost use lib.ListN.{length, getD, take, drop};
-ghost use Rattle.text.specs.Text.{narrow, isHexDigit, hexDigit, hexByte, isHex, numberAt, NextWithin, afterBlank, fieldAt, wordEnd, FieldsRead, HexRead, HexWritten};
+ghost use Rattle.text.specs.InnerText.{narrow, isHexDigit, hexDigit, hexByte, isHex, numberAt, NextWithin, afterBlank, fieldAt, wordEnd, FieldsRead, HexRead, HexWritten};
 
 // A number that stands at a place, and the place after it.
 pub enum Number {

@@ -1,16 +1,16 @@
 // Answers the lines of outside vectors on standard input; the argument names what they ask: `values`, `table1`, `verdicts` or
 // `listings`. A line that does not ask it is answered `error`.
+use check_book::Verdict;
 use input::Found;
 use listing_text::Listed;
 use output::Row;
-use soundness::Verdict;
+use sheet_values::Details;
+use sheet_values::YearValues;
 use tariff::UNITS_PER_EURO_MWH;
 use text::Bytes;
 use text::Number;
-use values::Details;
-use values::YearValues;
 ghost use lib.ListN.{length};
-ghost use Rattle.vectors.specs.Requests.{SheetWithin};
+ghost use Rattle.vectors.specs.InnerRequests.{SheetWithin};
 
 // What the lines ask.
 enum Question {
@@ -97,7 +97,7 @@ fn answer_sheet(details: Details, s: &[u8]) -> bool {
     if sheet::domestic_excess(details.class, s) {
         return say_refused(14);
     }
-    say_values(values::year_values(s, details))
+    say_values(sheet_values::year_values(s, details))
 }
 
 fn answer_values(line: &[u8]) -> bool {
@@ -133,7 +133,7 @@ fn answer_table1(line: &[u8]) -> bool {
 // named, or `refused 1` where no book has the length.
 
 fn say_verdict(book: &[u8]) -> bool {
-    match soundness::check(book) {
+    match check_book::check(book) {
         Verdict::Length => say_refused(1),
         Verdict::Sound(_) => say_text(b"sound\n"),
         Verdict::Faulty(index) => say(output::put_field(

@@ -1,7 +1,7 @@
 -- By the check of the book.
 use denote.Ref.{now}
 use mathlib.Core.Path.{subst}
-use Rattle.soundness.specs.Verdicts.{BookJudged}
+use Rattle.check_book.specs.Verdicts.{BookJudged}
 use Rattle.account.proofs.Users.{named}
 use borrow.Author.Needs.{needs}
 use Rattle.account.proofs.answer.Statement.{statement}

@@ -4,8 +4,8 @@ use mathlib.Core.Path.{ap, sym, _∙_}
 use Rattle.units.specs.declared.UserNumber.{UserNumber}
 use Rattle.units.specs.Units.{recordIndex}
 use Rattle.sheet.proofs.Limits.{passed-length}
-use Rattle.book.specs.Find.{findUser}
-use Rattle.answers.proofs.Rooms.{found-stands}
+use Rattle.book_rules.specs.Find.{findUser}
+use Rattle.call_answers.proofs.Rooms.{found-stands}
 use Rattle.call_more_sun.proofs.Asking.{leaves-damaged, leaves-unread, leaves-absent, leaves-field, field-met, passed, answers}
 use Rattle.call_more_sun.proofs.Fields.{has, field-stands}
 use borrow.Author.Needs.{needs}

@@ -39,7 +39,7 @@ use denote.Triple.Clauses.{ensured, lasts}
 use Rattle.units.specs.declared.RecordIndex.{RecordIndex}
 use Rattle.units.proofs.RecordIndex as I
 use Rattle.units.proofs.RecordIndex.Laws as I′
-use Rattle.chain_reader.specs.Link.{linkAt}
+use Rattle.chain_reader.specs.InnerLink.{linkAt}
 use Rattle.chain_reader.specs.declared.Chain.{Chain}
 use Rattle.chain_reader.specs.declared.Link.{Link}
 use Rattle.chain_reader.proofs.Chain as T

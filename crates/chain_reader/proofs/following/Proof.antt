@@ -37,7 +37,7 @@ use denote.Triple.Table.{entered, cited}
 use denote.Triple.Walked.{says, Stays, stay-none, walkOf, goes-none, Walks, ends-at, walked, walk-meets}
 use denote.Exit.{yes}
 use denote.Triple.Clauses.{ensured, lasts}
-use Rattle.chain_reader.specs.Link.{linkAt}
+use Rattle.chain_reader.specs.InnerLink.{linkAt}
 use Rattle.chain_reader.specs.declared.Chain.{Chain}
 use Rattle.chain_reader.specs.declared.Link.{Link}
 use Rattle.chain_reader.proofs.Chain as T

@@ -5,9 +5,9 @@ use mathlib.Core.List.{List}
 use borrow.Author.Tests.{leb-true}
 use denote.Ref.{now}
 use lib.ListN.{length}
-use Rattle.layout.specs.Fields.{recordLength, recordAt}
-use Rattle.book.specs.Book.{nextOf, kindAt}
-use Rattle.chain_reader.specs.Link.{linkIn, linkAt}
+use Rattle.book_layout.specs.Fields.{recordLength, recordAt}
+use Rattle.book_rules.specs.Book.{nextOf, kindAt}
+use Rattle.chain_reader.specs.InnerLink.{linkIn, linkAt}
 use borrow.Author.Needs.{needs}
 use Rattle.chain_reader.proofs.link_at.Statement.{statement}
 use Rattle.chain_reader.proofs.link_at.Tie as tie

@@ -1,5 +1,5 @@
 -- The next index and the kind of the record.
-use Rattle.chain_reader.specs.Link.{linkIn}
+use Rattle.chain_reader.specs.InnerLink.{linkIn}
 use borrow.Author.Needs.{needs}
 use Rattle.chain_reader.proofs.link_in.Statement.{statement}
 use Rattle.chain_reader.proofs.link_in.Tie as tie

@@ -3,7 +3,7 @@ use Prim.Native.Nat.{_<_}
 use mathlib.Core.Path.{sym, ap, subst}
 use borrow.Author.Needs.{needs}
 use denote.Ref.{now}
-use Rattle.chain_reader.specs.Link.{linkAt}
+use Rattle.chain_reader.specs.InnerLink.{linkAt}
 use Rattle.listing_text.proofs.Walk.{Walking, begins, user-stands, room-here, next-falls, goes-on, ends}
 use Rattle.listing_text.proofs.lines_of.Statement.{statement}
 use Rattle.listing_text.proofs.lines_of.Tie as tie

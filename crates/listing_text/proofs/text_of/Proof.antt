@@ -1,6 +1,6 @@
 -- By what the check says of the book: one of three texts.
 use denote.Ref.{now}
-use Rattle.book.specs.Chains.{usersOf}
+use Rattle.book_rules.specs.Chains.{usersOf}
 use Rattle.listing_text.specs.Listing.{lines, refused}
 use Rattle.listing_text.proofs.Texts.{refused-length, accepted, listed, refused-faulty, answered}
 use borrow.Author.Needs.{needs}

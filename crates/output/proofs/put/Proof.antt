@@ -2,7 +2,7 @@
 use mathlib.Core.Path.{_≡_}
 use lib.ListN.{length}
 use borrow.Author.Needs.{needs}
-use Rattle.output.specs.Rows.{rowRoom}
+use Rattle.output.specs.InnerRows.{rowRoom}
 use Rattle.output.proofs.Joins.{full, added}
 use Rattle.output.proofs.put.Statement.{statement}
 use Rattle.output.proofs.put.Tie as tie

@@ -5,7 +5,7 @@ use mathlib.Core.List.{List, [], _∷_}
 use native.Mathlib.Omega.{arith}
 use lib.ListN.{length, length-take}
 use borrow.Author.Needs.{needs}
-use Rattle.output.specs.Rows.{rowRoom, textOf, joined, blanks}
+use Rattle.output.specs.InnerRows.{rowRoom, textOf, joined, blanks}
 use Rattle.output.proofs.Joins.{nothing-joined, one-blank-more}
 use Rattle.output.proofs.put_blanks.Statement.{statement}
 use Rattle.output.proofs.put_blanks.Tie as tie

@@ -4,7 +4,7 @@ use native.Mathlib.Omega.{arith}
 use lib.Seq.{length-take-le}
 use borrow.Author.Needs.{needs}
 use Rattle.decimals.proofs.Written.{decimal-short, number-front}
-use Rattle.output.specs.Rows.{joined}
+use Rattle.output.specs.InnerRows.{joined}
 use Rattle.output.proofs.put_number.Statement.{statement}
 use Rattle.output.proofs.put_number.Tie as tie
 

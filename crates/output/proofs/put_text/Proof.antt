@@ -7,7 +7,7 @@ use denote.Ref.{now}
 use lib.ListN.{length, getD, take, length-take}
 use lib.Seq.{take-all}
 use borrow.Author.Needs.{needs}
-use Rattle.output.specs.Rows.{rowRoom, textOf, joined}
+use Rattle.output.specs.InnerRows.{rowRoom, textOf, joined}
 use Rattle.output.proofs.Joins.{nothing-joined, one-more}
 use Rattle.output.proofs.put_text.Statement.{statement}
 use Rattle.output.proofs.put_text.Tie as tie

@@ -5,7 +5,7 @@ use mathlib.Core.Logic.{⊎-elim}
 use native.Mathlib.Omega.{arith}
 use lib.ListN.{length}
 use lib.Seq.{length-take-le}
-use Rattle.output.specs.Rows.{rowRoom}
+use Rattle.output.specs.InnerRows.{rowRoom}
 use borrow.Author.Needs.{needs}
 use Rattle.output.proofs.write_row.Statement.{statement}
 use Rattle.output.proofs.write_row.Tie as tie

@@ -8,7 +8,7 @@ use denote.Ref.{now}
 use lib.ListN.{length}
 use lib.Seq.{length-take-le}
 use types.Run.{miss}
-use Rattle.script.proofs.Within.{new-fits}
+use Rattle.replay_script.proofs.Within.{new-fits}
 use Rattle.replay.proofs.answer.Statement.{statement}
 use Rattle.replay.proofs.answer.Tie as tie
 

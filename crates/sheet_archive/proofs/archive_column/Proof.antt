@@ -9,7 +9,7 @@ use lib.ListN.{length}
 use Rattle.codec.specs.Bytes.{bytesOf, stored}
 use Rattle.sheet_archive.specs.Tables.{headerLength, line}
 use Rattle.sheet_archive.specs.Archive.{differences, inSheet, sheetColumns, sheetMonths}
-use Rattle.sheet_archive.specs.Steps.{columnPlace, before}
+use Rattle.sheet_archive.specs.InnerSteps.{columnPlace, before}
 use Rattle.sheet_archive.proofs.Columns.{before-next, difference-worked}
 use Rattle.sheet_archive.proofs.Writing.{line-begun, line-next, line-again}
 use Rattle.sheet_archive.proofs.archive_column.Statement.{statement}

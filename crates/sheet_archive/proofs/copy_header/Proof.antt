@@ -9,7 +9,7 @@ use lib.ListN.{length, getD}
 use Rattle.codec.specs.Bytes.{part, number, stored}
 use Rattle.codec.proofs.ByteRanges.{Bytes}
 use Rattle.sheet_archive.specs.Tables.{headerLength, header, line}
-use Rattle.sheet_archive.specs.Steps.{Holds, headerWords, headerWord}
+use Rattle.sheet_archive.specs.InnerSteps.{Holds, headerWords, headerWord}
 use Rattle.sheet_archive.proofs.Tables.{line-cong, line-back}
 use Rattle.sheet_archive.proofs.Writing.{line-begun, line-next}
 use Rattle.sheet_archive.proofs.copy_header.Statement.{statement}

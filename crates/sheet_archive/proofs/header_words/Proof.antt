@@ -7,7 +7,7 @@ use borrow.Author.Needs.{needs}
 use denote.Ref.{now}
 use lib.ListN.{length, length-set}
 use Rattle.units.proofs.Filled.{Filled, filled-next}
-use Rattle.sheet_archive.specs.Steps.{headerWords, headerWord}
+use Rattle.sheet_archive.specs.InnerSteps.{headerWords, headerWord}
 use Rattle.sheet_archive.proofs.header_words.Statement.{statement}
 use Rattle.sheet_archive.proofs.header_words.Tie as tie
 

@@ -8,7 +8,7 @@ use denote.Ref.{now}
 use lib.ListN.{length}
 use Rattle.sheet.specs.YearSheet.{sheetLength}
 use Rattle.sheet_archive.specs.Archive.{sheetOf}
-use Rattle.sheet_archive.specs.Steps.{Restored}
+use Rattle.sheet_archive.specs.InnerSteps.{Restored}
 use Rattle.sheet_archive.proofs.Calls.{source-fits, destination-fits, refused-sheet, accepted-sheet}
 use Rattle.sheet_archive.proofs.Restoring.{restored-none, restored-at, restored-whole}
 use Rattle.sheet_archive.proofs.restore.Statement.{statement}

@@ -9,7 +9,7 @@ use lib.ListN.{length}
 use Rattle.codec.proofs.ByteRanges.{Bytes}
 use Rattle.sheet.specs.YearSheet.{sheetLength}
 use Rattle.sheet_archive.specs.Archive.{sheetMonths}
-use Rattle.sheet_archive.specs.Steps.{Restored}
+use Rattle.sheet_archive.specs.InnerSteps.{Restored}
 use Rattle.sheet_archive.proofs.Restoring.{Hold, carried, carried-none, carried-on, month-worked, month-stored, restored-columns}
 use Rattle.sheet_archive.proofs.restore_four.Statement.{statement}
 use Rattle.sheet_archive.proofs.restore_four.Tie as tie

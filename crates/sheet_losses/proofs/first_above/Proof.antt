@@ -4,7 +4,7 @@ use native.Mathlib.Omega.{arith}
 use borrow.Author.Needs.{needs}
 use lib.Dec.{ltb}
 use Rattle.units.specs.Limits.{maxKwh}
-use Rattle.sheet_losses.specs.Steps.{byBand, inWide}
+use Rattle.sheet_losses.specs.InnerSteps.{byBand, inWide}
 use Rattle.sheet_losses.proofs.Months.{first-is-first, first-is-second, first-is-third}
 use Rattle.sheet_losses.proofs.first_above.Statement.{statement}
 use Rattle.sheet_losses.proofs.first_above.Tie as tie

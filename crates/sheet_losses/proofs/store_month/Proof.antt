@@ -3,7 +3,7 @@ use native.Mathlib.Omega.{arith}
 use borrow.Author.Needs.{needs}
 use denote.Ref.{now}
 use Rattle.sheet_losses.specs.Losses.{injectedPlace}
-use Rattle.sheet_losses.specs.Steps.{byBand, inBand}
+use Rattle.sheet_losses.specs.InnerSteps.{byBand, inBand}
 use Rattle.sheet_losses.proofs.Writing.{three-stored}
 use Rattle.sheet_losses.proofs.store_month.Statement.{statement}
 use Rattle.sheet_losses.proofs.store_month.Tie as tie

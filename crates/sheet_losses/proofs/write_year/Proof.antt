@@ -6,7 +6,7 @@ use borrow.Author.Needs.{needs}
 use denote.Ref.{now}
 use lib.ListN.{length}
 use Rattle.sheet_losses.specs.Losses.{withInjected}
-use Rattle.sheet_losses.specs.Steps.{readingsIn}
+use Rattle.sheet_losses.specs.InnerSteps.{readingsIn}
 use Rattle.sheet_losses.proofs.Writing.{none-written, next-written}
 use Rattle.sheet_losses.proofs.write_year.Statement.{statement}
 use Rattle.sheet_losses.proofs.write_year.Tie as tie

@@ -7,7 +7,7 @@ use denote.Ref.{now}
 use lib.ListN.{length}
 use Rattle.sheet_text.specs.Lines.{months, places}
 use Rattle.sheet_text.specs.Reading.{monthFilled, monthsFilled}
-use Rattle.sheet_text.specs.Steps.{yearOf}
+use Rattle.sheet_text.specs.InnerSteps.{yearOf}
 use Rattle.sheet_text.proofs.Filling.{months-none, months-next}
 use Rattle.sheet_text.proofs.fill.Statement.{statement}
 use Rattle.sheet_text.proofs.fill.Tie as tie

@@ -8,7 +8,7 @@ use lib.ListN.{length}
 use Rattle.codec.specs.Bytes.{bytesOf, stored}
 use Rattle.sheet_text.specs.Lines.{places}
 use Rattle.sheet_text.specs.Reading.{monthFilled}
-use Rattle.sheet_text.specs.Steps.{yearOf}
+use Rattle.sheet_text.specs.InnerSteps.{yearOf}
 use Rattle.sheet_text.proofs.Filling.{month-none, month-next}
 use Rattle.sheet_text.proofs.fill_month.Statement.{statement}
 use Rattle.sheet_text.proofs.fill_month.Tie as tie

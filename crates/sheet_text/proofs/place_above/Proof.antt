@@ -4,7 +4,7 @@ use mathlib.Core.Path.{_≡_}
 use native.Mathlib.Omega.{arith}
 use borrow.Author.Needs.{needs}
 use Rattle.sheet_text.specs.Lines.{places}
-use Rattle.sheet_text.specs.Steps.{kwhOf}
+use Rattle.sheet_text.specs.InnerSteps.{kwhOf}
 use Rattle.sheet_text.proofs.Above.{NoneBefore, none-before-first, none-more, above-found, above-none}
 use Rattle.sheet_text.proofs.place_above.Statement.{statement}
 use Rattle.sheet_text.proofs.place_above.Tie as tie

@@ -1,6 +1,6 @@
 -- A line feed behind the sixth, a semicolon behind the others.
 use borrow.Author.Tests.{eq-eqb, ne-eqb}
-use Rattle.sheet_text.specs.Steps.{stopAt}
+use Rattle.sheet_text.specs.InnerSteps.{stopAt}
 use Rattle.sheet_text.proofs.stop_at.Statement.{statement}
 use Rattle.sheet_text.proofs.stop_at.Tie as tie
 

@@ -7,7 +7,7 @@ use borrow.Author.Needs.{needs}
 use lib.ListN.{length, getD, set, length-set}
 use lib.Seq.{getD-set-same, getD-set-other}
 use Rattle.sheet_text.specs.Lines.{places}
-use Rattle.sheet_text.specs.Steps.{kwhOf, yearOf}
+use Rattle.sheet_text.specs.InnerSteps.{kwhOf, yearOf}
 use Rattle.sheet_text.proofs.with_month.Statement.{statement}
 use Rattle.sheet_text.proofs.with_month.Tie as tie
 

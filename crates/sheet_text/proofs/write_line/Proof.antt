@@ -7,7 +7,7 @@ use borrow.Author.Needs.{needs}
 use denote.Ref.{now}
 use Rattle.codec.specs.Bytes.{stored}
 use Rattle.sheet_text.specs.Lines.{places}
-use Rattle.sheet_text.specs.Steps.{kwhOf, numbersTo}
+use Rattle.sheet_text.specs.InnerSteps.{kwhOf, numbersTo}
 use Rattle.sheet_text.proofs.LineWriting.{line-length, line-written}
 use Rattle.sheet_text.proofs.write_line.Statement.{statement}
 use Rattle.sheet_text.proofs.write_line.Tie as tie

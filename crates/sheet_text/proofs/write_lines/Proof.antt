@@ -10,7 +10,7 @@ use Rattle.codec.specs.Bytes.{stored}
 use Rattle.codec.proofs.Pieces.{stored-none}
 use Rattle.sheet.specs.YearSheet.{word}
 use Rattle.sheet_text.specs.Lines.{months, line, lines}
-use Rattle.sheet_text.specs.Steps.{kwhOf}
+use Rattle.sheet_text.specs.InnerSteps.{kwhOf}
 use Rattle.sheet_text.proofs.LineWriting.{line-same, lines-none, lines-length, lines-room, year-room, lines-written}
 use Rattle.sheet_text.proofs.SheetAbove.{sizes-of, sheet-within}
 use Rattle.sheet_text.proofs.write_lines.Statement.{statement}

@@ -10,7 +10,7 @@ use Rattle.codec.specs.Bytes.{stored}
 use Rattle.codec.proofs.Pieces.{stored-none}
 use Rattle.decimals.specs.Decimals.{field}
 use Rattle.sheet_text.specs.Lines.{places}
-use Rattle.sheet_text.specs.Steps.{kwhOf, stopAt, numbersTo}
+use Rattle.sheet_text.specs.InnerSteps.{kwhOf, stopAt, numbersTo}
 use Rattle.sheet_text.proofs.LineWriting.{numbers-none, numbers-room, numbers-length, numbers-written}
 use Rattle.sheet_text.proofs.write_numbers.Statement.{statement}
 use Rattle.sheet_text.proofs.write_numbers.Tie as tie

@@ -4,12 +4,12 @@ use mathlib.Core.Path.{_≡_, ap, sym, subst, subst₂, _∙_}
 use mathlib.Core.List.{List}
 use denote.Ref.{now}
 use lib.ListN.{length}
-use Rattle.layout.proofs.Places.{length-record}
-use Rattle.layout.specs.Fields.{get, firstEntryField}
-use Rattle.records.specs.Records.{accountIn}
-use Rattle.book.specs.Book.{accountAt, firstEntryOf}
-use Rattle.chain_reader.specs.Link.{linkAt}
-use Rattle.statements.specs.Walk.{sumsBefore}
+use Rattle.book_layout.proofs.Places.{length-record}
+use Rattle.book_layout.specs.Fields.{get, firstEntryField}
+use Rattle.book_records.specs.Records.{accountIn}
+use Rattle.book_rules.specs.Book.{accountAt, firstEntryOf}
+use Rattle.chain_reader.specs.InnerLink.{linkAt}
+use Rattle.statements.specs.InnerWalk.{sumsBefore}
 use Rattle.chains.proofs.Walks.{user-whole, entry-here, entry-whole, next-falls}
 use Rattle.statements.proofs.Walk.{Walking, starts, entry-room, turned, ends}
 use borrow.Author.Needs.{needs}

@@ -1,6 +1,6 @@
 -- Field by field.
 use mathlib.Core.Path.{refl}
-use Rattle.statements.specs.Walk.{sumsBefore}
+use Rattle.statements.specs.InnerWalk.{sumsBefore}
 use borrow.Author.Needs.{needs}
 use Rattle.statements.proofs.sums_before.Statement.{statement}
 use Rattle.statements.proofs.sums_before.Tie as tie

@@ -2,11 +2,11 @@
 use mathlib.Core.Path.{ap, sym, subst, _∙_}
 use denote.Ref.{now}
 use lib.ListN.{length}
-use Rattle.layout.proofs.Places.{length-record}
-use Rattle.records.specs.Records.{advanceIn, closingIn}
-use Rattle.statements.specs.Walk.{closingAdded, advanceAdded, ClosingRoom, AdvanceRoom}
+use Rattle.book_layout.proofs.Places.{length-record}
+use Rattle.book_records.specs.Records.{advanceIn, closingIn}
+use Rattle.statements.specs.InnerWalk.{closingAdded, advanceAdded, ClosingRoom, AdvanceRoom}
 use Rattle.statements.proofs.Steps.{closing-shown, advance-shown, closing-entry-added, advance-entry-added}
-use Rattle.records.specs.declared.ClosingRecord.{ClosingRecord}
+use Rattle.book_records.specs.declared.ClosingRecord.{ClosingRecord}
 use borrow.Author.Needs.{needs}
 use Rattle.statements.proofs.with_entry.Statement.{statement}
 use Rattle.statements.proofs.with_entry.Tie as tie

@@ -4,7 +4,7 @@ use mathlib.Core.Path.{_∙_, sym}
 use lib.ListN.{getD}
 use denote.Ref.{now}
 use borrow.Author.Tests.{eq-eqb, ne-eqb}
-use Rattle.text.specs.Text.{afterBlank}
+use Rattle.text.specs.InnerText.{afterBlank}
 use Rattle.decimals.proofs.Digits.{inside}
 use borrow.Author.Needs.{needs}
 use Rattle.text.proofs.after_blank.Statement.{statement}

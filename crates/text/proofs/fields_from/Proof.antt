@@ -7,7 +7,7 @@ use borrow.Author.Needs.{needs}
 use denote.Ref.{now}
 use lib.ListN.{length, length-set}
 use Rattle.text.specs.declared.Number.the-variants as number
-use Rattle.text.specs.Text.{afterFields}
+use Rattle.text.specs.InnerText.{afterFields}
 use Rattle.text.proofs.Fields.{Each, no-fields, field-more, each-more}
 use Rattle.text.proofs.fields_from.Statement.{statement}
 use Rattle.text.proofs.fields_from.Tie as tie

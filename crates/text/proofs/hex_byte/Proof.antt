@@ -2,7 +2,7 @@
 use mathlib.Core.Path.{ap, _∙_}
 use native.Mathlib.Omega.{arith}
 use denote.Ref.{now}
-use Rattle.text.specs.Text.{isHexDigit, hexDigit, hexByte}
+use Rattle.text.specs.InnerText.{isHexDigit, hexDigit, hexByte}
 use Rattle.text.proofs.HexDigits.{hex-inside}
 use borrow.Author.Needs.{needs}
 use Rattle.text.proofs.hex_byte.Statement.{statement}

@@ -10,7 +10,7 @@ use denote.Ref.{now}
 use lib.ListN.{length, getD, drop, length-set}
 use lib.Seq.{getD-set-other}
 use Rattle.units.proofs.Filled.{Filled, filled-next}
-use Rattle.text.specs.Text.{isHex, hexByte}
+use Rattle.text.specs.InnerText.{isHex, hexByte}
 use Rattle.text.proofs.HexTexts.{hex-byte-at, hex-count, hex-room, hex-turn}
 use Rattle.text.proofs.hex_from.Statement.{statement}
 use Rattle.text.proofs.hex_from.Tie as tie

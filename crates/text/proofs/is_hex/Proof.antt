@@ -8,7 +8,7 @@ use lib.ListN.{length, getD, drop, length-drop}
 use lib.Seq.{getD-drop}
 use Rattle.units.specs.Folds.{allBelow}
 use Rattle.units.proofs.Folds.{all-zero, all-next}
-use Rattle.text.specs.Text.{isHexDigit, isHex}
+use Rattle.text.specs.InnerText.{isHexDigit, isHex}
 use Rattle.text.proofs.is_hex.Statement.{statement}
 use Rattle.text.proofs.is_hex.Tie as tie
 

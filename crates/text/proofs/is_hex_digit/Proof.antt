@@ -1,5 +1,5 @@
 -- The rule, test by test.
-use Rattle.text.specs.Text.{isHexDigit}
+use Rattle.text.specs.InnerText.{isHexDigit}
 use borrow.Author.Needs.{needs}
 use Rattle.text.proofs.is_hex_digit.Statement.{statement}
 use Rattle.text.proofs.is_hex_digit.Tie as tie

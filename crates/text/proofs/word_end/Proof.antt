@@ -9,7 +9,7 @@ use borrow.Author.Tests.{eq-eqb, ne-eqb}
 use denote.Ref.{now}
 use lib.ListN.{length, getD, drop-of-length-le}
 use lib.Seq.{drop-cons}
-use Rattle.text.specs.Text.{wordLength, wordEnd}
+use Rattle.text.specs.InnerText.{wordLength, wordEnd}
 use Rattle.text.proofs.word_end.Statement.{statement}
 use Rattle.text.proofs.word_end.Tie as tie
 

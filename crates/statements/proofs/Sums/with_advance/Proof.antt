@@ -2,7 +2,7 @@
 use mathlib.Core.Logic.{⊎-elim}
 use native.Mathlib.Nat.{add-zero}
 use borrow.Author.Tests.{lt-ltb, le-ltb}
-use Rattle.statements.specs.Walk.{advanceAdded}
+use Rattle.statements.specs.InnerWalk.{advanceAdded}
 use borrow.Author.Needs.{needs}
 use Rattle.statements.proofs.Sums.with_advance.Statement.{statement}
 use Rattle.statements.proofs.Sums.with_advance.Tie as tie

@@ -1,5 +1,5 @@
 -- Each sum by its own room, and the balance by `joined`.
-use Rattle.statements.specs.Walk.{closingAdded}
+use Rattle.statements.specs.InnerWalk.{closingAdded}
 use borrow.Author.Needs.{needs}
 use Rattle.statements.proofs.Sums.with_closing.Statement.{statement}
 use Rattle.statements.proofs.Sums.with_closing.Tie as tie

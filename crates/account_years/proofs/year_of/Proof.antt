@@ -1,0 +1,67 @@
+-- Field by field.
+use Prim.Native.Nat.{_+_}
+use mathlib.Core.Path.{ap}
+use native.Mathlib.Omega.{arith}
+use denote.Ref.{now}
+use Rattle.account_years.proofs.Years.{year-room, year-is}
+use borrow.Author.Needs.{needs}
+use borrow.Author.Needs.{needs}
+use Rattle.account_years.proofs.year_of.Statement.{statement}
+use Rattle.account_years.proofs.year_of.Tie as tie
+
+activation-of-requires : tie.Need-activation-of-requires
+activation-of-requires c κs = search needs
+
+add-year : tie.Need-add-year
+add-year c =
+    let s = c .before .before in
+    let a = s .args in
+    record { fits = rw (c .activation-of .ensures) (year-room (now (a .book)) (a .user .0) (a .n) (s .pre .0) (s .pre .1 .0) (s .pre .1 .1 .0) (omega (arith, s .pre .1 .1 .1))) }
+
+closing-after-requires : tie.Need-closing-after-requires
+closing-after-requires c κs =
+    let p = c .before .before .pre in
+    (p .0, (p .1 .0, (p .1 .1 .0, omega (arith, p .1 .1 .1))))
+
+record-requires : tie.Need-record-requires
+record-requires c κs = search needs
+
+closing-of-requires : tie.Need-closing-of-requires
+closing-of-requires c κs = search needs
+
+advances-of-requires : tie.Need-advances-of-requires
+advances-of-requires c κs =
+    let p = c .before .before .before .before .before .pre in
+    (p .0, (p .1 .0, p .1 .1 .0))
+
+add-credit-after-years : tie.Need-add-credit-after-years
+add-credit-after-years c = search needs
+
+credit-after-years-requires : tie.Need-credit-after-years-requires
+credit-after-years-requires c κs =
+    let p = c .before .before .before .before .before .before .pre in
+    (p .0, (p .1 .0, (p .1 .1 .0, omega (arith, p .1 .1 .1))))
+
+returns : tie.Need-returns
+returns c =
+    let a = c .before .before .before .before .before .before .before .before .before .before .before .before .before .before .before .args in
+    let b = now (a .book) in
+    let entry = c .before .before .before .before .before .before .before .before .before .before .before .before .closing-after in
+    let bytes = c .before .before .before .before .before .before .before .before .before .before .before .«record» in
+    let closing = c .before .before .before .before .before .before .before .before .before .before .closing-of in
+    let year = ap (λ y. y + a .n) (c .before .before .before .before .before .before .before .before .before .before .before .before .before .activation-of .ensures) in
+    year-is b (a .user .0) (a .n) (c .before .before .before .before .before .before .before .before .before .before .before .before .before .activation-of .result + a .n) year (entry .result) (entry .ensures) (now (bytes .result)) (bytes .ensures) (closing .result) (closing .ensures) (c .before .before .before .before .before .before .before .before .before .advances-of .result) (c .before .before .before .before .before .before .before .before .credit-after-years .result) (c .before .before .before .before .before .before .before .before .before .advances-of .ensures) (c .before .before .before .before .before .before .before .before .credit-after-years .ensures)
+
+pub year-of-spec : {M : Type 1} → statement M
+year-of-spec =
+    tie.close
+    (tie.spec
+    activation-of-requires
+    add-year
+    closing-after-requires
+    record-requires
+    closing-of-requires
+    advances-of-requires
+    add-credit-after-years
+    credit-after-years-requires
+    returns)

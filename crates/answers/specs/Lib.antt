@@ -1,4 +1,0 @@
-pub mod Answers
-pub mod Looks
-pub mod Replies
-pub mod Rooms

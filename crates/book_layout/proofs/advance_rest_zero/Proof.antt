@@ -1,0 +1,22 @@
+-- Each stretch of zeros of the list.
+use mathlib.Core.Bool.{and-true}
+use Rattle.book_layout.specs.Fields.{allZero}
+use borrow.Author.Needs.{needs}
+use Rattle.book_layout.proofs.advance_rest_zero.Statement.{statement}
+use Rattle.book_layout.proofs.advance_rest_zero.Tie as tie
+
+zeros-requires : tie.Need-zeros-requires
+zeros-requires c κs = search needs
+
+zeros-requires-2 : tie.Need-zeros-requires-2
+zeros-requires-2 c κs = search needs
+
+zeros-requires-3 : tie.Need-zeros-requires-3
+zeros-requires-3 c κs = search needs
+
+returns : tie.Need-returns
+unfolding allZero
+returns c = simp (and-true, c .before .before .zeros .ensures, c .before .zeros2 .ensures, c .zeros3 .ensures)
+
+pub advance-rest-zero-spec : {M : Type 1} → statement M
+advance-rest-zero-spec = tie.close (tie.spec zeros-requires zeros-requires-2 zeros-requires-3 returns)

@@ -1,0 +1,131 @@
+-- The cells are written in their order. Each name stands for the place after its field is written.
+use Rattle.book_layout.specs.Fields.{written}
+use Rattle.book_records.specs.Records.{userImage}
+use borrow.Author.Needs.{needs}
+use Rattle.book_records.proofs.user_image.Statement.{statement}
+use Rattle.book_records.proofs.user_image.Tie as tie
+
+put-u32-requires : tie.Need-put-u32-requires
+put-u32-requires c κs = search needs
+
+put-u8-requires : tie.Need-put-u8-requires
+put-u8-requires c κs = search needs
+
+put-u8-requires-2 : tie.Need-put-u8-requires-2
+put-u8-requires-2 c κs = search needs
+
+put-u8-requires-3 : tie.Need-put-u8-requires-3
+put-u8-requires-3 c κs = search needs
+
+put-u8-requires-4 : tie.Need-put-u8-requires-4
+put-u8-requires-4 c κs = search needs
+
+put-u32-requires-2 : tie.Need-put-u32-requires-2
+put-u32-requires-2 c κs = search needs
+
+put-u32-requires-3 : tie.Need-put-u32-requires-3
+put-u32-requires-3 c κs = search needs
+
+put-u32-requires-4 : tie.Need-put-u32-requires-4
+put-u32-requires-4 c κs = search needs
+
+put-u16-requires : tie.Need-put-u16-requires
+put-u16-requires c κs = search needs
+
+put-u8-requires-5 : tie.Need-put-u8-requires-5
+put-u8-requires-5 c κs = search needs
+
+put-u8-requires-6 : tie.Need-put-u8-requires-6
+put-u8-requires-6 c κs = search needs
+
+put-u16-requires-2 : tie.Need-put-u16-requires-2
+put-u16-requires-2 c κs = search needs
+
+put-u8-requires-7 : tie.Need-put-u8-requires-7
+put-u8-requires-7 c κs = search needs
+
+put-u64-requires : tie.Need-put-u64-requires
+put-u64-requires c κs = search needs
+
+put-u64-requires-2 : tie.Need-put-u64-requires-2
+put-u64-requires-2 c κs = search needs
+
+put-u32-requires-5 : tie.Need-put-u32-requires-5
+put-u32-requires-5 c κs = search needs
+
+put-u32-requires-6 : tie.Need-put-u32-requires-6
+put-u32-requires-6 c κs = search needs
+
+put-u8-requires-8 : tie.Need-put-u8-requires-8
+put-u8-requires-8 c κs = search needs
+
+put-u64-requires-3 : tie.Need-put-u64-requires-3
+put-u64-requires-3 c κs = search needs
+
+returns : tie.Need-returns
+unfolding userImage written
+returns c =
+    let later-runs = c .before in
+    let half2 = later-runs .before in
+    let half1 = half2 .before in
+    let advances = half1 .before in
+    let credit = advances .before in
+    let runs = credit .before in
+    let open-year = runs .before in
+    let island = open-year .before in
+    let month = island .before in
+    let year = month .before in
+    let power = year .before in
+    let first = power .before in
+    let number = first .before in
+    let option = number .before in
+    let plant = option .before in
+    let class = plant .before in
+    let kind = class .before in
+    let next = kind .before in
+    rw (
+      c .put-u643 .ensures,
+      later-runs .put-u88 .ensures,
+      half2 .put-u326 .ensures,
+      half1 .put-u325 .ensures,
+      advances .put-u642 .ensures,
+      credit .put-u64 .ensures,
+      runs .put-u87 .ensures,
+      open-year .put-u162 .ensures,
+      island .put-u86 .ensures,
+      month .put-u85 .ensures,
+      year .put-u16 .ensures,
+      power .put-u324 .ensures,
+      first .put-u323 .ensures,
+      number .put-u322 .ensures,
+      option .put-u84 .ensures,
+      plant .put-u83 .ensures,
+      class .put-u82 .ensures,
+      kind .put-u8 .ensures,
+      next .put-u32 .ensures,
+    )
+
+pub user-image-spec : {M : Type 1} → statement M
+user-image-spec =
+    tie.close
+    (tie.spec
+    put-u32-requires
+    put-u8-requires
+    put-u8-requires-2
+    put-u8-requires-3
+    put-u8-requires-4
+    put-u32-requires-2
+    put-u32-requires-3
+    put-u32-requires-4
+    put-u16-requires
+    put-u8-requires-5
+    put-u8-requires-6
+    put-u16-requires-2
+    put-u8-requires-7
+    put-u64-requires
+    put-u64-requires-2
+    put-u32-requires-5
+    put-u32-requires-6
+    put-u8-requires-8
+    put-u64-requires-3
+    returns)

@@ -1,0 +1,16 @@
+-- The rule, test by test.
+use mathlib.Core.Path.{refl}
+use Rattle.book_rules.specs.Book.{bookedFits}
+use borrow.Author.Needs.{needs}
+use Rattle.book_rules.proofs.booked_fits.Statement.{statement}
+use Rattle.book_rules.proofs.booked_fits.Tie as tie
+
+add-result : tie.Need-add-result
+add-result c = search needs
+
+returns : tie.Need-returns
+unfolding bookedFits
+returns c = refl
+
+pub booked-fits-spec : {M : Type 1} → statement M
+booked-fits-spec = tie.close (tie.spec add-result returns)

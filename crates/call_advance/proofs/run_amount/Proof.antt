@@ -1,0 +1,39 @@
+-- Each half's energy is in range, and the amount is that of the definition.
+use Rattle.call_advance.proofs.Runs.{run-within, run-paid}
+use borrow.Author.Needs.{needs}
+use Rattle.call_advance.proofs.run_amount.Statement.{statement}
+use Rattle.call_advance.proofs.run_amount.Tie as tie
+
+half-or-estimate-requires : tie.Need-half-or-estimate-requires
+half-or-estimate-requires c κs = search needs
+
+half-or-estimate-requires-2 : tie.Need-half-or-estimate-requires-2
+half-or-estimate-requires-2 c κs = search needs
+
+cast-halves-in : tie.Need-cast-halves-in
+cast-halves-in c = search needs
+
+halves-in-requires : tie.Need-halves-in-requires
+halves-in-requires c κs = search needs
+
+amount-of-requires : tie.Need-amount-of-requires
+amount-of-requires c κs =
+    let s = c .before .before .before in
+    let a = s .args in
+    run-within (a .a) (a .price .0) (a .estimate1 .0) (a .estimate2 .0) (s .pre .0 .1) (s .pre .1) (c .before .before .half-or-estimate .result .0) (c .before .half-or-estimate2 .result .0) (c .before .before .half-or-estimate .ensures) (c .before .half-or-estimate2 .ensures)
+
+returns : tie.Need-returns
+returns c =
+    let a = c .before .before .before .before .args in
+    run-paid (a .a) (a .price .0) (a .estimate1 .0) (a .estimate2 .0) (a .year) (a .run) (c .before .before .before .half-or-estimate .result .0) (c .before .before .half-or-estimate2 .result .0) (c .before .before .before .half-or-estimate .ensures) (c .before .before .half-or-estimate2 .ensures) (c .before .halves-in .result) (c .before .halves-in .ensures) (c .amount-of .result) (c .amount-of .ensures .0)
+
+pub run-amount-spec : {M : Type 1} → statement M
+run-amount-spec =
+    tie.close
+    (tie.spec
+    half-or-estimate-requires
+    half-or-estimate-requires-2
+    cast-halves-in
+    halves-in-requires
+    amount-of-requires
+    returns)

@@ -1,0 +1,4 @@
+pub mod Answers
+pub mod InnerLooks
+pub mod Replies
+pub mod InnerRooms

@@ -1,0 +1,216 @@
+-- By the look at the book, the sheet's header, the user found, then the other rules of a closing.
+use native.Mathlib.Omega.{arith}
+use denote.Ref.{now}
+use lib.ListN.{length}
+use mathlib.Core.Path.{ap, sym, _∙_}
+use Rattle.units.specs.declared.UserNumber.{UserNumber}
+use Rattle.units.specs.Units.{recordIndex}
+use Rattle.sheet.proofs.Limits.{passed-length}
+use Rattle.sheet.proofs.Faults.{untold-before}
+use Rattle.book_rules.specs.Find.{findUser}
+use Rattle.call_rules.specs.Calls as calls
+use Rattle.call_answers.proofs.Answers.{damaged}
+use Rattle.call_answers.proofs.Rooms.{found-stands}
+use Rattle.call_close.proofs.Closing.{leaves, leaves-early, close-unread, close-absent, close-refused, close-booked, passed, year-fits}
+use borrow.Author.Needs.{needs}
+use Rattle.call_close.proofs.close.Statement.{statement}
+use Rattle.call_close.proofs.close.Tie as tie
+
+user-requires : tie.Need-user-requires
+user-requires c κs = search needs
+
+look-requires : tie.Need-look-requires
+look-requires c κs = search needs
+
+without-sums-requires : tie.Need-without-sums-requires
+without-sums-requires c κs = search needs
+
+same-length : tie.Need-same-length
+same-length c = search needs
+
+returns : tie.Need-returns
+returns c =
+    let looked = c .before .before .before .before .look in
+    let a = c .before .before .before .before .before .before .before .before .before .args in
+    let b = now (a .book) in
+    let s = now (a .s) in
+    let some = c .before .if1 .taken in
+    leaves b s (looked .result .reply) _ some (damaged b (calls.close s) 0 (looked .ensures) some) (untold-before s _ (omega (arith, looked .ensures .to-2))) (c .without-sums .result) (c .without-sums .ensures)
+
+header-wrong-requires : tie.Need-header-wrong-requires
+header-wrong-requires c κs = search needs
+
+refused-requires : tie.Need-refused-requires
+refused-requires c κs = search needs
+
+without-sums-requires-2 : tie.Need-without-sums-requires-2
+without-sums-requires-2 c κs = search needs
+
+same-length-2 : tie.Need-same-length-2
+same-length-2 c = search needs
+
+returns-2 : tie.Need-returns-2
+returns-2 c =
+    let h = c .before .before .before in
+    let a = h .before .before .before .before .before .before .before .before .before .args in
+    let b = now (a .book) in
+    let s = now (a .s) in
+    let looked = h .before .before .before .before .look .ensures in
+    let none = h .before .if1 .left in
+    let reply = c .before .refused in
+    leaves-early b s 11 (omega arith) (omega arith) (reply .result) (reply .ensures)
+    (close-unread b s (looked .is-sound none) (sym (h .header-wrong .ensures) ∙ c .before .before .if2 .taken) (reply .result) (reply .ensures)) (c .without-sums2 .result) (c .without-sums2 .ensures)
+
+refused-requires-2 : tie.Need-refused-requires-2
+refused-requires-2 c κs = search needs
+
+without-sums-requires-3 : tie.Need-without-sums-requires-3
+without-sums-requires-3 c κs = search needs
+
+same-length-3 : tie.Need-same-length-3
+same-length-3 c = search needs
+
+returns-3 : tie.Need-returns-3
+returns-3 c =
+    let h = c .before .before .before .before .before in
+    let a = h .before .before .before .before .before .before .before .before .before .before .args in
+    let b = now (a .book) in
+    let s = now (a .s) in
+    let looked = h .before .before .before .before .before .look .ensures in
+    let none = h .before .before .if1 .left in
+    let right = sym (h .before .header-wrong .ensures) ∙ h .if2 .left in
+    let there = looked .found none ∙ ap (λ (n : UserNumber). recordIndex (findUser b (n .0))) (h .before .before .before .before .before .before .user .ensures) in
+    let reply = c .before .refused2 in
+    leaves-early b s 6 (omega arith) (omega arith) (reply .result) (reply .ensures) (close-absent b s (looked .is-sound none) right _ there (c .before .before .if3 .taken) (reply .result) (reply .ensures))
+    (c .without-sums3 .result) (c .without-sums3 .ensures)
+
+account-at-requires : tie.Need-account-at-requires
+account-at-requires c κs =
+    let looked = c .before .before .before .before .before .before .before .before .before .look .ensures in
+    let none = c .before .before .before .before .before .before .if1 .left in
+    found-stands (now (c .before .before .before .before .before .before .before .before .before .before .before .before .before .before .args .book)) (looked .is-sound none) _ _ (looked .found none)
+
+has-room-requires : tie.Need-has-room-requires
+has-room-requires c κs = search needs
+
+whole-requires : tie.Need-whole-requires
+whole-requires c κs = passed-length (now (c .before .before .before .before .before .before .before .before .before .before .before .before .before .before .before .before .before .args .s)) (sym (c .before .before .before .before .before .before .before .before .header-wrong .ensures) ∙ c .before .before .before .before .before .before .before .if2 .left)
+
+close-objection-requires : tie.Need-close-objection-requires
+close-objection-requires c κs =
+    ap length (c .whole .ensures) ∙ passed-length (now (c .before .before .before .before .before .before .before .before .before .before .before .before .before .before .before .before .before .before .args .s)) (sym (c .before .before .before .before .before .before .before .before .before .header-wrong .ensures) ∙ c .before .before .before .before .before .before .before .before .if2 .left)
+
+refused-requires-3 : tie.Need-refused-requires-3
+refused-requires-3 c κs = search needs
+
+without-sums-requires-4 : tie.Need-without-sums-requires-4
+without-sums-requires-4 c κs = search needs
+
+same-length-4 : tie.Need-same-length-4
+same-length-4 c = search needs
+
+returns-4 : tie.Need-returns-4
+returns-4 c =
+    let q = c .before .before .before .before in
+    let h = q .before .before .before .before .before .before .before .before .before in
+    let a = h .before .before .before .before .before .before .before .before .before .before .args in
+    let b = now (a .book) in
+    let s = now (a .s) in
+    let looked = h .before .before .before .before .before .look .ensures in
+    let none = h .before .before .if1 .left in
+    let right = sym (h .before .header-wrong .ensures) ∙ h .if2 .left in
+    let there = looked .found none ∙ ap (λ (n : UserNumber). recordIndex (findUser b (n .0))) (h .before .before .before .before .before .before .user .ensures) in
+    let read = q .before .before .before .before .account-at in
+    let left = q .before .before .has-room in
+    let judged = q .close-objection in
+    let reply = c .before .refused3 in
+    close-refused b s (looked .is-sound none) right _ there (q .before .before .before .before .before .before .if3 .left) (read .result) (read .ensures) (left .result) (left .ensures) _ (q .before .whole .ensures) (judged .result .refusal) (judged .ensures .0)
+    (c .before .before .if4 .taken) (judged .result .position) (judged .ensures .1) (reply .result) (reply .ensures) (c .without-sums4 .result) (c .without-sums4 .ensures)
+
+year-values-requires : tie.Need-year-values-requires
+year-values-requires c κs =
+    let q = c .before .before in
+    let h = q .before .before .before .before .before .before .before .before .before in
+    let a = h .before .before .before .before .before .before .before .before .before .before .args in
+    let b = now (a .book) in
+    let s = now (a .s) in
+    let looked = h .before .before .before .before .before .look .ensures in
+    let none = h .before .before .if1 .left in
+    let right = sym (h .before .header-wrong .ensures) ∙ h .if2 .left in
+    let there = looked .found none ∙ ap (λ (n : UserNumber). recordIndex (findUser b (n .0))) (h .before .before .before .before .before .before .user .ensures) in
+    let read = q .before .before .before .before .account-at in
+    let left = q .before .before .has-room in
+    let judged = q .close-objection in
+    passed b s (looked .is-sound none) right _ there (q .before .before .before .before .before .before .if3 .left) (read .result) (read .ensures) (left .result) (left .ensures) _ (q .before .whole .ensures) (judged .result .refusal) (judged .ensures .0)
+    (c .if4 .left)
+
+book-year-requires : tie.Need-book-year-requires
+book-year-requires c κs =
+    let q = c .before .before .before .before in
+    let h = q .before .before .before .before .before .before .before .before .before in
+    let a = h .before .before .before .before .before .before .before .before .before .before .args in
+    let b = now (a .book) in
+    let s = now (a .s) in
+    let looked = h .before .before .before .before .before .look .ensures in
+    let none = h .before .before .if1 .left in
+    let right = sym (h .before .header-wrong .ensures) ∙ h .if2 .left in
+    let there = looked .found none ∙ ap (λ (n : UserNumber). recordIndex (findUser b (n .0))) (h .before .before .before .before .before .before .user .ensures) in
+    let read = q .before .before .before .before .account-at in
+    let left = q .before .before .has-room in
+    let judged = q .close-objection in
+    let values = c .before .year-values in
+    year-fits b s (looked .is-sound none) right _ there (q .before .before .before .before .before .before .if3 .left) (read .result) (read .ensures) (left .result) (left .ensures) _ (q .before .whole .ensures) (judged .result .refusal) (judged .ensures .0)
+    (c .before .before .if4 .left) (values .result) (values .ensures)
+
+same-length-5 : tie.Need-same-length-5
+same-length-5 c = search needs
+
+returns-5 : tie.Need-returns-5
+returns-5 c =
+    let q = c .before .before .before .before .before .before .before in
+    let h = q .before .before .before .before .before .before .before .before .before in
+    let a = h .before .before .before .before .before .before .before .before .before .before .args in
+    let b = now (a .book) in
+    let s = now (a .s) in
+    let looked = h .before .before .before .before .before .look .ensures in
+    let none = h .before .before .if1 .left in
+    let right = sym (h .before .header-wrong .ensures) ∙ h .if2 .left in
+    let there = looked .found none ∙ ap (λ (n : UserNumber). recordIndex (findUser b (n .0))) (h .before .before .before .before .before .before .user .ensures) in
+    let read = q .before .before .before .before .account-at in
+    let left = q .before .before .has-room in
+    let judged = q .close-objection in
+    let values = c .before .before .before .before .year-values in
+    let booked = c .before .before .book-year in
+    close-booked b s (looked .is-sound none) right _ there (q .before .before .before .before .before .before .if3 .left) (read .result) (read .ensures) (left .result) (left .ensures) _ (q .before .whole .ensures) (judged .result .refusal) (judged .ensures .0)
+    (c .before .before .before .before .before .if4 .left) (values .result) (values .ensures) _ (booked .ensures .0) (booked .result) (booked .ensures .1)
+
+pub close-spec : {M : Type 1} → statement M
+close-spec =
+    tie.close
+    (tie.spec
+    user-requires
+    look-requires
+    without-sums-requires
+    same-length
+    returns
+    header-wrong-requires
+    refused-requires
+    without-sums-requires-2
+    same-length-2
+    returns-2
+    refused-requires-2
+    without-sums-requires-3
+    same-length-3
+    returns-3
+    account-at-requires
+    has-room-requires
+    whole-requires
+    close-objection-requires
+    refused-requires-3
+    without-sums-requires-4
+    same-length-4
+    returns-4
+    year-values-requires
+    book-year-requires
+    same-length-5
+    returns-5)

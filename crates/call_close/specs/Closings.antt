@@ -1,0 +1,42 @@
+-- What a closing answers: "close the entry's sums", and zeros beside a refusal. And what must hold where a year is booked.
+use Prim.Native.Nat.{ℕ}
+use mathlib.Core.Bool.{cond}
+use mathlib.Core.List.{List}
+use lib.Dec.{eqb}
+use lib.IntN.{pos}
+use Rattle.units.specs.Units.{ticks}
+use Rattle.sheet.specs.YearSheet.{sheetUser}
+use Rattle.sheet_values.specs.declared.YearValues.{YearValues}
+use Rattle.account_steps.specs.declared.Account.{Account}
+use Rattle.account_steps.specs.Account.{balanceBits, settled, InRange}
+use Rattle.sheet_values.specs.YearsValues.{yearValues}
+use Rattle.call_rules.specs.Refusals.{userAt}
+use Rattle.call_answers.specs.InnerRooms.{EntryFits}
+use Rattle.account_steps.specs.declared.ClosingSums.{ClosingSums}
+use Rattle.call_answers.specs.declared.Reply.{Reply}
+use Rattle.sheet.specs.declared.Position.{Position}
+use Rattle.call_close.specs.declared.Closed.{Closed}
+
+unfoldable pub noSums : ClosingSums
+noSums =
+    record {
+      value = ticks 0;
+      cost = ticks 0;
+      «flat_rate» = ticks 0;
+      contribution = ticks 0;
+      liquidation = ticks 0;
+      lapsed = ticks 0;
+      balance = balanceBits (pos 0);
+    }
+
+-- an answer beside a refusal
+abbrev pub refusedClosing : Reply → Position → Closed
+refusedClosing reply position = record { reply = reply; position = position; sums = noSums }
+
+unfoldable pub sumsAnswered : List ℕ → List ℕ → ℕ → ClosingSums
+sumsAnswered b s refusal = cond (eqb refusal 0) (settled (userAt b (sheetUser s)) (yearValues s (userAt b (sheetUser s) .details))) noSums
+
+-- the year of the user i, whose account is a, can be closed with these values, and its entry fits into the book
+pub record YearFits (b : List ℕ) (i : ℕ) (a : Account) (v : YearValues) : Type 0 where
+  pub entry : EntryFits b i a
+  pub in-range : InRange v a

@@ -1,0 +1,100 @@
+-- By the look at the book, the user found, then the rules of an election.
+use denote.Ref.{now}
+use Rattle.call_rules.specs.Calls as calls
+use Rattle.call_answers.proofs.Answers.{damaged}
+use Rattle.call_answers.proofs.Rooms.{found-stands}
+use Rattle.call_elect.proofs.Electing.{elect-absent, elect-refused, elect-booked}
+use borrow.Author.Needs.{needs}
+use Rattle.call_elect.proofs.elect.Statement.{statement}
+use Rattle.call_elect.proofs.elect.Tie as tie
+
+look-requires : tie.Need-look-requires
+look-requires c κs = search needs
+
+same-length : tie.Need-same-length
+same-length c = search needs
+
+returns : tie.Need-returns
+returns c =
+    let a = c .before .before .before .before .before .before .args in
+    damaged (now (a .book)) (calls.elect (a .number .0) (a .option) (a .year) (a .month) (a .day)) 0 (c .before .before .before .look .ensures) (c .if1 .taken)
+
+refused-requires : tie.Need-refused-requires
+refused-requires c κs = search needs
+
+same-length-2 : tie.Need-same-length-2
+same-length-2 c = search needs
+
+returns-2 : tie.Need-returns-2
+returns-2 c =
+    let a = c .before .before .before .before .before .before .before .before .before .before .args in
+    let looked = c .before .before .before .before .before .before .before .look .ensures in
+    let none = c .before .before .before .before .if1 .left in
+    elect-absent (now (a .book)) (looked .is-sound none) (a .number .0) (a .option) (a .year) (a .month) (a .day) _ (looked .found none) (c .before .if2 .taken) (c .refused .result) (c .refused .ensures)
+
+account-at-requires : tie.Need-account-at-requires
+account-at-requires c κs =
+    let a = c .before .before .before .before .before .before .before .before .before .before .args in
+    let looked = c .before .before .before .before .before .before .before .look .ensures in
+    let none = c .before .before .before .before .if1 .left in
+    found-stands (now (a .book)) (looked .is-sound none) (a .number .0) _ (looked .found none)
+
+elect-objection-requires : tie.Need-elect-objection-requires
+elect-objection-requires c κs = search needs
+
+refused-requires-2 : tie.Need-refused-requires-2
+refused-requires-2 c κs = search needs
+
+same-length-3 : tie.Need-same-length-3
+same-length-3 c = search needs
+
+returns-3 : tie.Need-returns-3
+returns-3 c =
+    let a = c .before .before .before .before .before .before .before .before .before .before .before .before .before .before .args in
+    let looked = c .before .before .before .before .before .before .before .before .before .before .before .look .ensures in
+    let none = c .before .before .before .before .before .before .before .before .if1 .left in
+    let read = c .before .before .before .account-at in
+    let judged = c .before .before .elect-objection in
+    elect-refused (now (a .book)) (looked .is-sound none) (a .number .0) (a .option) (a .year) (a .month) (a .day) _ (looked .found none) (c .before .before .before .before .before .if2 .left) (read .result) (read .ensures) (judged .result) (judged .ensures) (c .before .if3 .taken) (c .refused2 .result) (c .refused2 .ensures)
+
+elected-requires : tie.Need-elected-requires
+elected-requires c κs = search needs
+
+write-account-requires : tie.Need-write-account-requires
+write-account-requires c κs =
+    let a = c .before .before .before .before .before .before .before .before .before .before .before .before .before .before .before .args in
+    let looked = c .before .before .before .before .before .before .before .before .before .before .before .before .look .ensures in
+    let none = c .before .before .before .before .before .before .before .before .before .if1 .left in
+    found-stands (now (a .book)) (looked .is-sound none) (a .number .0) _ (looked .found none)
+
+same-length-4 : tie.Need-same-length-4
+same-length-4 c = search needs
+
+returns-4 : tie.Need-returns-4
+returns-4 c =
+    let a = c .before .before .before .before .before .before .before .before .before .before .before .before .before .before .before .before .before .before .args in
+    let looked = c .before .before .before .before .before .before .before .before .before .before .before .before .before .before .before .look .ensures in
+    let none = c .before .before .before .before .before .before .before .before .before .before .before .before .if1 .left in
+    let read = c .before .before .before .before .before .before .before .account-at in
+    let judged = c .before .before .before .before .before .before .elect-objection in
+    elect-booked (now (a .book)) (looked .is-sound none) (a .number .0) (a .option) (a .year) (a .month) (a .day) _ (looked .found none) (c .before .before .before .before .before .before .before .before .before .if2 .left) (read .result) (read .ensures) (judged .result) (judged .ensures) (c .before .before .before .before .before .if3 .left) (c .before .before .before .elected .result) (c .before .before .before .elected .ensures) _ (c .before .before .write-account .ensures)
+
+pub elect-spec : {M : Type 1} → statement M
+elect-spec =
+    tie.close
+    (tie.spec
+    look-requires
+    same-length
+    returns
+    refused-requires
+    same-length-2
+    returns-2
+    account-at-requires
+    elect-objection-requires
+    refused-requires-2
+    same-length-3
+    returns-3
+    elected-requires
+    write-account-requires
+    same-length-4
+    returns-4)

@@ -1,0 +1,69 @@
+-- From the last record down.
+use native.Mathlib.Omega.{arith}
+use denote.Ref.{now}
+use Rattle.check_lookup.proofs.Search.{Searched, search-begins, found-here, search-on, found-nowhere}
+use borrow.Author.Needs.{needs}
+use Rattle.check_lookup.proofs.find_user.Statement.{statement}
+use Rattle.check_lookup.proofs.find_user.Tie as tie
+
+abbrev Inv-loop : tie.InvT-loop
+Inv-loop book number left₀ left = Searched book (number .0) left
+
+abbrev μ-loop : tie.MeasureT-loop
+μ-loop book number left₀ left = left
+
+used-requires : tie.Need-used-requires Inv-loop μ-loop
+used-requires c κs = search needs
+
+loop-holds : tie.Need-loop-holds Inv-loop μ-loop
+loop-holds c =
+    let a = c .before .before .args in
+    search-begins (now (a .book)) (a .number .0) (c .used .result) (c .used .ensures)
+
+sub-t6 : tie.Need-sub-t6 Inv-loop μ-loop
+sub-t6 c = search needs
+
+is-named-requires : tie.Need-is-named-requires Inv-loop μ-loop
+is-named-requires c κs =
+    let l = c .before .loop in
+    (omega arith, omega (arith, l .inv .below))
+
+returns : tie.Need-returns Inv-loop μ-loop
+returns c =
+    let a = c .before .before .before .before .before .before .args in
+    let l = c .before .before .before .loop in
+    found-here (now (a .book)) (a .number .0) (l .left) (l .inv) (omega arith) (c .before .is-named .result) (c .before .is-named .ensures) (c .if1 .taken)
+
+sub-left : tie.Need-sub-left Inv-loop μ-loop
+sub-left c = search needs
+
+loop-less : tie.Need-loop-less Inv-loop μ-loop
+loop-less c = search needs
+
+loop-again : tie.Need-loop-again Inv-loop μ-loop
+loop-again c =
+    let a = c .before .before .before .before .before .before .args in
+    let l = c .before .before .before .loop in
+    search-on (now (a .book)) (a .number .0) (l .left) (l .inv) (omega arith) (c .before .is-named .result) (c .before .is-named .ensures) (c .if1 .left)
+
+returns-2 : tie.Need-returns-2 Inv-loop μ-loop
+returns-2 c =
+    let a = c .before .before .before .before .args in
+    let l = c .before .loop in
+    found-nowhere (now (a .book)) (a .number .0) (l .left) (l .inv) (omega arith)
+
+pub find-user-spec : {M : Type 1} → statement M
+find-user-spec =
+    tie.close
+    (tie.spec
+    Inv-loop
+    μ-loop
+    used-requires
+    loop-holds
+    sub-t6
+    is-named-requires
+    returns
+    sub-left
+    loop-less
+    loop-again
+    returns-2)

@@ -1,0 +1,84 @@
+-- By the chains, and where the pass was left, without them.
+use Prim.Native.Nat.{_<_}
+use mathlib.Core.Path.{refl, sym, _∙_}
+use mathlib.Core.Bool.{false≢true}
+use native.Mathlib.Omega.{arith}
+use denote.Ref.{now}
+use Rattle.book_rules.specs.Book.{used}
+use Rattle.book_rules.proofs.Faults.{used-counted}
+use borrow.Author.Needs.{needs}
+use Rattle.check_pass.proofs.pass_through.Statement.{statement}
+use Rattle.check_pass.proofs.pass_through.Tie as tie
+
+used-requires : tie.Need-used-requires
+used-requires c κs = search needs
+
+pass-over-requires : tie.Need-pass-over-requires
+pass-over-requires c κs =
+    let p = c .before .before .before .before .before .before .pre in
+    (p .0, (p .1 .0, (p .1 .1 .0, (p .1 .1 .1, λ off. absurd (false≢true (sym off))))))
+
+same-length : tie.Need-same-length
+same-length c = search needs
+
+same-length-2 : tie.Need-same-length-2
+same-length-2 c = search needs
+
+returns : tie.Need-returns
+returns c =
+    let said = c .before .before .before .before .before .before .before .pass-over .ensures .0 in
+    record { broken = said .ended (λ _. c .if1 .taken ∙ c .before .before .before .before .before .before .before .before .before .before .used .ensures); whole = said .whole }
+
+-- it was left before the last record of the book
+before-the-end : (c : tie.Else1) → c .before .before .before .before .before .before .before .pass-over .result .broken .0 < used (now (c .before .before .before .before .before .before .before .before .before .before .before .before .before .before .args .book))
+before-the-end c = let some = c .if1 .left in omega (arith, c .before .before .before .before .before .before .before .pass-over .ensures .0 .to, c .before .before .before .before .before .before .before .before .before .before .used .ensures, some)
+
+add-pass-over : tie.Need-add-pass-over
+add-pass-over c =
+    let s = c .before .before .before .before .before .before .before .before .before .before .before .before .before .before .before .before .before in
+    omega (arith, before-the-end (c .before .before .before), used-counted (now (s .args .book)) (s .pre .1 .0) (s .pre .0))
+
+pass-over-requires-2 : tie.Need-pass-over-requires-2
+pass-over-requires-2 c κs =
+    let p = c .before .before .before .before .before .before .before .before .before .before .before .before .before .before .before .before .before .pre in
+    let said = c .before .before .before .before .before .before .before .before .before .before .pass-over .ensures in
+    let room = p .1 .1 .1 .room in
+    let places = p .1 .1 .1 .places in (
+      p .0,
+      (
+        p .1 .0,
+        (
+          p .1 .1 .0,
+          (
+            record { room = omega (arith, room, said .1 .0); unknown = λ e. absurd (false≢true e); places = omega (arith, places, said .1 .1) },
+            λ _. said .0 .left refl (before-the-end (c .before .before .before)),
+          ),
+        ),
+      ),
+    )
+
+same-length-3 : tie.Need-same-length-3
+same-length-3 c = search needs
+
+same-length-4 : tie.Need-same-length-4
+same-length-4 c = search needs
+
+returns-2 : tie.Need-returns-2
+returns-2 c =
+    let said = c .before .before .before .before .pass-over2 .ensures .0 in
+    record { broken = said .ended (λ e. absurd (false≢true e)); whole = said .whole }
+
+pub pass-through-spec : {M : Type 1} → statement M
+pass-through-spec =
+    tie.close
+    (tie.spec
+    used-requires
+    pass-over-requires
+    same-length
+    same-length-2
+    returns
+    add-pass-over
+    pass-over-requires-2
+    same-length-3
+    same-length-4
+    returns-2)

@@ -1,0 +1,158 @@
+-- The counts so far are the sums over the records passed.
+use Prim.Native.Nat.{ℕ, _-_, _≤_, _<_}
+use mathlib.Core.Path.{_≡_, refl, ap, _∙_}
+use mathlib.Core.Logic.{⊎-elim}
+use denote.Ref.{now}
+use native.Mathlib.Omega.{arith}
+use lib.ListN.{length, getD, getD-replicate}
+use Rattle.units.specs.Limits.{mostRecords}
+use Rattle.units.specs.Folds.{sumBelow}
+use Rattle.book_rules.specs.Book.{used, pointersFrom, pointersTo}
+use Rattle.book_rules.proofs.Faults.{used-within, used-whole}
+use Rattle.book_rules.proofs.Hits.{hits-at-most}
+use Rattle.check_pointers.proofs.Counted.{counted-bound, counted-head, counted-user, counted-entry, counted-unknown}
+use borrow.Author.Needs.{needs}
+use Rattle.check_pointers.proofs.counts.Statement.{statement}
+use Rattle.check_pointers.proofs.counts.Tie as tie
+
+abbrev Inv-loop : tie.InvT-loop
+Inv-loop book counts₀ records j₀ counts j =
+    ((1 ≤ j) × (j ≤ records)) × ((length counts ≡ mostRecords) × ((m : ℕ) → m < mostRecords → getD counts m 0 ≡ sumBelow j (pointersFrom book m)))
+
+abbrev μ-loop : tie.MeasureT-loop
+μ-loop book counts₀ records j₀ counts j = records - j
+
+used-requires : tie.Need-used-requires Inv-loop μ-loop
+used-requires c κs = search needs
+
+first-user-requires : tie.Need-first-user-requires Inv-loop μ-loop
+first-user-requires c κs = search needs
+
+count-requires : tie.Need-count-requires Inv-loop μ-loop
+count-requires c κs = (refl, λ m h. omega (arith, getD-replicate {A = ℕ} mostRecords m 0 0 h))
+
+loop-holds : tie.Need-loop-holds Inv-loop μ-loop
+loop-holds c =
+    let u = c .before .before .before in
+    let s = u .before .before in
+    let b = now (s .args .book) in (
+      (omega arith, omega (arith, used-within b (s .pre .1) .0, u .used .ensures)),
+      (c .count .ensures .0, λ m h. counted-head b m (c .before .first-user .ensures) (getD-replicate mostRecords m 0 0 h) (c .count .ensures .1 m h)),
+    )
+
+cast-whole-record : tie.Need-cast-whole-record Inv-loop μ-loop
+cast-whole-record c = search needs
+
+whole-record-requires : tie.Need-whole-record-requires Inv-loop μ-loop
+whole-record-requires c κs =
+    let l = c .before in
+    let u = l .before .before .before .before in
+    let s = u .before .before in
+    used-whole (now (s .args .book)) (s .pre .1) (l .loop .j) (omega arith)
+
+kind-of-requires : tie.Need-kind-of-requires Inv-loop μ-loop
+kind-of-requires c κs = search needs
+
+next-of-requires : tie.Need-next-of-requires Inv-loop μ-loop
+next-of-requires c κs = search needs
+
+-- there is room for two more in each count
+room : (c : tie.In-loop Inv-loop μ-loop) (m : ℕ) → m < mostRecords → getD (c .before .loop .counts) m 0 < 65534
+room c m h =
+    let l = c .before in
+    let s = l .before .before .before .before .before .before in
+    omega (arith, s .pre .0, l .loop .inv .1 .1 m h, counted-bound (now (s .args .book)) m (l .loop .j))
+
+count-requires-2 : tie.Need-count-requires-2 Inv-loop μ-loop
+count-requires-2 c κs =
+    let t = c .before .before .before .before .before in
+    (t .before .loop .inv .1 .0, λ m h. omega (arith, room t m h))
+
+first-entry-of-requires : tie.Need-first-entry-of-requires Inv-loop μ-loop
+first-entry-of-requires c κs = search needs
+
+count-requires-3 : tie.Need-count-requires-3 Inv-loop μ-loop
+count-requires-3 c κs =
+    let n = c .before .before in
+    let t = n .before .before .before .before .before .before in
+    let e = n .count2 .ensures in
+    (e .0, λ m h. omega (arith, e .1 m h, hits-at-most (n .before .next-of .result .0) m, room t m h))
+
+is-entry-kind-requires : tie.Need-is-entry-kind-requires Inv-loop μ-loop
+is-entry-kind-requires c κs = search needs
+
+next-of-requires-2 : tie.Need-next-of-requires-2 Inv-loop μ-loop
+next-of-requires-2 c κs = search needs
+
+count-requires-4 : tie.Need-count-requires-4 Inv-loop μ-loop
+count-requires-4 c κs =
+    let t = c .before .before .before .before .before .before .before in
+    (t .before .loop .inv .1 .0, λ m h. omega (arith, room t m h))
+
+add-j : tie.Need-add-j Inv-loop μ-loop
+add-j c = search needs
+
+loop-less : tie.Need-loop-less Inv-loop μ-loop
+loop-less c = search needs
+
+loop-again : tie.Need-loop-again Inv-loop μ-loop
+loop-again c =
+    let k = c .before in
+    let r = k .before in
+    let l = r .before .before in
+    let b = now (l .before .before .before .before .before .before .args .book) in
+    let j = l .loop .j in
+    let inv = l .loop .inv in
+    let whole = r .whole-record .ensures in
+    let kind = k .kind-of .ensures in
+    ⊎-elim
+    (λ w.
+    rw (w .7) (
+      (search needs, search needs),
+      (w .6 .ensures .0, λ m h. counted-user b m j (inv .0 .0) whole kind (inv .1 .1 m h) (w .0 .taken) (w .2 .ensures) (w .5 .ensures) (w .3 .ensures .1 m h) (w .6 .ensures .1 m h)),
+    ))
+    (⊎-elim
+    (λ w.
+    rw (w .6) (
+      (search needs, search needs),
+      (w .5 .ensures .0, λ m h. counted-entry b m j (inv .0 .0) whole kind (inv .1 .1 m h) (w .0 .left) (w .1 .ensures) (w .2 .taken) (w .4 .ensures) (w .5 .ensures .1 m h)),
+    ))
+    (λ w.
+    rw (w .3) (
+      (search needs, search needs),
+      (inv .1 .0, λ m h. counted-unknown b m j (inv .0 .0) whole kind (inv .1 .1 m h) (w .0 .left) (w .1 .ensures) (w .2 .left)),
+    )))
+    (c .if1 .came)
+
+returns : tie.Need-returns Inv-loop μ-loop
+unfolding pointersTo
+returns c = λ m p h.
+    let l = c .before in
+    let b = now (l .before .before .before .before .before .before .args .book) in
+    let end : l .loop .j ≡ used b = omega arith in
+    l .loop .inv .1 .1 m h ∙ ap (λ (j : ℕ). sumBelow j (pointersFrom b m)) end
+
+pub counts-spec : {M : Type 1} → statement M
+counts-spec =
+    tie.close
+    (tie.spec
+    Inv-loop
+    μ-loop
+    used-requires
+    first-user-requires
+    count-requires
+    loop-holds
+    cast-whole-record
+    whole-record-requires
+    kind-of-requires
+    next-of-requires
+    count-requires-2
+    first-entry-of-requires
+    count-requires-3
+    is-entry-kind-requires
+    next-of-requires-2
+    count-requires-4
+    add-j
+    loop-less
+    loop-again
+    returns)

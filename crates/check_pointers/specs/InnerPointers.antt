@@ -1,0 +1,16 @@
+-- The pointers that each record holds, at most two: its next (the head's is the first user) and a user's first entry. 0 is no
+-- pointer, and a record of no known kind points nowhere.
+use Prim.Native.Nat.{ℕ}
+use mathlib.Core.Bool.{cond, _&&_, _||_}
+use mathlib.Core.List.{List}
+use lib.Dec.{eqb, ltb}
+use Rattle.book_layout.specs.Fields.{userKind}
+use Rattle.book_rules.specs.Book.{firstUser, kindAt, entryKind, nextOf, firstEntryOf}
+
+unfoldable pub nextPointer : List ℕ → ℕ → ℕ
+nextPointer b j =
+    cond (eqb j 0) (firstUser b)
+    (cond (eqb (kindAt b j) userKind || entryKind (kindAt b j)) (nextOf b j) 0)
+
+unfoldable pub firstPointer : List ℕ → ℕ → ℕ
+firstPointer b j = cond (ltb 0 j && eqb (kindAt b j) userKind) (firstEntryOf b j) 0

@@ -1,2 +1,0 @@
-pub mod ValueAndCost
-pub mod Arrays

@@ -1,0 +1,71 @@
+-- A word of bytes, then one number.
+use Prim.Native.Nat.{ℕ}
+use mathlib.Core.Path.{_≡_, sym}
+use mathlib.Core.Bool.{Bool, true, false, _&&_}
+use mathlib.Core.List.{List, [], _∷_}
+use native.Mathlib.Omega.{arith}
+use borrow.Author.Needs.{needs}
+use denote.Ref.{now}
+use lib.ListN.{length}
+use Rattle.units.proofs.Bools.{and-right}
+use Rattle.replay_script.specs.declared.Word.{Word}
+use Rattle.replay_script.specs.declared.Order.the-variants as order
+use Rattle.replay_script.specs.Orders.{raiseWord, most32, numbersFit, numberOf, wordAt, raiseOrder}
+use Rattle.replay_script.proofs.raise_order.Statement.{statement}
+use Rattle.replay_script.proofs.raise_order.Tie as tie
+
+module _ (line : List ℕ) (word : Word) (fit : Bool) (w : word ≡ wordAt line (length raiseWord)) (f : fit ≡ numbersFit line (word .digits .to) (most32 ∷ [])) where
+  both-fit : {n : ℕ} → (word .fit && fit) ≡ true → n ≡ numberOf line (word .digits .to) 0 → order.Raise (word .digits) n ≡ raiseOrder line
+  unfolding raiseOrder
+  both-fit t e = rw (e, sym w, sym f, t)
+
+  one-wrong : (word .fit && fit) ≡ false → order.Wrong ≡ raiseOrder line
+  unfolding raiseOrder
+  one-wrong t = rw (sym w, sym f, t)
+
+word-at-requires : tie.Need-word-at-requires
+word-at-requires c κs = search needs
+
+slice-aggregate-numbers-at : tie.Need-slice-aggregate-numbers-at
+slice-aggregate-numbers-at c = search needs
+
+numbers-at-requires : tie.Need-numbers-at-requires
+numbers-at-requires c κs = search needs
+
+array-read-t13 : tie.Need-array-read-t13
+array-read-t13 c = search needs
+
+cast-t14 : tie.Need-cast-t14
+cast-t14 c =
+    let numbers = c .before .before .before .before .numbers-at in
+    let word = c .before .before .before .before .before .before .before .word-at in
+    let fits = and-right (word .result .fit) (numbers .result .fit) (c .if1 .taken) in
+    record { fits = omega (arith, numbers .ensures .within fits 0 (omega arith)) }
+
+returns : tie.Need-returns
+returns c =
+    let read = c .before .before .before .before in
+    let numbers = read .numbers-at in
+    let word = read .before .before .before .word-at in
+    let fits = and-right (word .result .fit) (numbers .result .fit) (c .if1 .taken) in
+    both-fit (now (read .before .before .before .before .before .args .line)) (word .result) (numbers .result .fit) (word .ensures) (numbers .ensures .fit)
+    (c .if1 .taken) (numbers .ensures .same fits 0 (omega arith))
+
+returns-2 : tie.Need-returns-2
+returns-2 c =
+    let read = c .before .before .before .before in
+    let word = read .before .before .before .word-at in
+    one-wrong (now (read .before .before .before .before .before .args .line)) (word .result) (read .numbers-at .result .fit) (word .ensures)
+    (read .numbers-at .ensures .fit) (c .if1 .left)
+
+pub raise-order-spec : {M : Type 1} → statement M
+raise-order-spec =
+    tie.close
+    (tie.spec
+    word-at-requires
+    slice-aggregate-numbers-at
+    numbers-at-requires
+    array-read-t13
+    cast-t14
+    returns
+    returns-2)

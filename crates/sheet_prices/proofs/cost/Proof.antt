@@ -1,0 +1,53 @@
+-- The rows of the sheet, month by month.
+use Prim.Native.Nat.{ℕ}
+use mathlib.Core.Path.{ap, _∙_}
+use mathlib.Core.Bool.{true, false}
+use denote.Ref.{now}
+use lib.Dec.{eqb, lit≤}
+use Rattle.units.specs.Units.{ticks}
+use Rattle.sheet.specs.YearSheet.{byBands, withdrawnReading}
+use Rattle.sheet.proofs.Limits.{passed-length}
+use Rattle.sheet_prices.specs.InnerArrays.{PriceRows, priceRow}
+use Rattle.sheet_prices.proofs.SheetRows.{rows-cost, rows-fit}
+use borrow.Author.Needs.{needs}
+use Rattle.sheet_prices.proofs.cost.Statement.{statement}
+use Rattle.sheet_prices.proofs.cost.Tie as tie
+
+withdrawn-reading-requires : tie.Need-withdrawn-reading-requires
+withdrawn-reading-requires c κs = search needs
+
+energies-requires : tie.Need-energies-requires
+energies-requires c κs =
+    let a = c .before .before in
+    (passed-length (now (a .args .s)) (a .pre .past11), lit≤ tt)
+
+prices-requires : tie.Need-prices-requires
+prices-requires c κs =
+    let a = c .before .before .before in
+    passed-length (now (a .args .s)) (a .pre .past11)
+
+year-value-requires : tie.Need-year-value-requires
+year-value-requires c κs =
+    let start = c .before .before .before .before in
+    let a = start .args in
+    rows-fit (now (a .s)) (start .pre) 0 (lit≤ tt) (eqb (c .before .before .withdrawn-reading .result) 1) true false (c .before .energies .result) (c .prices .result) (c .before .energies .ensures) (c .prices .ensures)
+
+returns : tie.Need-returns
+returns c =
+    let a = c .before .before .before .before .before .args in
+    let s = now (a .s) in
+    let rows = c .before .before .energies in
+    let prices = c .before .prices in
+    let by = ap (λ (n : ℕ). eqb n 1) (c .before .before .before .withdrawn-reading .ensures) in
+    let priced : PriceRows (priceRow s (byBands (withdrawnReading s)) true false) (prices .result) = rw by at (prices .ensures) in
+    (c .year-value .ensures .0 ∙ ap ticks (rows-cost s (rows .result) (prices .result) (rows .ensures) priced), c .year-value .ensures .1)
+
+pub cost-spec : {M : Type 1} → statement M
+cost-spec =
+    tie.close
+    (tie.spec
+    withdrawn-reading-requires
+    energies-requires
+    prices-requires
+    year-value-requires
+    returns)

@@ -1,0 +1,81 @@
+-- A running sum of the months.
+use Prim.Native.Nat.{ℕ, _-_, _*_, _≤_}
+use mathlib.Core.Path.{_≡_, ap, sym, _∙_}
+use mathlib.Core.List.{[]}
+use native.Mathlib.Omega.{arith}
+use lib.ListN.{getD}
+use Rattle.units.specs.Units.{ticks}
+use Rattle.units.specs.declared.Ticks.{Ticks}
+use Rattle.units.specs.Limits.{maxKwh, maxPrice}
+use Rattle.units.specs.Folds.{sumBelow}
+use Rattle.units.proofs.Folds.{sum-zero, sum-next}
+use Rattle.sheet_prices.specs.InnerArrays.{rowValue}
+use borrow.Author.Needs.{needs}
+use Rattle.sheet_prices.proofs.year_value.Statement.{statement}
+use Rattle.sheet_prices.proofs.year_value.Tie as tie
+
+abbrev Inv-loop : tie.InvT-loop
+Inv-loop energy prices sum₀ month₀ sum month =
+    (month ≤ 12) × ((sum ≤ 3 * (maxKwh * maxPrice) * month) × (sum ≡ sumBelow month (λ m. rowValue (getD energy m []) (getD prices m []))))
+
+abbrev μ-loop : tie.MeasureT-loop
+μ-loop energy prices sum₀ month₀ sum month = 12 - month
+
+loop-holds : tie.Need-loop-holds Inv-loop μ-loop
+loop-holds c = (search needs, (search needs, sym (sum-zero (λ m. rowValue (getD (c .args .t1) m []) (getD (c .args .t2) m [])))))
+
+mul-row-value : tie.Need-mul-row-value Inv-loop μ-loop
+mul-row-value c = search needs
+
+array-copy-out-row-value : tie.Need-array-copy-out-row-value Inv-loop μ-loop
+array-copy-out-row-value c = search needs
+
+mul-row-value-2 : tie.Need-mul-row-value-2 Inv-loop μ-loop
+mul-row-value-2 c = search needs
+
+array-copy-out-row-value-2 : tie.Need-array-copy-out-row-value-2 Inv-loop μ-loop
+array-copy-out-row-value-2 c = search needs
+
+row-value-requires : tie.Need-row-value-requires Inv-loop μ-loop
+row-value-requires c κs = c .before .before .before .before .pre (c .before .before .before .loop .month) (search needs)
+
+add-sum : tie.Need-add-sum Inv-loop μ-loop
+add-sum c = search needs
+
+add-month : tie.Need-add-month Inv-loop μ-loop
+add-month c = search needs
+
+loop-less : tie.Need-loop-less Inv-loop μ-loop
+loop-less c = search needs
+
+loop-again : tie.Need-loop-again Inv-loop μ-loop
+loop-again c =
+    let l = c .before .before .before .before .before .loop in
+    let a = c .before .before .before .before .before .before .args in
+    let value = c .before .row-value .ensures in
+    (search needs, (omega arith, sum-next (l .month) (λ m. rowValue (getD (a .t1) m []) (getD (a .t2) m [])) (l .inv .1 .1) (ap (λ (t : Ticks). t .0) (value .0))))
+
+returns : tie.Need-returns Inv-loop μ-loop
+returns c =
+    let l = c .before .loop in
+    let a = c .before .before .args in
+    let end : l .month ≡ 12 = omega arith in
+    (ap ticks (l .inv .1 .1 ∙ ap (λ (n : ℕ). sumBelow n (λ m. rowValue (getD (a .t1) m []) (getD (a .t2) m []))) end), omega arith)
+
+pub year-value-spec : {M : Type 1} → statement M
+year-value-spec =
+    tie.close
+    (tie.spec
+    Inv-loop
+    μ-loop
+    loop-holds
+    mul-row-value
+    array-copy-out-row-value
+    mul-row-value-2
+    array-copy-out-row-value-2
+    row-value-requires
+    add-sum
+    add-month
+    loop-less
+    loop-again
+    returns)

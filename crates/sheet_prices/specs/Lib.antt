@@ -1,0 +1,2 @@
+pub mod ValueAndCost
+pub mod InnerArrays

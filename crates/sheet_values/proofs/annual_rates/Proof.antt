@@ -1,0 +1,86 @@
+-- The rates are filled tier by tier.
+use Prim.Native.Nat.{ℕ, _-_, _≤_}
+use mathlib.Core.Path.{_≡_, refl, ap, ap₂, _∙_}
+use native.Mathlib.Nat.{not-suc-le-zero}
+use native.Mathlib.Omega.{arith}
+use denote.Ref.{now}
+use lib.ListN.{length, length-set}
+use Rattle.units.specs.declared.Rate.{Rate}
+use Rattle.units.specs.Units.{rate}
+use Rattle.units.proofs.Filled.{Filled, filled-next}
+use Rattle.tariff.specs.Tariff.{tierRate}
+use Rattle.sheet_values.specs.YearsValues.{annualRate}
+use borrow.Author.Needs.{needs}
+use Rattle.sheet_values.proofs.annual_rates.Statement.{statement}
+use Rattle.sheet_values.proofs.annual_rates.Tie as tie
+
+abbrev Inv-loop : tie.InvT-loop
+Inv-loop s from count plant power table rates₀ tier₀ rates tier =
+    (tier ≤ 4) × ((length rates ≡ 4) × Filled (rate 0) (λ t. rate (annualRate s plant power from count t)) tier rates)
+
+abbrev μ-loop : tie.MeasureT-loop
+μ-loop s from count plant power table rates₀ tier₀ rates tier = 4 - tier
+
+loop-holds : tie.Need-loop-holds Inv-loop μ-loop
+loop-holds c = (search needs, (refl, λ m l. absurd (not-suc-le-zero l)))
+
+add-mean-over : tie.Need-add-mean-over Inv-loop μ-loop
+add-mean-over c = search needs
+
+mean-over-requires : tie.Need-mean-over-requires Inv-loop μ-loop
+mean-over-requires c κs = search needs
+
+add-mean-over-2 : tie.Need-add-mean-over-2 Inv-loop μ-loop
+add-mean-over-2 c = search needs
+
+mean-over-requires-2 : tie.Need-mean-over-requires-2 Inv-loop μ-loop
+mean-over-requires-2 c κs = search needs
+
+tier-rate-requires : tie.Need-tier-rate-requires Inv-loop μ-loop
+tier-rate-requires c κs = search needs
+
+mul-rates : tie.Need-mul-rates Inv-loop μ-loop
+mul-rates c = search needs
+
+array-set-from-rates : tie.Need-array-set-from-rates Inv-loop μ-loop
+array-set-from-rates c = search needs
+
+add-tier : tie.Need-add-tier Inv-loop μ-loop
+add-tier c = search needs
+
+loop-less : tie.Need-loop-less Inv-loop μ-loop
+loop-less c = search needs
+
+loop-again : tie.Need-loop-again Inv-loop μ-loop
+unfolding annualRate
+loop-again c =
+    let l = c .before .before .before .before .loop in
+    let a = c .before .before .before .before .before .before .args in
+    let net-rate = ap (λ (x : Rate). x .0) (c .before .before .mean-over .ensures .0) in
+    let system-rate = ap (λ (x : Rate). x .0) (c .before .mean-over2 .ensures .0) in
+    (search needs, (simp length-set (l .inv .1 .0), filled-next (rate 0) (λ t. rate (annualRate (now (a .s)) (a .plant) (a .power) (a .from) (a .count) t)) (l .tier) (l .rates) (c .tier-rate .result) (omega arith) (c .tier-rate .ensures .0 ∙ ap₂ (λ (n m : ℕ). rate (tierRate (a .plant) (a .power) n m)) net-rate system-rate) (l .inv .1 .1)))
+
+returns : tie.Need-returns Inv-loop μ-loop
+returns c =
+    let l = c .before .loop in
+    let end : l .tier ≡ 4 = omega arith in
+    λ t h. l .inv .1 .1 t (rw end h)
+
+pub annual-rates-spec : {M : Type 1} → statement M
+annual-rates-spec =
+    tie.close
+    (tie.spec
+    Inv-loop
+    μ-loop
+    loop-holds
+    add-mean-over
+    mean-over-requires
+    add-mean-over-2
+    mean-over-requires-2
+    tier-rate-requires
+    mul-rates
+    array-set-from-rates
+    add-tier
+    loop-less
+    loop-again
+    returns)

@@ -1,0 +1,28 @@
+-- The number read, within its limit.
+use mathlib.Core.Path.{ap}
+use native.Mathlib.Omega.{arith}
+use denote.Ref.{now}
+use Rattle.sheet.proofs.Limits.{passed-length, passed-price}
+use Rattle.units.specs.Units.{rate}
+use borrow.Author.Needs.{needs}
+use Rattle.sheet_values.proofs.rate_at.Statement.{statement}
+use Rattle.sheet_values.proofs.rate_at.Tie as tie
+
+number-at-requires : tie.Need-number-at-requires
+number-at-requires c κs =
+    let start = c .before in
+    let place = start .pre .1 in
+    (passed-length (now (start .args .s)) (start .pre .0 .past11), (place .0, omega (arith, place .1 .1)))
+
+cast-t5 : tie.Need-cast-t5
+cast-t5 c = search needs
+
+returns : tie.Need-returns
+returns c =
+    let start = c .before .before in
+    let a = start .args in
+    let place = start .pre .1 in
+    (ap rate (c .number-at .ensures), rw (c .number-at .ensures) (passed-price (now (a .s)) (start .pre .0 .past13) (a .month) (a .place) (place .0) (place .1 .0) (place .1 .1)))
+
+pub rate-at-spec : {M : Type 1} → statement M
+rate-at-spec = tie.close (tie.spec number-at-requires cast-t5 returns)

@@ -1,0 +1,67 @@
+-- A running sum.
+use Prim.Native.Nat.{ℕ, _+_, _-_, _*_, _≤_}
+use mathlib.Core.Path.{_≡_, ap, sym, _∙_}
+use native.Mathlib.Omega.{arith}
+use denote.Ref.{now}
+use Rattle.units.specs.declared.Rate.{Rate}
+use Rattle.units.specs.Units.{rate}
+use Rattle.units.specs.Limits.{maxPrice}
+use Rattle.units.specs.Folds.{sumBelow}
+use Rattle.units.proofs.Folds.{sum-zero, sum-next}
+use Rattle.sheet.specs.YearSheet.{word}
+use borrow.Author.Needs.{needs}
+use Rattle.sheet_values.proofs.rate_over.Statement.{statement}
+use Rattle.sheet_values.proofs.rate_over.Tie as tie
+
+abbrev Inv-loop : tie.InvT-loop
+Inv-loop s place from count sum₀ i₀ sum i =
+    (i ≤ count) × ((sum ≤ maxPrice * i) × (sum ≡ sumBelow i (λ j. word s (from + j) place)))
+
+abbrev μ-loop : tie.MeasureT-loop
+μ-loop s place from count sum₀ i₀ sum i = count - i
+
+loop-holds : tie.Need-loop-holds Inv-loop μ-loop
+loop-holds c = (search needs, (search needs, sym (sum-zero (λ j. word (now (c .before .args .s)) (c .before .args .from + j) (c .before .args .place)))))
+
+add-rate-at : tie.Need-add-rate-at Inv-loop μ-loop
+add-rate-at c = search needs
+
+rate-at-requires : tie.Need-rate-at-requires Inv-loop μ-loop
+rate-at-requires c κs = search needs
+
+add-sum : tie.Need-add-sum Inv-loop μ-loop
+add-sum c = search needs
+
+add-i : tie.Need-add-i Inv-loop μ-loop
+add-i c = search needs
+
+loop-less : tie.Need-loop-less Inv-loop μ-loop
+loop-less c = search needs
+
+loop-again : tie.Need-loop-again Inv-loop μ-loop
+loop-again c =
+    let l = c .before .before .before .loop in
+    let a = c .before .before .before .before .before .args in
+    (search needs, (omega arith, sum-next (l .i) (λ j. word (now (a .s)) (a .from + j) (a .place)) (l .inv .1 .1) (ap (λ (x : Rate). x .0) (c .before .rate-at .ensures .0))))
+
+returns : tie.Need-returns Inv-loop μ-loop
+returns c =
+    let l = c .before .loop in
+    let a = c .before .before .before .args in
+    let end : l .i ≡ a .count = omega arith in
+    (ap rate (l .inv .1 .1 ∙ ap (λ (n : ℕ). sumBelow n (λ j. word (now (a .s)) (a .from + j) (a .place))) end), omega arith)
+
+pub rate-over-spec : {M : Type 1} → statement M
+rate-over-spec =
+    tie.close
+    (tie.spec
+    Inv-loop
+    μ-loop
+    loop-holds
+    add-rate-at
+    rate-at-requires
+    add-sum
+    add-i
+    loop-less
+    loop-again
+    returns)

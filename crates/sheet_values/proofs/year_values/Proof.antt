@@ -1,0 +1,77 @@
+-- Each value as its definition has it.
+use Prim.Native.Nat.{_*_}
+use native.Mathlib.Omega.{arith}
+use denote.Ref.{now}
+use lib.Dec.{lit<}
+use Rattle.units.specs.Limits.{maxKwh}
+use Rattle.sheet_values.specs.YearsValues.{monthExchanged, yearValues}
+use Rattle.sheet_values.proofs.SheetEnergies.{exchanged-capped, months-capped, exchanged-months, half-is}
+use borrow.Author.Needs.{needs}
+use Rattle.sheet_values.proofs.year_values.Statement.{statement}
+use Rattle.sheet_values.proofs.year_values.Tie as tie
+
+withdrawn-requires : tie.Need-withdrawn-requires
+withdrawn-requires c κs = search needs
+
+injected-requires : tie.Need-injected-requires
+injected-requires c κs = search needs
+
+exchanged-requires : tie.Need-exchanged-requires
+exchanged-requires c κs = search needs
+
+value-requires : tie.Need-value-requires
+value-requires c κs = search needs
+
+cost-requires : tie.Need-cost-requires
+cost-requires c κs = search needs
+
+flat-rate-requires : tie.Need-flat-rate-requires
+flat-rate-requires c κs = search needs
+
+energy-over-requires : tie.Need-energy-over-requires
+energy-over-requires c κs =
+    let start = c .before .before .before .before .before .before .before .before .before in
+    let s = now (start .args .s) in
+    let w = c .before .before .before .before .before .before .before .withdrawn in
+    let i = c .before .before .before .before .before .before .injected in
+    let e = c .before .before .before .before .before .exchanged in
+    (search needs, months-capped (monthExchanged s) (e .result) (3 * maxKwh) (exchanged-months s (w .result) (i .result) (e .result) (w .ensures) (i .ensures) (e .ensures)) (exchanged-capped s (start .pre)))
+
+energy-over-requires-2 : tie.Need-energy-over-requires-2
+energy-over-requires-2 c κs =
+    let start = c .before .before .before .before .before .before .before .before .before .before in
+    let s = now (start .args .s) in
+    let w = c .before .before .before .before .before .before .before .before .withdrawn in
+    let i = c .before .before .before .before .before .before .before .injected in
+    let e = c .before .before .before .before .before .before .exchanged in
+    (search needs, months-capped (monthExchanged s) (e .result) (3 * maxKwh) (exchanged-months s (w .result) (i .result) (e .result) (w .ensures) (i .ensures) (e .ensures)) (exchanged-capped s (start .pre)))
+
+returns : tie.Need-returns
+unfolding yearValues
+returns c =
+    let start = c .before .before .before .before .before .before .before .before .before .before .before in
+    let s = now (start .args .s) in
+    let w = c .before .before .before .before .before .before .before .before .before .withdrawn in
+    let i = c .before .before .before .before .before .before .before .before .injected in
+    let e = c .before .before .before .before .before .before .before .exchanged in
+    let months = exchanged-months s (w .result) (i .result) (e .result) (w .ensures) (i .ensures) (e .ensures) in
+    let first = half-is s (e .result) 0 (c .before .energy-over .result) (lit< tt) months (c .before .energy-over .ensures .0) in
+    let second = half-is s (e .result) 1 (c .energy-over2 .result) (lit< tt) months (c .energy-over2 .ensures .0) in
+    let value = c .before .before .before .before .value .ensures in
+    let cost = c .before .before .before .cost .ensures in
+    let flat = c .before .before .flat-rate .ensures in
+    (λ k. record { value = value .0 k; cost = cost .0 k; «flat_rate» = flat .0 k; half1 = first k; half2 = second k }, record { value = value .1; cost = cost .1; flatRate = flat .1; half1 = omega (arith, c .before .energy-over .ensures .1); half2 = omega (arith, c .energy-over2 .ensures .1) })
+
+pub year-values-spec : {M : Type 1} → statement M
+year-values-spec =
+    tie.close
+    (tie.spec
+    withdrawn-requires
+    injected-requires
+    exchanged-requires
+    value-requires
+    cost-requires
+    flat-rate-requires
+    energy-over-requires
+    energy-over-requires-2
+    returns)

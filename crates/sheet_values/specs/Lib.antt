@@ -1,0 +1,3 @@
+pub mod YearsValues
+pub mod InnerArrays
+pub mod Bounds

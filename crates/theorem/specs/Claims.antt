@@ -1,0 +1,43 @@
+-- THE THIRD DEMAND, over the functions themselves: "For every list of enrolments, elections, advance runs, closings and
+-- statements from a fresh book, whatever they bring, refused calls included and users mixed freely: after it, the statement of
+-- each user it enrolled answers exactly what the ledger of document 01 gives from the accepted calls." And that every list can be
+-- made, so that nothing is claimed of no list.
+use Prim.Native.Nat.{ℕ}
+use mathlib.Core.Path.{_≡_}
+use mathlib.Core.List.{List}
+use mathlib.Core.Option.{none, some}
+use denote.Ref.{now}
+use Rattle.ledger.specs.Ledger.{Ledger}
+use Rattle.ledger.specs.Accounting.{Accounts}
+use Rattle.statements.specs.InnerWalk.{statementIn}
+use Rattle.call_rules.specs.Calls.{Call}
+use Rattle.call_rules.specs.Typed.{AllTyped}
+use Rattle.call_statement.proofs.statement.Reads as statement-of
+use Rattle.check_book.proofs.fresh.Reads as fresh-of
+use Rattle.ledger_agrees.specs.Lists.{Made, callsOf, Runs}
+use Rattle.ledger_agrees.specs.Fed.{ledgerOf, valueOf, Enrols, NoneDamaged}
+use Rattle.theorem.specs.Runs.{Calls}
+
+-- after a list of calls, which left the book b: a number that it enrolled has a ledger, and whatever a call of `statement` for it
+-- answers is right by that ledger
+pub record Claim (ms : List Made) (b : List ℕ) (number : ℕ) : Type 1 where
+  pub ledger : Ledger
+  pub fed : ledgerOf number ms none ≡ some ledger
+  pub statement : (κs : _) (a : _) (r : _) (s : _) → statement-of.Post κs a r s → now (a .0) ≡ b → a .1 .0 .0 ≡ number
+      → (r .reply .refusal ≡ 0) × (r .reply .«record» .0 ≡ 0) × Accounts ledger (valueOf number (ledger .details) ms) (statementIn (r .sums))
+
+abbrev pub ThirdDemand : Type 1
+ThirdDemand =
+    (κs : _) (a : _) (r : _) (s : _) → fresh-of.Post κs a r s → r ≡ 0 → (ms : List Made) (b : List ℕ) → Runs Calls (now (s .0)) ms b
+    → NoneDamaged ms × ((number : ℕ) → Enrols number ms → Claim ms b number)
+
+-- a list of calls that was made, with these calls
+pub record Performed (start : List ℕ) (cs : List Call) : Type 1 where
+  pub made-as : List Made
+  pub after : List ℕ
+  pub run : Runs Calls start made-as after
+  pub calls : callsOf made-as ≡ cs
+
+-- "Every list of calls can be made": from any accepted fresh, with arguments as their types hold them
+abbrev pub EveryList : Type 1
+EveryList = (κs : _) (a : _) (r : _) (s : _) → fresh-of.Post κs a r s → r ≡ 0 → (cs : List Call) → AllTyped cs → Performed (now (s .0)) cs

@@ -1,0 +1,69 @@
+-- THE THIRD DEMAND, over the functions that other programs link. One call is a call of an exported function, of which no more is
+-- known than its contract (`Post κs a r s`, as in `Rattle.theorem.specs.Runs`); a list of calls, and what is claimed of it, are as
+-- there.
+use Prim.Native.Nat.{ℕ}
+use mathlib.Core.Path.{_≡_}
+use mathlib.Core.List.{List}
+use mathlib.Core.Option.{none, some}
+use denote.Ref.{now}
+use Rattle.ledger.specs.Ledger.{Ledger, Statement}
+use Rattle.ledger.specs.Accounting.{Accounts}
+use Rattle.call_rules.specs.Calls.{Call, enrol, elect, advance, close, statement}
+use Rattle.call_rules.specs.Typed.{AllTyped}
+use Rattle.ledger_agrees.specs.Lists.{Made, made, callsOf, Runs}
+use Rattle.ledger_agrees.specs.Fed.{ledgerOf, valueOf, Enrols, NoneDamaged}
+use Rattle.ssp.specs.declared.Sums.{Sums}
+use Rattle.ssp.specs.Flat.{detailsOf}
+use Rattle.ssp.proofs.ssp_fresh.Reads as fresh-of
+use Rattle.ssp.proofs.ssp_enrol.Reads as enrol-of
+use Rattle.ssp.proofs.ssp_elect.Reads as elect-of
+use Rattle.ssp.proofs.ssp_advance.Reads as advance-of
+use Rattle.ssp.proofs.ssp_close.Reads as close-of
+use Rattle.ssp.proofs.ssp_statement.Reads as statement-of
+
+-- one call of an exported function: the book before it, what was called and answered, the book after it
+pub data Calls : List ℕ → Made → List ℕ → Type 1 where
+  enrols : (κs : _) (a : _) (r : _) (s : _) → enrol-of.Post κs a r s → Calls (now (a .0)) (made (enrol (a .1 .0) (detailsOf (a .1 .1 .0) (a .1 .1 .1 .0) (a .1 .1 .1 .1 .1 .0) (a .1 .1 .1 .1 .1 .1 .0) (a .1 .1 .1 .1 .1 .1 .1 .0) (a .1 .1 .1 .1 .1 .1 .1 .1 .0)) (a .1 .1 .1 .1 .0)) (r .refusal)) (now (s .0))
+  elects : (κs : _) (a : _) (r : _) (s : _) → elect-of.Post κs a r s → Calls (now (a .0)) (made (elect (a .1 .0) (a .1 .1 .0) (a .1 .1 .1 .0) (a .1 .1 .1 .1 .0) (a .1 .1 .1 .1 .1 .0)) (r .refusal)) (now (s .0))
+  advances : (κs : _) (a : _) (r : _) (s : _) → advance-of.Post κs a r s → Calls (now (a .0)) (made (advance (a .1 .0) (a .1 .1 .0) (a .1 .1 .1 .0) (a .1 .1 .1 .1 .0) (a .1 .1 .1 .1 .1 .0) (a .1 .1 .1 .1 .1 .1 .0)) (r .refusal)) (now (s .0))
+  closes : (κs : _) (a : _) (r : _) (s : _) → close-of.Post κs a r s → Calls (now (a .0)) (made (close (now (a .1 .0))) (r .refusal)) (now (s .0))
+  states : (κs : _) (a : _) (r : _) (s : _) → statement-of.Post κs a r s → Calls (now (a .0)) (made (statement (a .1 .0)) (r .refusal)) (now (a .0))
+
+-- the statement that an exported answer's fields are
+unfoldable pub statementIn : Sums → Statement
+statementIn s =
+    record {
+      openYear = s .«open_year»;
+      credit = s .credit;
+      value = s .value;
+      cost = s .cost;
+      flatRate = s .«flat_rate»;
+      contribution = s .contribution;
+      liquidation = s .liquidation;
+      lapsed = s .lapsed;
+      balance = s .balance;
+      advances = s .advances;
+      closedAdvances = s .«closed_advances»;
+    }
+
+-- what is claimed of a user of the list, and of whatever the exported statement answers for it
+pub record Claim (ms : List Made) (b : List ℕ) (number : ℕ) : Type 1 where
+  pub ledger : Ledger
+  pub fed : ledgerOf number ms none ≡ some ledger
+  pub statement : (κs : _) (a : _) (r : _) (s : _) → statement-of.Post κs a r s → now (a .0) ≡ b → a .1 .0 ≡ number
+      → (r .refusal ≡ 0) × (r .«record» ≡ 0) × Accounts ledger (valueOf number (ledger .details) ms) (statementIn r)
+
+abbrev pub ThirdDemand : Type 1
+ThirdDemand =
+    (κs : _) (a : _) (r : _) (s : _) → fresh-of.Post κs a r s → r ≡ 0 → (ms : List Made) (b : List ℕ) → Runs Calls (now (s .0)) ms b
+    → NoneDamaged ms × ((number : ℕ) → Enrols number ms → Claim ms b number)
+
+-- every list of calls can be made
+pub record Performed (start : List ℕ) (cs : List Call) : Type 1 where
+  pub made-as : List Made
+  pub after : List ℕ
+  pub run : Runs Calls start made-as after
+  pub calls : callsOf made-as ≡ cs
+
+abbrev pub EveryList : Type 1
+EveryList = (κs : _) (a : _) (r : _) (s : _) → fresh-of.Post κs a r s → r ≡ 0 → (cs : List Call) → AllTyped cs → Performed (now (s .0)) cs

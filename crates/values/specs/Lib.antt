@@ -1,3 +1,0 @@
-pub mod YearsValues
-pub mod Arrays
-pub mod Bounds
