@@ -83,7 +83,7 @@ fn smaller(a: Ticks, b: Ticks) -> Ticks
 }
 
 // What one amount is above another, 0 where it is not.
-fn excess(a: Ticks, b: Ticks) -> Ticks
+pub fn excess(a: Ticks, b: Ticks) -> Ticks
     ensures { λ r. ⌜ r .0 ≡ a .0 - b .0 ⌝ }
 {
     if b.0 < a.0 {
@@ -195,7 +195,12 @@ pub fn withheld_from(rest: Ticks, payment: Ticks) -> Ticks
 }
 
 // What of a rest is withheld at a closing: first from the balance if that is positive, then from the liquidation.
-pub fn withheld_at_closing(rest: Ticks, contribution: Ticks, advances: Ticks, liquidation: Ticks) -> Ticks
+pub fn withheld_at_closing(
+    rest: Ticks,
+    contribution: Ticks,
+    advances: Ticks,
+    liquidation: Ticks,
+) -> Ticks
     ensures { λ r. ⌜ r ≡ ticks (withheldAtClosing (rest .0) (balanceOf (contribution .0) (advances .0)) (liquidation .0)) ⌝ }
 {
     let first = withheld_from(rest, excess(contribution, advances));

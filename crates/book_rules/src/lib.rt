@@ -285,7 +285,7 @@ fn balance_fits(balance: Balance) -> bool
 }
 
 // What a balance pays.
-fn paid_balance(balance: Balance) -> Ticks
+pub fn paid_balance(balance: Balance) -> Ticks
     ensures { λ r. ⌜ r .0 ≡ paidBalance (balance .0) ⌝ }
 {
     if balance.0 <= MAX_CONTRIBUTION {
@@ -320,7 +320,8 @@ fn closing_fits(activation: u16, open_year: u16, c: ClosingRecord) -> bool
     let lapse = fits_years(sums.lapsed, activation, c.year);
     let rest = (sums.liquidation.0 <= MAX_YEAR) & lapse;
     let payments = balance_fits(sums.balance) & withheld_fits(c);
-    (year_fits(activation, open_year, c.year) & (c.option <= 1)) & ((energy & flat) & (rest & payments))
+    (year_fits(activation, open_year, c.year) & (c.option <= 1))
+        & ((energy & flat) & (rest & payments))
 }
 
 // A RECORD'S OWN RULES: its ranges and its zero bytes. Those of an entry go by its owner's record too.

@@ -1,7 +1,7 @@
 -- A charge on a sound book: refused because no user has the number, or by its objection, or booked as the definition has it.
 use Prim.Native.Nat.{ℕ, _+_, _^_, _<_}
 use mathlib.Core.Path.{_≡_, refl, sym, ap, _∙_}
-use mathlib.Core.Bool.{Bool, true}
+use mathlib.Core.Bool.{Bool}
 use mathlib.Core.List.{List}
 use native.Mathlib.Omega.{arith}
 use Rattle.units.specs.declared.RecordIndex.{RecordIndex}
@@ -9,7 +9,7 @@ use Rattle.units.specs.Units.{recordIndex}
 use Rattle.units.specs.Limits.{maxCharge}
 use Rattle.account_steps.specs.declared.Account.{Account}
 use Rattle.account_steps.specs.Charges.{accountCharged}
-use Rattle.book_rules.specs.Book.{isUser, accountAt}
+use Rattle.book_rules.specs.Book.{accountAt}
 use Rattle.book_rules.proofs.Faultless.{sound-faultless}
 use Rattle.check_book.specs.Verdicts.{Accepted}
 use Rattle.call_rules.specs.Changes.{withAccount, applied}

@@ -61,7 +61,7 @@ year-is-open a year h =
     (same, omega (arith, same, last))
 
 -- the open year has no charge
-pub uncharged : (a : Account) → chargeOpen a ≡ true → a .charge .made ≡ 0
+uncharged : (a : Account) → chargeOpen a ≡ true → a .charge .made ≡ 0
 unfolding chargeOpen
 uncharged a h = eqb-true (a .charge .made) 0 (and-left (eqb (a .charge .made) 0) (leb (a .«open_year») lastActivation) h)
 

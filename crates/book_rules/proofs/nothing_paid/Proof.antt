@@ -1,7 +1,6 @@
 -- Each test of it is that something is 0.
 use mathlib.Core.Bool.{false≢true}
 use Rattle.book_rules.proofs.Payments.{nothing-fits}
-use borrow.Author.Needs.{needs}
 use Rattle.book_rules.proofs.nothing_paid.Statement.{statement}
 use Rattle.book_rules.proofs.nothing_paid.Tie as tie
 

@@ -60,7 +60,7 @@ returns-3 c =
 
 charged-requires : tie.Need-charged-requires
 charged-requires c κs =
-    let t = c .before in
+    let t = c in
     let a = t .before .before .before .before .before .before .before .before .before .before .before .before .before .args in
     let looked = t .before .before .before .before .before .before .before .before .before .before .look .ensures in
     let none = t .before .before .before .before .before .before .before .if1 .left in
@@ -85,7 +85,7 @@ returns-4 c =
     let none = c .before .before .before .before .before .before .before .before .before .before .before .before .if1 .left in
     let read = c .before .before .before .before .before .before .before .account-at in
     let judged = c .before .before .before .before .before .before .charge-objection in
-    charge-booked (now (a .book)) (looked .is-sound none) (a .number .0) _ (looked .found none) (c .before .before .before .before .before .before .before .before .before .if2 .left) (read .result) (read .ensures) (judged .result) (judged .ensures) (c .before .before .before .before .before .if3 .left) (c .before .before .before .charged .result) (c .before .before .before .charged .ensures) _ (c .before .before .write-account .ensures)
+    charge-booked (now (a .book)) (looked .is-sound none) (a .number .0) _ (looked .found none) (c .before .before .before .before .before .before .before .before .before .if2 .left) (read .result) (read .ensures) (judged .result) (judged .ensures) (c .before .before .before .before .before .if3 .left) (c .before .before .before .before .charged .result) (c .before .before .before .before .charged .ensures) _ (c .before .before .write-account .ensures)
 
 pub charge-spec : {M : Type 1} → statement M
 charge-spec =
