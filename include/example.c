@@ -1,7 +1,7 @@
 /*
- * Three years of one user, the first advance of another, calls that are refused, how much more sun is needed, a sheet to its
- * archive and back, raw injected readings, and a sheet to the grid operator's text and back: every field of every answer is
- * printed.
+ * Three years of one user, the first advance of another, a charge of each and what is withheld for it, calls that are refused, how
+ * much more sun is needed, a sheet to its archive and back, raw injected readings, and a sheet to the grid operator's text and
+ * back: every field of every answer is printed.
  *
  *     gcc -std=c11 -Wall -Wextra -Werror -Iinclude include/example.c target/staticlib/libssp.a -o example
  *
@@ -95,6 +95,19 @@ static void elect(const char *call, uint8_t option, uint32_t year, uint32_t mont
 {
     struct ssp_booked booked = ssp_elect(book, sizeof book, HYDRO, option, year, month, day);
     answer(call, booked.refusal, booked.record);
+}
+
+static void charge(const char *call, uint32_t number)
+{
+    struct ssp_booked booked = ssp_charge(book, sizeof book, number);
+    answer(call, booked.refusal, booked.record);
+}
+
+/* What the newest entry of a user had withheld: whoever pays takes it off. The user is named by the index of its record. */
+static void withheld(uint32_t user)
+{
+    const uint8_t *const entry = book + RECORD * number(book + RECORD * user + 12);
+    amount("withheld", number(entry + 68) | (uint64_t)number(entry + 72) << 32);
 }
 
 static void advance(const char *call, uint32_t number, uint32_t year, uint8_t run, uint64_t rate, uint64_t estimate1,
@@ -243,7 +256,14 @@ int main(void)
     advance("advance with a first estimate beyond 32 bits", HYDRO, 2013, SSP_OCTOBER, 24007, 510001 + BEYOND_32, 430003);
     advance("advance with a second estimate beyond 32 bits", HYDRO, 2013, SSP_OCTOBER, 24007, 510001, 430003 + BEYOND_32);
     advance("advance in October", HYDRO, 2013, SSP_OCTOBER, 24007, 510001, 430003);
+    charge("charge the household", HOUSEHOLD);
     advance("advance in January", HOUSEHOLD, 2013, SSP_JANUARY, 9000, 5000, 4300);
+    withheld(2);
+
+    /* The plant's charge of 2013 finds a negative balance, and is withheld from the advance after it. */
+    charge("charge the plant", HYDRO);
+    charge("charge the plant again", HYDRO);
+    charge("charge nobody", 8);
 
     /* A year on credit, too much of it advanced; a year of liquidation, in which that credit lapses; a year on credit. */
     write_sheet(2013);
@@ -252,9 +272,13 @@ int main(void)
     sheet[7] = 0;
     close_with_sheet("close 2013 with a single reading and bands");
     close_year("close 2013", 2013);
+    withheld(1);
     elect("elect liquidation", SSP_LIQUIDATION, 2014, 12, 31);
     advance("advance in June", HYDRO, 2014, SSP_JUNE, 24007, 1, 2);
+    withheld(1);
+    charge("charge the plant in 2014", HYDRO);
     close_year("close 2014", 2014);
+    withheld(1);
     elect("elect credit", SSP_CREDIT, 2015, 1, 31);
     close_year("close 2015", 2015);
     close_year("close 2015 again", 2015);
@@ -277,6 +301,7 @@ int main(void)
     book[3 * RECORD + 79] = 1;
     enrol("enrol in a damaged book", 8, 2, 1, SSP_CREDIT, 3000, 10, 1);
     elect("elect in a damaged book", SSP_CREDIT, 2016, 1, 31);
+    charge("charge in a damaged book", HYDRO);
     advance("advance in a damaged book", HYDRO, 2016, SSP_OCTOBER, 23011, 1, 2);
     close_year("close in a damaged book", 2016);
     statement("statement in a damaged book", HYDRO);

@@ -24,7 +24,7 @@
  *   names. A refused call leaves every byte of the book or of the sheet as it was, and every value in its answer is 0, but for
  *   `record`, `line`, `month` and `place`.
  *   `record` is, after refusal 2, the index of the faulty record, of several the smallest; after an accepted ssp_enrol, the
- *   index of the new record; else 0.
+ *   index of the new record; after an accepted ssp_charge, that of the user's; else 0.
  *   `month`, 1 to 12, and `place`, 1 to 24, name after refusal 13 or 19 the earliest number of the sheet that is at fault; else
  *   both are 0.
  *
@@ -43,6 +43,7 @@
  *   12  The sheet's year is not the user's open year, or is above 2099.
  *   13  A number of the sheet is above its limit: the one at `month` and `place`.
  *   14  A domestic user (class 1 or 2) withdrew more than 4,000,000 kWh in a month.
+ *   16  The user's open year is charged already, or is above 2099.
  *   17  A line of the operator's text, the one at `line`, 1 to 13, is not seven numbers with semicolons, is not of its month, is
  *       missing or stands behind the twelfth.
  *   19  A single reading has kWh in F2 or F3: at `month` and `place`. The earliest number at fault decides between 13 and 19,
@@ -51,6 +52,14 @@
  *       alone.
  *   26  The factor of ssp_raise is above 200 thousandths.
  *   27  A buffer of ssp_archive or ssp_restore is not of SSP_SHEET_LENGTH bytes.
+ *
+ * CHARGES
+ *
+ *   What ssp_charge charges is withheld, as far as each reaches, from each later payment: from an advance, and at a closing from
+ *   a positive balance and then from the liquidation. Every answer is counted before that. So whoever pays takes off what the
+ *   call withheld: bytes 68-75, little-endian, of the entry that it booked. That entry is the first of the user's: its index
+ *   stands in bytes 12-15 of the user's record, whose own index ssp_enrol and ssp_charge answer. A record begins at 80 times its
+ *   index. What is still to be withheld stands in bytes 56-63 of the user's record.
  *
  * MEMORY
  *
@@ -72,7 +81,7 @@
 #include <stdint.h>
 
 /* Header and library belong together, since answers grow: this is to be the number that ssp_interface() answers. */
-#define SSP_INTERFACE 6
+#define SSP_INTERFACE 7
 
 #ifdef __cplusplus
 extern "C" {
@@ -129,10 +138,10 @@ struct ssp_booked {
 struct ssp_advanced {
     uint32_t refusal;
     uint32_t record;
-    uint64_t ticks; /* what the run pays; 0 for a run of 1,500,000 ticks or less */
+    uint64_t ticks; /* what the run pays, before charges are withheld; 0 for a run of 1,500,000 ticks or less */
 };
 
-/* The sums of the year that was closed, in ticks. */
+/* The sums of the year that was closed, in ticks, before charges are withheld. */
 struct ssp_closed {
     uint32_t refusal;
     uint32_t record;
@@ -222,11 +231,18 @@ struct ssp_booked ssp_elect(uint8_t *book, size_t len, uint32_t number, uint8_t 
                             uint32_t day);
 
 /*
+ * Charges a user's open year, once: 15 EUR for a plant of up to 3,000 W, 30 EUR up to 20,000 W, 45 EUR above. It pays nothing and
+ * adds no record; what it charges is withheld from the payments after it (CHARGES, above). Refusals in the order 1 2 6 16.
+ */
+struct ssp_booked ssp_charge(uint8_t *book, size_t len, uint32_t number);
+
+/*
  * Books a run of advances for the open year or for the one after it: measures come late, and a run need not wait for the closing.
- * Each of the two years has its own runs and advances, and a closing moves the later year's up. June pays for the first half of the year and October for the second; in the year
- * of activation, October pays for both halves if the plant started in March to August, January for both if it started in
- * September to November, and there is no run if it started in December. The amount is the rate times the kWh exchanged in that
- * half of the last closed year, for either year, or times the estimate if no year is closed. Refusals in the order 1 2 6 9 10 3.
+ * Each of the two years has its own runs and advances, and a closing moves the later year's up. June pays for the first half of
+ * the year and October for the second; in the year of activation, October pays for both halves if the plant started in March to
+ * August, January for both if it started in September to November, and there is no run if it started in December. The amount is
+ * the rate times the kWh exchanged in that half of the last closed year, for either year, or times the estimate if no year is
+ * closed. Refusals in the order 1 2 6 9 10 3.
  *
  *   year                  the open year or the one after it, at most 2099
  *   run                   SSP_JUNE, SSP_OCTOBER or SSP_JANUARY

@@ -1,6 +1,10 @@
-// A user's account for a clerk: a book on standard input, a user number as the argument. It prints
-// the account year by year, oldest first, then the totals of the statement and the conserved sum, in euro.
+// A user's account for a clerk: a book on standard input, a user number as the argument. It prints the account year by year,
+// oldest first, with the totals of the statement; what each year was charged and what was paid out, with the charges made; and the
+// conserved sum, in euro.
 use account_steps::Balance;
+use account_years::Charges;
+use account_years::OfEach;
+use account_years::Payments;
 use account_years::Year;
 use check_book::Verdict;
 use input::Input;
@@ -131,7 +135,8 @@ fn say_year(y: Year) -> bool {
     row = put_paid(row, y.cost);
     row = put_paid(row, y.flat_rate);
     row = put_paid(row, y.contribution);
-    row = put_paid(row, y.advances);
+    let payments = y.payments;
+    row = put_paid(row, payments.advances);
     row = put_balance(row, y.balance);
     row = put_paid(row, y.liquidation);
     row = put_paid(row, y.lapsed);
@@ -166,27 +171,105 @@ fn say_totals(sums: Sums) -> bool {
     say(put_paid(row, sums.credit))
 }
 
-fn say_open_year(year: u64) -> bool {
-    say(output::put_number(output::put_text(output::no_text(), b"\nopen year "), year))
+// PAYMENTS (document 02, tickets 1 and 6): a second table, of what each year was charged, its advances, what was withheld and what
+// was paid out; the two open years too.
+
+fn say_payment_headings() -> bool {
+    let mut row = output::put_text(output::no_text(), b"\nyear            ");
+    row = output::put_text(row, b"             charge");
+    row = output::put_text(row, b"           advances");
+    row = output::put_text(row, b"           withheld");
+    row = output::put_text(row, b"           net paid");
+    say(row)
 }
 
-fn say_advances_of(year: u16, advances: Ticks) -> bool {
-    let mut row = output::put_text(output::no_text(), b"advances of ");
-    row = output::put_number(row, year as u64);
-    say(put_paid(output::put(row, b' '), advances))
+// A charge, or that the book does not tell it.
+fn put_charge(row: Row, charge: OfEach) -> Row {
+    match charge {
+        OfEach::Charged(amount) => put_paid(row, amount),
+        OfEach::NotKept => output::put_text(row, b"                  -"),
+    }
 }
 
-// What is paid in the open year and, while it is open, in the year after it.
-fn say_open_years(book: &[u8], user: RecordIndex) -> bool
+fn say_payments(name: Row, charge: OfEach, payments: Payments) -> bool {
+    let mut row = put_charge(name, charge);
+    row = put_paid(row, payments.advances);
+    row = put_paid(row, payments.withheld);
+    say(put_paid(row, payments.paid))
+}
+
+fn say_payments_of(year: u16, charge: OfEach, payments: Payments) -> bool {
+    let row = output::put_number(output::no_text(), year as u64);
+    say_payments(output::put_text(row, b"            "), charge, payments)
+}
+
+// The closed years of a user, oldest first.
+fn say_closed_payments(book: &[u8], user: RecordIndex, each: OfEach) -> bool
+    requires { ⌜ Accepted (now book) ⌝ }
+    requires { ⌜ isUser (now book) (user .0) ≡ true ⌝ }
+{
+    let activation = book_view::activation_of(book, user);
+    let open = book_view::open_year_of(book, user);
+    for year in activation..open {
+        let payments = account_years::payments_of(book, user, year, year);
+        if !say_payments_of(year, each, payments) {
+            return false;
+        }
+    }
+    true
+}
+
+// The two open years, of which the earlier one takes charges.
+fn say_open_payments(book: &[u8], user: RecordIndex, charge: Ticks) -> bool
     requires { ⌜ Accepted (now book) ⌝ }
     requires { ⌜ isUser (now book) (user .0) ≡ true ⌝ }
 {
     let open = book_view::open_year_of(book, user);
-    if !say_advances_of(open, account_years::advances_of(book, user, open)) {
+    let payments = account_years::payments_of(book, user, open, open);
+    if !say_payments_of(open, OfEach::Charged(charge), payments) {
         return false;
     }
     let later = open + 1;
-    say_advances_of(later, account_years::advances_of(book, user, later))
+    let payments = account_years::payments_of(book, user, later, later);
+    say_payments_of(later, OfEach::Charged(Ticks(0)), payments)
+}
+
+// "A user's charges made equal those withheld plus the rest"
+fn say_charges_made(charges: Charges) -> bool {
+    let mut row = output::put_text(output::no_text(), b"charges         ");
+    row = put_paid(row, charges.made);
+    row = output::put_text(row, b" = withheld");
+    row = put_paid(row, charges.withheld);
+    row = output::put_text(row, b" + rest");
+    say(put_paid(row, charges.rest))
+}
+
+fn say_charges(book: &[u8], user: RecordIndex) -> bool
+    requires { ⌜ Accepted (now book) ⌝ }
+    requires { ⌜ isUser (now book) (user .0) ≡ true ⌝ }
+{
+    if !say_payment_headings() {
+        return false;
+    }
+    let charges = account_years::charges_of(book, user);
+    let each = charges.each;
+    if !say_closed_payments(book, user, each) {
+        return false;
+    }
+    if !say_open_payments(book, user, charges.open) {
+        return false;
+    }
+    let payments = account_years::payments_of(book, user, 0, account_years::LAST_YEAR);
+    let row = output::put_text(output::no_text(), b"all             ");
+    let made = charges.made;
+    if !say_payments(row, OfEach::Charged(made), payments) {
+        return false;
+    }
+    say_charges_made(charges)
+}
+
+fn say_open_year(year: u64) -> bool {
+    say(output::put_number(output::put_text(output::no_text(), b"\nopen year "), year))
 }
 
 fn say_advances(advances: Ticks) -> bool {
@@ -233,10 +316,10 @@ fn say_account(book: &[u8], user: RecordIndex) -> bool
     if !say_totals(sums) {
         return false;
     }
-    if !say_open_year(sums.open_year) {
+    if !say_charges(book, user) {
         return false;
     }
-    if !say_open_years(book, user) {
+    if !say_open_year(sums.open_year) {
         return false;
     }
     say_rest(sums)

@@ -18,11 +18,11 @@ difference : (x a : ℕ) → pos x -ℤ pos a ≡ subℕ x a
 difference x zero = rw (le-ltb x 0 (omega arith)) (ap pos (omega arith))
 difference x (suc a) = refl
 
-balance-above : (x a : ℕ) → a ≤ x → balanceOf x a ≡ pos (x - a)
+pub balance-above : (x a : ℕ) → a ≤ x → balanceOf x a ≡ pos (x - a)
 unfolding balanceOf
 balance-above x a h = difference x a ∙ rw (le-ltb x a h) refl
 
-balance-below : (x a : ℕ) → x < a → balanceOf x a ≡ negsuc (a - suc x)
+pub balance-below : (x a : ℕ) → x < a → balanceOf x a ≡ negsuc (a - suc x)
 unfolding balanceOf
 balance-below x a h = difference x a ∙ rw (lt-ltb x a h) refl
 

@@ -3,3 +3,4 @@ pub mod Outcomes
 pub mod Balances
 pub mod Settlements
 pub mod TwoYears
+pub mod Charges

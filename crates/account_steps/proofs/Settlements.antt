@@ -39,6 +39,7 @@ module _ (v : YearValues) (a : Account) where
         «later_advances» = ticks 0;
         half1 = v .half1;
         half2 = v .half2;
+        charge = record { made = 0; rest = a .charge .rest };
       }
 
   pub closed-of-parts : (settlement : Settlement) (credit : Ticks)

@@ -21,6 +21,7 @@ joined run paid a =
       «later_advances» = a .«later_advances»;
       half1 = a .half1;
       half2 = a .half2;
+      charge = a .charge;
     }
 
 abbrev pub joinedLater : ℕ → ℕ → Account → Account
@@ -37,6 +38,7 @@ joinedLater run paid a =
       «later_advances» = ticks (a .«later_advances» .0 + paid);
       half1 = a .half1;
       half2 = a .half2;
+      charge = a .charge;
     }
 
 module _ (year : ℕ) (a : Account) where

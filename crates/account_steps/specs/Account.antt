@@ -63,6 +63,7 @@ accountElected option a =
       «later_advances» = a .«later_advances»;
       half1 = a .half1;
       half2 = a .half2;
+      charge = a .charge;
     }
 
 -- "An account may have two open years, and a run names either. Each year has its own runs and advances" (ticket 6): those of the
@@ -88,10 +89,12 @@ accountAdvanced year run paid a =
       «later_advances» = ticks (cond (eqb year (a .«open_year»)) (a .«later_advances» .0) (a .«later_advances» .0 + paid));
       half1 = a .half1;
       half2 = a .half2;
+      charge = a .charge;
     }
 
 -- "Then A and the runs become 0, the halves become the sums of the months' exchanged kWh, and the open year rises by
--- one." What the later year has is "moved up by a closing" (ticket 6): that year is now the open one.
+-- one." What the later year has is "moved up by a closing" (ticket 6): that year is now the open one. It
+-- has no charge yet; the rest stays (ticket 1).
 unfoldable pub accountClosed : YearValues → Account → Account
 accountClosed v a =
     record {
@@ -106,6 +109,7 @@ accountClosed v a =
       «later_advances» = ticks 0;
       half1 = v .half1;
       half2 = v .half2;
+      charge = record { made = 0; rest = a .charge .rest };
     }
 
 unfoldable pub closedOf : YearValues → Account → Closed

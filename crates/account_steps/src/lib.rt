@@ -9,8 +9,10 @@ ghost use mathlib.Core.Path.{_≡_};
 ghost use Prim.Native.Nat.{_+_, _-_, _^_, _≤_, _<_, min};
 ghost use mir.Syntax.{w64};
 ghost use mir.Val.{toZ};
-ghost use Rattle.units.specs.Limits.{maxYearTicks, maxFlatRate};
+ghost use Rattle.units.specs.Units.{ticks};
+ghost use Rattle.units.specs.Limits.{maxYearTicks, maxFlatRate, maxCharge};
 ghost use Rattle.account_steps.specs.Closing.{contributionOf, balanceOf};
+ghost use Rattle.account_steps.specs.Charges.{chargeOf, withheldFrom, withheldAtClosing, accountCharged, accountWithheld};
 ghost use Rattle.account_steps.specs.Account.{balanceBits, outcomeOf, liquidationIn, lapsedIn, creditIn, settlementOf, accountElected, runsIn, advancesIn, accountAdvanced, closedOf, SumsInRange, InRange};
 
 // The option that pays a year's surplus out ("Book": 0 credit, 1 liquidation).
@@ -18,6 +20,12 @@ const LIQUIDATION: u8 = 1;
 
 // The bit that a negative number in two's complement has set: 2^63.
 const SIGN_BIT: u64 = 9223372036854775808;
+
+// The yearly charge (document 02, ticket 1): whether the open year is charged, 0 or 1, and what of all charges is still unpaid.
+pub struct Charge {
+    pub made: u8,
+    pub rest: Ticks,
+}
 
 pub struct Account {
     pub number: UserNumber,
@@ -31,6 +39,7 @@ pub struct Account {
     pub later_advances: Ticks,
     pub half1: Kwh,
     pub half2: Kwh,
+    pub charge: Charge,
 }
 
 // A signed amount in ticks, as its 64 bits in two's complement.
@@ -74,7 +83,7 @@ fn smaller(a: Ticks, b: Ticks) -> Ticks
 }
 
 // What one amount is above another, 0 where it is not.
-fn excess(a: Ticks, b: Ticks) -> Ticks
+pub fn excess(a: Ticks, b: Ticks) -> Ticks
     ensures { λ r. ⌜ r .0 ≡ a .0 - b .0 ⌝ }
 {
     if b.0 < a.0 {
@@ -160,6 +169,45 @@ pub fn credit_after(outcome: Outcome) -> Ticks
     }
 }
 
+// "15 € up to 3 kW, 30 € up to 20 kW and 45 € above", in watts and ticks.
+const SMALL_POWER: u32 = 3_000;
+
+const MIDDLE_POWER: u32 = 20_000;
+
+pub fn charge_of(power: u32) -> Ticks
+    ensures { λ r. ⌜ (r ≡ ticks (chargeOf power)) × (r .0 ≤ maxCharge) ⌝ }
+{
+    if power <= SMALL_POWER {
+        return Ticks(1_500_000);
+    }
+    if power <= MIDDLE_POWER {
+        Ticks(3_000_000)
+    } else {
+        Ticks(4_500_000)
+    }
+}
+
+// What of a rest is withheld from a payment.
+pub fn withheld_from(rest: Ticks, payment: Ticks) -> Ticks
+    ensures { λ r. ⌜ r ≡ ticks (withheldFrom (rest .0) (payment .0)) ⌝ }
+{
+    Ticks(smaller(rest, payment).0)
+}
+
+// What of a rest is withheld at a closing: first from the balance if that is positive, then from the liquidation.
+pub fn withheld_at_closing(
+    rest: Ticks,
+    contribution: Ticks,
+    advances: Ticks,
+    liquidation: Ticks,
+) -> Ticks
+    ensures { λ r. ⌜ r ≡ ticks (withheldAtClosing (rest .0) (balanceOf (contribution .0) (advances .0)) (liquidation .0)) ⌝ }
+{
+    let first = withheld_from(rest, excess(contribution, advances));
+    let second = withheld_from(excess(rest, first), liquidation);
+    Ticks(first.0 + second.0)
+}
+
 // The result of a closing, from the credit before it and the advances of the year.
 fn settle(option: u8, credit: Ticks, advances: Ticks, values: YearValues) -> Settlement
     requires { ⌜ SumsInRange (credit .0) values ⌝ }
@@ -216,6 +264,9 @@ impl Account {
         let nothing = Ticks(0);
         let half1 = values.half1;
         let half2 = values.half2;
+        let charge = self.charge;
+        let rest = charge.rest;
+        let charge = Charge { made: 0, rest };
         self.open_year = self.open_year + 1;
         self.runs = self.later_runs;
         self.later_runs = 0;
@@ -224,9 +275,34 @@ impl Account {
         self.later_advances = nothing;
         self.half1 = half1;
         self.half2 = half2;
+        self.charge = charge;
         Closed {
             account: self,
             settlement,
         }
+    }
+
+    // "A new call charges the open year once."
+    pub fn charged(mut self) -> Account
+        requires { ⌜ self .charge .rest .0 + maxCharge < 2 ^ 64 ⌝ }
+        ensures { λ r. ⌜ r ≡ accountCharged self ⌝ }
+    {
+        let due = charge_of(self.details.power);
+        let rest = Ticks(self.charge.rest.0 + due.0);
+        let charge = Charge { made: 1, rest };
+        self.charge = charge;
+        self
+    }
+
+    // The account once so much of its rest is withheld.
+    pub fn withheld(mut self, amount: Ticks) -> Account
+        requires { ⌜ amount .0 ≤ self .charge .rest .0 ⌝ }
+        ensures { λ r. ⌜ r ≡ accountWithheld (amount .0) self ⌝ }
+    {
+        let rest = Ticks(self.charge.rest.0 - amount.0);
+        let made = self.charge.made;
+        let charge = Charge { made, rest };
+        self.charge = charge;
+        self
     }
 }

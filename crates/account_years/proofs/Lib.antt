@@ -1,2 +1,4 @@
 pub mod Walk
+pub mod PaidOut
+pub mod Charged
 pub mod Years

@@ -1,24 +1,18 @@
 -- Walks over the chain of a user of a sound book: where they begin, and what a turn keeps.
 use Prim.Native.Nat.{ℕ, _+_, _^_, _<_}
 use mathlib.Core.Path.{_≡_, refl, sym, ap, subst, _∙_}
-use mathlib.Core.Bool.{Bool, true, false, _&&_}
+use mathlib.Core.Bool.{true, false}
 use mathlib.Core.List.{List}
 use native.Mathlib.Omega.{arith}
-use lib.Dec.{eqb}
 use Rattle.units.specs.declared.RecordIndex.{RecordIndex}
 use Rattle.units.specs.declared.Ticks.{Ticks}
 use Rattle.units.specs.Units.{recordIndex, ticks}
-use Rattle.book_layout.specs.Fields.{recordAt}
-use Rattle.book_records.specs.declared.AdvanceRecord.{AdvanceRecord}
-use Rattle.book_records.specs.Records.{advanceIn}
-use Rattle.book_rules.specs.Book.{lengthFits, sound, isUser, isAdvance, nextOf, firstEntryOf}
-use Rattle.book_rules.proofs.Faultless.{sound-faultless}
+use Rattle.book_rules.specs.Book.{lengthFits, sound, isUser, nextOf, firstEntryOf}
 use Rattle.book_rules.specs.Chains.{chainFrom, entriesOf}
-use Rattle.chains.specs.Statements.{sumOver, advancePart}
+use Rattle.chains.specs.Statements.{sumOver}
 use Rattle.chains.proofs.Chain.{chain-none}
-use Rattle.chains.proofs.Fit.{advance-sum}
 use Rattle.chains.proofs.Walks.{Ahead, begins, ahead-next, chain-here}
-use Rattle.account_years.specs.History.{isClosingOf, closingAmong, closingOf, advancesOf}
+use Rattle.account_years.specs.History.{isClosingOf, closingAmong, closingOf}
 
 module _ (b : List ℕ) (at : ℕ) (w : Ahead b at) (more : at ≡ 0 → ⊥) where
   sum-here : (f : ℕ → ℕ) → sumOver f (chainFrom (nextOf b) at) ≡ f at + sumOver f (chainFrom (nextOf b) (nextOf b at))
@@ -41,13 +35,6 @@ no-sum b f = ap (sumOver f) (chain-none (nextOf b))
 no-closing : (b : List ℕ) (year : ℕ) → closingAmong b year (chainFrom (nextOf b) 0) ≡ 0
 unfolding closingAmong
 no-closing b year = ap (closingAmong b year) (chain-none (nextOf b))
-
--- the advances of a year stay below 2^64, whatever the year
-advances-small : (b : List ℕ) (i year : ℕ) → lengthFits b ≡ true → sound b ≡ true → isUser b i ≡ true → advancesOf b i year < 2 ^ 64
-unfolding advancesOf
-advances-small b i year long good user =
-    let f = sound-faultless b long good in
-    omega (arith, advance-sum b f i user long (λ y. eqb y year))
 
 -- THE CLOSING OF A YEAR: it is not before `at`
 pub record Seeking (b : List ℕ) (year first at : ℕ) : Type 0 where
@@ -73,47 +60,31 @@ pub seek-on : (b : List ℕ) (year first at : ℕ) → Seeking b year first at �
 seek-on b year first at s more not-here =
     record { ahead = ahead-next b at (s .ahead) more; same = sym (closing-later b at (s .ahead) more year not-here) ∙ s .same }
 
--- THE ADVANCES OF A YEAR: the sum so far and what is ahead
-pub record Adding (b : List ℕ) (year first sum at : ℕ) : Type 0 where
-  pub ahead : Ahead b at
-  pub whole : sum + sumOver (advancePart (λ y. eqb y year) b) (chainFrom (nextOf b) at) ≡ sumOver (advancePart (λ y. eqb y year) b) (chainFrom (nextOf b) first)
-  pub small : sumOver (advancePart (λ y. eqb y year) b) (chainFrom (nextOf b) first) < 2 ^ 64
+-- A SUM OVER THE CHAIN: the sum so far and what is ahead
+pub record Adding (b : List ℕ) (g : ℕ → ℕ) (first sum at : ℕ) : Type 0 where
+  pub whole : sum + sumOver g (chainFrom (nextOf b) at) ≡ sumOver g (chainFrom (nextOf b) first)
+  pub small : sumOver g (chainFrom (nextOf b) first) < 2 ^ 63
 
-pub add-begins : (b : List ℕ) (i year : ℕ) → lengthFits b ≡ true → sound b ≡ true → isUser b i ≡ true → (first : RecordIndex)
-    → first ≡ recordIndex (firstEntryOf b i) → Adding b year (first .0) 0 (first .0)
-unfolding advancesOf entriesOf
-add-begins b i year long good user first e =
-    record {
-      ahead = subst (λ k. Ahead b (k .0)) (sym e) (begins b i long good user);
-      whole = omega arith;
-      small = subst (λ k. sumOver (advancePart (λ y. eqb y year) b) (chainFrom (nextOf b) (k .0)) < 2 ^ 64) (sym e) (advances-small b i year long good user);
-    }
+pub add-begins : (b : List ℕ) (i : ℕ) (g : ℕ → ℕ) → sumOver g (entriesOf b i) < 2 ^ 63 → (first : RecordIndex) → first ≡ recordIndex (firstEntryOf b i)
+    → Adding b g (first .0) 0 (first .0)
+unfolding entriesOf
+add-begins b i g small first e =
+    record { whole = omega arith; small = subst (λ k. sumOver g (chainFrom (nextOf b) (k .0)) < 2 ^ 63) (sym e) small }
 
-module _ (b : List ℕ) (year first sum at part : ℕ) (s : Adding b year first sum at) (more : at ≡ 0 → ⊥) (is : part ≡ advancePart (λ y. eqb y year) b at) where
-  split : sumOver (advancePart (λ y. eqb y year) b) (chainFrom (nextOf b) at) ≡ part + sumOver (advancePart (λ y. eqb y year) b) (chainFrom (nextOf b) (nextOf b at))
-  split = rw is (sum-here b at (s .ahead) more (advancePart (λ y. eqb y year) b))
+module _ (b : List ℕ) (g : ℕ → ℕ) (first sum at part : ℕ) (w : Ahead b at) (more : at ≡ 0 → ⊥) (s : Adding b g first sum at) (is : part ≡ g at) where
+  split : sumOver g (chainFrom (nextOf b) at) ≡ part + sumOver g (chainFrom (nextOf b) (nextOf b at))
+  split = rw is (sum-here b at w more g)
 
   pub add-room : sum + part < 2 ^ 64
   add-room = omega (arith, s .whole, s .small, split)
 
-  pub add-on : Adding b year first (sum + part) (nextOf b at)
-  add-on = record { ahead = ahead-next b at (s .ahead) more; whole = omega (arith, s .whole, split); small = s .small }
+  pub add-on : Adding b g first (sum + part) (nextOf b at)
+  add-on = record { whole = omega (arith, s .whole, split); small = s .small }
 
-pub added : (b : List ℕ) (i year : ℕ) (first : RecordIndex) (sum : Ticks) → first ≡ recordIndex (firstEntryOf b i) → (at : ℕ) → Adding b year (first .0) (sum .0) at
-    → at ≡ 0 → sum ≡ ticks (advancesOf b i year)
-unfolding advancesOf entriesOf
-added b i year first sum e at s end =
-    let none : sumOver (advancePart (λ y. eqb y year) b) (chainFrom (nextOf b) at) ≡ 0 =
-    ap (λ k. sumOver (advancePart (λ y. eqb y year) b) (chainFrom (nextOf b) k)) end ∙ no-sum b (advancePart (λ y. eqb y year) b) in
-    let all : sum .0 ≡ sumOver (advancePart (λ y. eqb y year) b) (chainFrom (nextOf b) (first .0)) = omega (arith, s .whole, none) in
-    ap ticks (all ∙ ap (λ k. sumOver (advancePart (λ y. eqb y year) b) (chainFrom (nextOf b) (k .0))) e)
-
--- what an entry adds
-module _ (b : List ℕ) (e year : ℕ) (r : List ℕ) (a : AdvanceRecord) (t : Bool) (there : r ≡ recordAt b e) (read : a ≡ advanceIn r) (is : t ≡ isAdvance b e) where
-  pub its-ticks : (t && eqb (a .year) year) ≡ true → a .ticks .0 ≡ advancePart (λ y. eqb y year) b e
-  unfolding advancePart
-  its-ticks h = rw (sym is, sym there, sym read, h)
-
-  pub no-ticks : (t && eqb (a .year) year) ≡ false → 0 ≡ advancePart (λ y. eqb y year) b e
-  unfolding advancePart
-  no-ticks h = rw (sym is, sym there, sym read, h)
+pub added : (b : List ℕ) (i : ℕ) (g : ℕ → ℕ) (first : RecordIndex) (sum : Ticks) → first ≡ recordIndex (firstEntryOf b i) → (at : ℕ) → Adding b g (first .0) (sum .0) at
+    → at ≡ 0 → sum ≡ ticks (sumOver g (entriesOf b i))
+unfolding entriesOf
+added b i g first sum e at s end =
+    let none : sumOver g (chainFrom (nextOf b) at) ≡ 0 = ap (λ k. sumOver g (chainFrom (nextOf b) k)) end ∙ no-sum b g in
+    let all : sum .0 ≡ sumOver g (chainFrom (nextOf b) (first .0)) = omega (arith, s .whole, none) in
+    ap ticks (all ∙ ap (λ k. sumOver g (chainFrom (nextOf b) (k .0))) e)

@@ -23,7 +23,8 @@ use Rattle.book_rules.specs.Book.{lengthFits, sound, isUser, isClosing, levelOf
 use Rattle.book_rules.proofs.Faultless.{sound-faultless}
 use Rattle.book_rules.specs.Chains.{entriesOf}
 use Rattle.chains.proofs.Ranges.{closing-ranges, user-years}
-use Rattle.account_years.specs.History.{isClosingOf, closingAmong, closingOf, closingAfter, advancesOf, creditOver, creditAfterYears, yearOf}
+use Rattle.account_years.specs.declared.Payments.{Payments}
+use Rattle.account_years.specs.History.{isClosingOf, closingAmong, closingOf, closingAfter, paymentsOf, creditOver, creditAfterYears, yearOf}
 
 -- an activation year leaves room for every year after it
 pub year-room : (b : List ℕ) (i n : ℕ) → lengthFits b ≡ true → sound b ≡ true → isUser b i ≡ true → n ≤ mostYears → activationOf b i + n < 2 ^ 16
@@ -101,7 +102,7 @@ module _ (b : List ℕ) (e credit : ℕ) where
 
 -- the entry of a year, field by field
 pub year-is : (b : List ℕ) (i n : ℕ) (year : ℕ) → year ≡ activationOf b i + n → (entry : RecordIndex) → entry ≡ recordIndex (closingAfter b i n) → (r : List ℕ)
-    → r ≡ recordAt b (entry .0) → (c : ClosingRecord) → c ≡ closingIn r → (advances credit : Ticks) → advances ≡ ticks (advancesOf b i year)
+    → r ≡ recordAt b (entry .0) → (c : ClosingRecord) → c ≡ closingIn r → (payments : Payments) (credit : Ticks) → payments ≡ paymentsOf b i year year
     → credit ≡ ticks (creditAfterYears b i (n + 1))
     → record {
       year = year;
@@ -110,7 +111,7 @@ pub year-is : (b : List ℕ) (i n : ℕ) (year : ℕ) → year ≡ activationOf 
       cost = c .sums .cost;
       «flat_rate» = c .sums .«flat_rate»;
       contribution = c .sums .contribution;
-      advances = advances;
+      payments = payments;
       balance = c .sums .balance;
       liquidation = c .sums .liquidation;
       lapsed = c .sums .lapsed;
@@ -118,6 +119,6 @@ pub year-is : (b : List ℕ) (i n : ℕ) (year : ℕ) → year ≡ activationOf 
     }
     ≡ yearOf b i n
 unfolding yearOf
-year-is b i n year y entry e r there c read advances credit a k =
+year-is b i n year y entry e r there c read payments credit a k =
     let one : n + 1 ≡ suc n = omega arith in
     rw (a, k ∙ ap (λ m. ticks (creditAfterYears b i m)) one, read, there, e, y)

@@ -85,6 +85,13 @@ laterRunsField = bytes 27 1
 abbrev pub laterAdvancesField : Field
 laterAdvancesField = bytes 64 8
 
+-- "The unpaid rest stands in bytes 56–63 of the user record." (ticket 1): 28 whether the open year is charged, 0 or 1
+abbrev pub chargedField : Field
+chargedField = bytes 28 1
+
+abbrev pub restField : Field
+restField = bytes 56 8
+
 abbrev pub creditField : Field
 creditField = bytes 32 8
 
@@ -110,6 +117,10 @@ yearField = bytes 6 2
 
 abbrev pub ownerField : Field
 ownerField = bytes 64 4
+
+-- "Each entry keeps its withheld ticks in bytes 68–75." (ticket 1)
+abbrev pub withheldField : Field
+withheldField = bytes 68 8
 
 -- "Advance: 5 run bit, 8–15 ticks."
 abbrev pub runField : Field
@@ -153,13 +164,13 @@ abbrev pub unnamedOfHead : List Field
 unnamedOfHead = bytes 8 72 ∷ []
 
 abbrev pub unnamedOfUser : List Field
-unnamedOfUser = bytes 28 4 ∷ bytes 56 8 ∷ bytes 72 8 ∷ []
+unnamedOfUser = bytes 29 3 ∷ bytes 72 8 ∷ []
 
 abbrev pub unnamedOfAdvance : List Field
-unnamedOfAdvance = bytes 16 48 ∷ bytes 68 8 ∷ bytes 78 2 ∷ []
+unnamedOfAdvance = bytes 16 48 ∷ bytes 78 2 ∷ []
 
 abbrev pub unnamedOfClosing : List Field
-unnamedOfClosing = bytes 68 12 ∷ []
+unnamedOfClosing = bytes 76 4 ∷ []
 
 -- the bytes of each field of a list are zero
 unfoldable pub allZero : List Field → List ℕ → Bool

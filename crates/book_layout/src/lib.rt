@@ -114,19 +114,19 @@ pub fn head_rest_zero(r: &[u8]) -> bool
 pub fn user_rest_zero(r: &[u8]) -> bool
     ensures { λ s. ⌜ s ≡ allZero unnamedOfUser (now (r .entry)) ⌝ }
 {
-    codec::zeros(r, 28, 4) & (codec::zeros(r, 56, 8) & codec::zeros(r, 72, 8))
+    codec::zeros(r, 29, 3) & codec::zeros(r, 72, 8)
 }
 
 pub fn advance_rest_zero(r: &[u8]) -> bool
     ensures { λ s. ⌜ s ≡ allZero unnamedOfAdvance (now (r .entry)) ⌝ }
 {
-    codec::zeros(r, 16, 48) & (codec::zeros(r, 68, 8) & codec::zeros(r, 78, 2))
+    codec::zeros(r, 16, 48) & codec::zeros(r, 78, 2)
 }
 
 pub fn closing_rest_zero(r: &[u8]) -> bool
     ensures { λ s. ⌜ s ≡ allZero unnamedOfClosing (now (r .entry)) ⌝ }
 {
-    codec::zeros(r, 68, 12)
+    codec::zeros(r, 76, 4)
 }
 
 pub fn read_u8(r: &[u8], at: usize) -> u8

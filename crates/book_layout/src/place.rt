@@ -35,6 +35,8 @@ pub const RUNS: usize = 26;
 
 pub const LATER_RUNS: usize = 27;
 
+pub const CHARGED: usize = 28;
+
 pub const CREDIT: usize = 32;
 
 pub const ADVANCES: usize = 40;
@@ -43,12 +45,16 @@ pub const HALF1: usize = 48;
 
 pub const HALF2: usize = 52;
 
+pub const REST: usize = 56;
+
 pub const LATER_ADVANCES: usize = 64;
 
 // An entry.
 pub const YEAR: usize = 6;
 
 pub const OWNER: usize = 64;
+
+pub const WITHHELD: usize = 68;
 
 // An advance.
 pub const RUN: usize = 5;

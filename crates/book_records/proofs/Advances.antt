@@ -7,7 +7,7 @@ use mathlib.Core.List.{List}
 use lib.Dec.{lit<}
 use lib.ListN.{length}
 use Rattle.units.specs.Units.{ticks, recordIndex}
-use Rattle.book_layout.specs.Fields.{recordLength, get, allZero, unnamedOfAdvance, image, advanceKind, bookedField, kindField, nextField, ownerField, runField, ticksField, yearField}
+use Rattle.book_layout.specs.Fields.{recordLength, get, allZero, unnamedOfAdvance, image, advanceKind, bookedField, withheldField, kindField, nextField, ownerField, runField, ticksField, yearField}
 use Rattle.book_layout.proofs.Cells.{cellAt, length-image, read-image, unnamed-image}
 use Rattle.book_layout.proofs.ByteRanges.{Bytes, bytes-image}
 use Rattle.book_records.specs.declared.AdvanceRecord.{AdvanceRecord}
@@ -22,6 +22,7 @@ pub record AdvanceFits (a : AdvanceRecord) : Type 0 where
   pub ticks : a .ticks .0 < 2 ^ 64
   pub owner : a .owner .0 < 2 ^ 32
   pub booked : a .booked < 2 ^ 16
+  pub withheld : a .withheld .0 < 2 ^ 64
 
 -- what the fields of a record of this kind hold
 pub record AdvanceReads (a : AdvanceRecord) (r : List ℕ) : Type 0 where
@@ -32,6 +33,7 @@ pub record AdvanceReads (a : AdvanceRecord) (r : List ℕ) : Type 0 where
   pub ticks : get ticksField r ≡ a .ticks .0
   pub owner : get ownerField r ≡ a .owner .0
   pub booked : get bookedField r ≡ a .booked
+  pub withheld : get withheldField r ≡ a .withheld .0
 
 module _ (a : AdvanceRecord) where
   pub length-advance-image : length (advanceImage a) ≡ recordLength
@@ -62,6 +64,7 @@ module _ (a : AdvanceRecord) where
         ticks = read 4 (h .ticks);
         owner = read 5 (h .owner);
         booked = read 6 (h .booked);
+        withheld = read 7 (h .withheld);
       }
 
 -- a record whose fields read so holds the value
@@ -76,6 +79,7 @@ advance-decoded a r h =
       ticks = ticks (h .ticks i);
       owner = recordIndex (h .owner i);
       booked = h .booked i;
+      withheld = ticks (h .withheld i);
     }
 
 -- reading gives back what was written

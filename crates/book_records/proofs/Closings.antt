@@ -7,7 +7,7 @@ use mathlib.Core.List.{List}
 use lib.Dec.{lit<}
 use lib.ListN.{length}
 use Rattle.units.specs.Units.{ticks, recordIndex}
-use Rattle.book_layout.specs.Fields.{recordLength, get, allZero, unnamedOfClosing, image, closingKind, balanceField, closingOptionField, contributionField, costField, flatRateField, kindField, lapsedField, liquidationField, nextField, ownerField, valueField, yearField}
+use Rattle.book_layout.specs.Fields.{recordLength, get, allZero, unnamedOfClosing, image, closingKind, balanceField, closingOptionField, contributionField, costField, flatRateField, kindField, lapsedField, liquidationField, nextField, ownerField, withheldField, valueField, yearField}
 use Rattle.book_layout.proofs.Cells.{cellAt, length-image, read-image, unnamed-image}
 use Rattle.book_layout.proofs.ByteRanges.{Bytes, bytes-image}
 use Rattle.book_records.specs.declared.ClosingRecord.{ClosingRecord}
@@ -27,6 +27,7 @@ pub record ClosingFits (c : ClosingRecord) : Type 0 where
   pub lapsed : c .sums .lapsed .0 < 2 ^ 64
   pub balance : c .sums .balance .0 < 2 ^ 64
   pub owner : c .owner .0 < 2 ^ 32
+  pub withheld : c .withheld .0 < 2 ^ 64
 
 -- what the fields of a record of this kind hold
 pub record ClosingReads (c : ClosingRecord) (r : List ℕ) : Type 0 where
@@ -42,6 +43,7 @@ pub record ClosingReads (c : ClosingRecord) (r : List ℕ) : Type 0 where
   pub lapsed : get lapsedField r ≡ c .sums .lapsed .0
   pub balance : get balanceField r ≡ c .sums .balance .0
   pub owner : get ownerField r ≡ c .owner .0
+  pub withheld : get withheldField r ≡ c .withheld .0
 
 module _ (c : ClosingRecord) where
   pub length-closing-image : length (closingImage c) ≡ recordLength
@@ -77,6 +79,7 @@ module _ (c : ClosingRecord) where
         lapsed = read 9 (h .lapsed);
         balance = read 10 (h .balance);
         owner = read 11 (h .owner);
+        withheld = read 12 (h .withheld);
       }
 
 -- a record whose fields read so holds the value
@@ -99,6 +102,7 @@ closing-decoded c r h =
             balance = record { 0 = h .balance i };
           };
       owner = recordIndex (h .owner i);
+      withheld = ticks (h .withheld i);
     }
 
 -- reading gives back what was written

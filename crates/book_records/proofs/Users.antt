@@ -7,7 +7,7 @@ use mathlib.Core.List.{List}
 use lib.Dec.{lit<}
 use lib.ListN.{length}
 use Rattle.units.specs.Units.{kwh, ticks, userNumber, recordIndex}
-use Rattle.book_layout.specs.Fields.{recordLength, get, allZero, unnamedOfUser, image, userKind, activationMonthField, activationYearField, advancesField, classField, creditField, firstEntryField, half1Field, half2Field, islandField, kindField, laterAdvancesField, laterRunsField, nextField, numberField, openYearField, optionField, plantField, powerField, runsField}
+use Rattle.book_layout.specs.Fields.{recordLength, get, allZero, unnamedOfUser, image, userKind, activationMonthField, activationYearField, advancesField, classField, creditField, firstEntryField, half1Field, half2Field, islandField, kindField, laterAdvancesField, laterRunsField, chargedField, restField, nextField, numberField, openYearField, optionField, plantField, powerField, runsField}
 use Rattle.book_layout.proofs.Cells.{cellAt, length-image, read-image, unnamed-image}
 use Rattle.book_layout.proofs.ByteRanges.{Bytes, bytes-image}
 use Rattle.book_records.specs.declared.UserRecord.{UserRecord}
@@ -34,6 +34,8 @@ pub record UserFits (u : UserRecord) : Type 0 where
   pub half2 : u .account .half2 .0 < 2 ^ 32
   pub «later_runs» : u .account .«later_runs» < 2 ^ 8
   pub «later_advances» : u .account .«later_advances» .0 < 2 ^ 64
+  pub charged : u .account .charge .made < 2 ^ 8
+  pub rest : u .account .charge .rest .0 < 2 ^ 64
 
 -- what the fields of a record of this kind hold
 pub record UserReads (u : UserRecord) (r : List ℕ) : Type 0 where
@@ -56,6 +58,8 @@ pub record UserReads (u : UserRecord) (r : List ℕ) : Type 0 where
   pub half2 : get half2Field r ≡ u .account .half2 .0
   pub «later_runs» : get laterRunsField r ≡ u .account .«later_runs»
   pub «later_advances» : get laterAdvancesField r ≡ u .account .«later_advances» .0
+  pub charged : get chargedField r ≡ u .account .charge .made
+  pub rest : get restField r ≡ u .account .charge .rest .0
 
 module _ (u : UserRecord) where
   pub length-user-image : length (userImage u) ≡ recordLength
@@ -98,6 +102,8 @@ module _ (u : UserRecord) where
         half2 = read 16 (h .half2);
         «later_runs» = read 17 (h .«later_runs»);
         «later_advances» = read 18 (h .«later_advances»);
+        charged = read 19 (h .charged);
+        rest = read 20 (h .rest);
       }
 
 account-read : (r : List ℕ) (u : UserRecord) → UserReads u r → accountIn r ≡ u .account
@@ -124,6 +130,7 @@ account-read r u h =
       «later_advances» = ticks (h .«later_advances» i);
       half1 = kwh (h .half1 i);
       half2 = kwh (h .half2 i);
+      charge = record { made = h .charged i; rest = ticks (h .rest i) };
     }
 
 -- a record whose fields read so holds the value

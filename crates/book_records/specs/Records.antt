@@ -6,7 +6,7 @@ use Rattle.account_steps.specs.declared.Account.{Account}
 use Rattle.book_records.specs.declared.UserRecord.{UserRecord}
 use Rattle.book_records.specs.declared.AdvanceRecord.{AdvanceRecord}
 use Rattle.book_records.specs.declared.ClosingRecord.{ClosingRecord}
-use Rattle.book_layout.specs.Fields.{Cell, _holds_, image, get, usedField, firstUserField, nextField, kindField, userKind, classField, plantField, optionField, numberField, firstEntryField, powerField, activationYearField, activationMonthField, islandField, openYearField, runsField, laterRunsField, creditField, advancesField, laterAdvancesField, half1Field, half2Field, advanceKind, closingKind, yearField, ownerField, runField, ticksField, bookedField, closingOptionField, valueField, costField, flatRateField, contributionField, liquidationField, lapsedField, balanceField}
+use Rattle.book_layout.specs.Fields.{Cell, _holds_, image, get, usedField, firstUserField, nextField, kindField, userKind, classField, plantField, optionField, numberField, firstEntryField, powerField, activationYearField, activationMonthField, islandField, openYearField, runsField, laterRunsField, creditField, advancesField, laterAdvancesField, half1Field, half2Field, chargedField, restField, advanceKind, closingKind, yearField, ownerField, runField, ticksField, bookedField, withheldField, closingOptionField, valueField, costField, flatRateField, contributionField, liquidationField, lapsedField, balanceField}
 
 abbrev pub headCells : ℕ → ℕ → List Cell
 headCells used first = (usedField holds used) ∷ (firstUserField holds first) ∷ []
@@ -35,6 +35,8 @@ userCells u =
     ∷ (half2Field holds u .account .half2 .0)
     ∷ (laterRunsField holds u .account .«later_runs»)
     ∷ (laterAdvancesField holds u .account .«later_advances» .0)
+    ∷ (chargedField holds u .account .charge .made)
+    ∷ (restField holds u .account .charge .rest .0)
     ∷ []
 
 unfoldable pub userImage : UserRecord → List ℕ
@@ -49,6 +51,7 @@ advanceCells a =
     ∷ (ticksField holds a .ticks .0)
     ∷ (ownerField holds a .owner .0)
     ∷ (bookedField holds a .booked)
+    ∷ (withheldField holds a .withheld .0)
     ∷ []
 
 unfoldable pub advanceImage : AdvanceRecord → List ℕ
@@ -68,6 +71,7 @@ closingCells c =
     ∷ (lapsedField holds c .sums .lapsed .0)
     ∷ (balanceField holds c .sums .balance .0)
     ∷ (ownerField holds c .owner .0)
+    ∷ (withheldField holds c .withheld .0)
     ∷ []
 
 unfoldable pub closingImage : ClosingRecord → List ℕ
@@ -96,6 +100,7 @@ accountIn r =
       «later_advances» = ticks (get laterAdvancesField r);
       half1 = kwh (get half1Field r);
       half2 = kwh (get half2Field r);
+      charge = record { made = get chargedField r; rest = ticks (get restField r) };
     }
 
 unfoldable pub userIn : List ℕ → UserRecord
@@ -111,6 +116,7 @@ advanceIn r =
       ticks = ticks (get ticksField r);
       owner = recordIndex (get ownerField r);
       booked = get bookedField r;
+      withheld = ticks (get withheldField r);
     }
 
 unfoldable pub closingIn : List ℕ → ClosingRecord
@@ -130,4 +136,5 @@ closingIn r =
             balance = record { 0 = get balanceField r };
           };
       owner = recordIndex (get ownerField r);
+      withheld = ticks (get withheldField r);
     }

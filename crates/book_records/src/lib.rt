@@ -5,6 +5,7 @@ ghost use Rattle.book_layout.specs.Fields.{recordLength};
 ghost use Rattle.book_records.specs.Records.{headImage, userImage, advanceImage, closingImage, accountIn, advanceIn, closingIn};
 use account_steps::Account;
 use account_steps::Balance;
+use account_steps::Charge;
 use account_steps::ClosingSums;
 use book_layout::kind;
 use book_layout::place;
@@ -24,7 +25,8 @@ pub struct UserRecord {
     pub account: Account,
 }
 
-// An advance entry. One of the later year has the year that was open when it was booked; else that is 0.
+// An advance entry. One of the later year has the year that was open when it was booked; else that is 0. An entry keeps what was
+// withheld from what it pays (document 02, ticket 1).
 pub struct AdvanceRecord {
     pub next: RecordIndex,
     pub run: u8,
@@ -32,6 +34,7 @@ pub struct AdvanceRecord {
     pub ticks: Ticks,
     pub owner: RecordIndex,
     pub booked: u16,
+    pub withheld: Ticks,
 }
 
 // A closing entry.
@@ -41,6 +44,7 @@ pub struct ClosingRecord {
     pub year: u16,
     pub sums: ClosingSums,
     pub owner: RecordIndex,
+    pub withheld: Ticks,
 }
 
 // RECORDS OF ANY BYTES
@@ -55,6 +59,15 @@ fn read_details(r: &[u8]) -> Details
         year: book_layout::activation_year_of(r),
         month: book_layout::read_u8(r, place::ACTIVATION_MONTH),
         island: book_layout::read_u8(r, place::ISLAND),
+    }
+}
+
+fn charge_of(r: &[u8]) -> Charge
+    ensures { λ c. ⌜ c ≡ accountIn (now (r .entry)) .charge ⌝ }
+{
+    Charge {
+        made: book_layout::read_u8(r, place::CHARGED),
+        rest: Ticks(codec::read_u64(r, place::REST)),
     }
 }
 
@@ -73,6 +86,7 @@ fn account_of(r: &[u8]) -> Account
         later_advances: Ticks(codec::read_u64(r, place::LATER_ADVANCES)),
         half1: Kwh(codec::read_u32(r, place::HALF1)),
         half2: Kwh(codec::read_u32(r, place::HALF2)),
+        charge: charge_of(r),
     }
 }
 
@@ -86,6 +100,7 @@ pub fn advance_of(r: &[u8]) -> AdvanceRecord
         ticks: Ticks(codec::read_u64(r, place::TICKS)),
         owner: book_layout::owner_of(r),
         booked: book_layout::booked_of(r),
+        withheld: Ticks(codec::read_u64(r, place::WITHHELD)),
     }
 }
 
@@ -112,6 +127,7 @@ pub fn closing_of(r: &[u8]) -> ClosingRecord
         year: book_layout::year_of(r),
         sums: sums_of(r),
         owner: book_layout::owner_of(r),
+        withheld: Ticks(codec::read_u64(r, place::WITHHELD)),
     }
 }
 
@@ -153,6 +169,7 @@ pub fn user_image(user: UserRecord) -> [u8; 80]
 {
     let account = user.account;
     let details = account.details;
+    let charge = account.charge;
     let image = [0; 80];
     let image = put_u32(image, place::NEXT, user.next.0);
     let image = put_u8(image, place::KIND, kind::USER);
@@ -172,7 +189,9 @@ pub fn user_image(user: UserRecord) -> [u8; 80]
     let image = put_u32(image, place::HALF1, account.half1.0);
     let image = put_u32(image, place::HALF2, account.half2.0);
     let image = put_u8(image, place::LATER_RUNS, account.later_runs);
-    put_u64(image, place::LATER_ADVANCES, account.later_advances.0)
+    let image = put_u64(image, place::LATER_ADVANCES, account.later_advances.0);
+    let image = put_u8(image, place::CHARGED, charge.made);
+    put_u64(image, place::REST, charge.rest.0)
 }
 
 pub fn advance_image(advance: AdvanceRecord) -> [u8; 80]
@@ -185,7 +204,8 @@ pub fn advance_image(advance: AdvanceRecord) -> [u8; 80]
     let image = put_u16(image, place::YEAR, advance.year);
     let image = put_u64(image, place::TICKS, advance.ticks.0);
     let image = put_u32(image, place::OWNER, advance.owner.0);
-    put_u16(image, place::BOOKED, advance.booked)
+    let image = put_u16(image, place::BOOKED, advance.booked);
+    put_u64(image, place::WITHHELD, advance.withheld.0)
 }
 
 pub fn closing_image(closing: ClosingRecord) -> [u8; 80]
@@ -204,5 +224,6 @@ pub fn closing_image(closing: ClosingRecord) -> [u8; 80]
     let image = put_u64(image, place::LIQUIDATION, sums.liquidation.0);
     let image = put_u64(image, place::LAPSED, sums.lapsed.0);
     let image = put_u64(image, place::BALANCE, sums.balance.0);
-    put_u32(image, place::OWNER, closing.owner.0)
+    let image = put_u32(image, place::OWNER, closing.owner.0);
+    put_u64(image, place::WITHHELD, closing.withheld.0)
 }

@@ -5,7 +5,7 @@ use mathlib.Core.Bool.{Bool, false, cond, not, _&&_, _||_}
 use mathlib.Core.List.{List, [], _∷_}
 use lib.Dec.{leb, ltb, eqb}
 use lib.ListN.{length, replicate}
-use Rattle.units.specs.Limits.{maxYearTicks, maxFlatRate, maxContribution, maxHalfTicks, maxHalfKwh, maxPower, firstActivation, lastActivation, lastOpenYear}
+use Rattle.units.specs.Limits.{maxYearTicks, maxFlatRate, maxContribution, maxCharge, maxHalfTicks, maxHalfKwh, maxPower, firstActivation, lastActivation, lastOpenYear}
 use Rattle.units.specs.Folds.{sumBelow, anyBelow, firstBelow}
 use Rattle.calendar.specs.declared.Halves.{Halves}
 use Rattle.calendar.specs.ElectionAndAdvances.{june, october, january, halvesPaid, due, halvesCount}
@@ -109,15 +109,24 @@ spanOf a year = year - a .details .year
 unfoldable pub creditFits : Account → Bool
 creditFits a = leb (a .credit .0) (maxYearTicks * spanOf a (a .«open_year»))
 
+-- Whether the open year is charged is 0 or 1; the unpaid rest is at most 45 € for each closed year and for a charge of the open one
+-- (ticket 1).
+unfoldable pub chargeFits : Account → Bool
+chargeFits a = leb (a .charge .made) 1 && leb (a .charge .rest .0) (maxCharge * (spanOf a (a .«open_year») + a .charge .made))
+
 -- "a half 360,000,000"
 unfoldable pub halvesFit : Account → Bool
 halvesFit a = leb (a .half1 .0) maxHalfKwh && leb (a .half2 .0) maxHalfKwh
+
+-- what was paid of both open years, and what of the charges was not
+abbrev pub paymentsFit : Account → Bool
+paymentsFit a = ((runsFit a && advancesFit a) && laterFits a) && chargeFits a
 
 -- "number (not 0)", and all of these
 unfoldable pub accountFits : Account → Bool
 accountFits a =
     (not (eqb (a .number .0) 0) && (detailsFit (a .details) (a .option) && openYearFits a))
-    && (((runsFit a && advancesFit a) && laterFits a) && (creditFits a && halvesFit a))
+    && (paymentsFit a && (creditFits a && halvesFit a))
 
 -- "year (from the owner's activation to its open year)", of an advance of the later year the year in which it was booked (ticket 6)
 unfoldable pub yearFits : Account → ℕ → Bool
@@ -134,13 +143,23 @@ levelFrom year booked = cond (eqb booked 0) year booked
 unfoldable pub bookedFits : ℕ → ℕ → Bool
 bookedFits year booked = eqb booked 0 || eqb (booked + 1) year
 
+-- What was withheld from an advance is at most its ticks (ticket 1).
 unfoldable pub advanceFits : Account → AdvanceRecord → Bool
 advanceFits owner a =
-    (yearFits owner (levelFrom (a .year) (a .booked)) && bookedFits (a .year) (a .booked)) && (isRun (a .run) && leb (a .ticks .0) maxYearTicks)
+    (yearFits owner (levelFrom (a .year) (a .booked)) && bookedFits (a .year) (a .booked))
+    && ((isRun (a .run) && leb (a .ticks .0) maxYearTicks) && leb (a .withheld .0) (a .ticks .0))
 
 -- "balance from −3.6·10^14 to 1.08·10^15" (in two's complement −x is 2^64 − x)
 unfoldable pub balanceFits : ℕ → Bool
 balanceFits bits = leb bits maxContribution || leb (2 ^ 64 - maxYearTicks) bits
+
+-- what a balance within its range pays, from its bits: nothing where it is negative
+unfoldable pub paidBalance : ℕ → ℕ
+paidBalance bits = cond (leb bits maxContribution) bits 0
+
+-- What was withheld at a closing is at most what it pays, a positive balance and the liquidation (ticket 1).
+unfoldable pub withheldFits : ClosingRecord → Bool
+withheldFits c = leb (c .withheld .0) (paidBalance (c .sums .balance .0) + c .sums .liquidation .0)
 
 -- "lapsed at most 3.6·10^14 times the entry's year less the activation year. C, O, liquidation .. are at most 3.6·10^14, F
 -- 7.2·10^14, contribution 1.08·10^15"
@@ -148,7 +167,7 @@ unfoldable pub closingFits : Account → ClosingRecord → Bool
 closingFits owner c =
     (yearFits owner (c .year) && leb (c .option) 1)
     && (((leb (c .sums .value .0) maxYearTicks && leb (c .sums .cost .0) maxYearTicks) && (leb (c .sums .«flat_rate» .0) maxFlatRate && leb (c .sums .contribution .0) maxContribution))
-    && ((leb (c .sums .liquidation .0) maxYearTicks && leb (c .sums .lapsed .0) (maxYearTicks * spanOf owner (c .year))) && balanceFits (c .sums .balance .0)))
+    && ((leb (c .sums .liquidation .0) maxYearTicks && leb (c .sums .lapsed .0) (maxYearTicks * spanOf owner (c .year))) && (balanceFits (c .sums .balance .0) && withheldFits c)))
 
 -- WHAT DIFFERS BY KIND: the ranges of a record, those of an entry by its owner's account; and "Unnamed bytes are zero in
 -- records below u." No range of a kind that is not known fits.

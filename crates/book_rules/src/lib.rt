@@ -1,10 +1,10 @@
 // The rules of document 01, "Book", on a record by itself, and the length of a book.
 ghost use mathlib.Core.Path.{_≡_};
-ghost use mathlib.Core.Bool.{_&&_};
+ghost use mathlib.Core.Bool.{true, _&&_};
 ghost use Prim.Native.Nat.{_-_, _*_, _≤_, _<_};
 ghost use lib.Dec.{leb};
 ghost use Rattle.units.specs.Limits.{maxYearTicks};
-ghost use Rattle.book_rules.specs.Book.{lengthFits, detailsFit, openYearFits, halvesOf, isMade, dueIfMade, runsFit, halvesMade, advancesFit, laterHalf, laterFits, creditFits, halvesFit, accountFits, isRun, levelFrom, bookedFits, advanceFits, balanceFits, closingFits, entryRanges, unnamedOf, entryKind, levelIn, within};
+ghost use Rattle.book_rules.specs.Book.{lengthFits, detailsFit, openYearFits, halvesOf, isMade, dueIfMade, runsFit, halvesMade, advancesFit, laterHalf, laterFits, chargeFits, paymentsFit, creditFits, halvesFit, accountFits, isRun, levelFrom, bookedFits, advanceFits, balanceFits, paidBalance, withheldFits, closingFits, entryRanges, unnamedOf, entryKind, levelIn, within};
 ghost use Rattle.book_layout.specs.Fields.{recordLength, get, kindField, allZero, unnamedOfUser};
 ghost use lib.ListN.{length};
 ghost use Rattle.book_records.specs.Records.{accountIn};
@@ -45,6 +45,9 @@ const MAX_FLAT_RATE: u64 = 720_000_000_000_000;
 const MAX_CONTRIBUTION: u64 = 1_080_000_000_000_000;
 
 const MAX_HALF: u64 = 180_000_000_000_000;
+
+// A year's charge: 45 €.
+const MAX_CHARGE: u64 = 4_500_000;
 // The least balance, in two's complement.
 const LEAST_BALANCE: u64 = 18_446_384_073_709_551_616;
 // In kWh.
@@ -187,15 +190,37 @@ fn halves_fit(a: Account) -> bool
     (a.half1.0 <= MAX_HALF_KWH) & (a.half2.0 <= MAX_HALF_KWH)
 }
 
-// What is paid of both open years: where no run of either is made, nothing.
-fn payments_fit(a: Account) -> bool
-    ensures { λ r. ⌜ r ≡ ((runsFit a && advancesFit a) && laterFits a) ⌝ }
+// A rest of at most a year's charge for each closed year, and for the open one where it is charged.
+fn charge_fits(a: Account) -> bool
+    ensures { λ r. ⌜ r ≡ chargeFits a ⌝ }
 {
-    if (a.runs == 0) & (a.later_runs == 0) {
-        (a.advances.0 == 0) & (a.later_advances.0 == 0)
-    } else {
-        paid_fits(a) & later_fits(a)
+    let years = years_between(a.details.year, a.open_year);
+    let charge = a.charge;
+    (charge.made <= 1) & (charge.rest.0 <= MAX_CHARGE * (years + charge.made as u64))
+}
+
+// Most users have no run made, nothing paid and nothing charged: that fits.
+fn nothing_paid(a: Account) -> bool
+    ensures { λ r. ⌜ (r ≡ true → paymentsFit a ≡ true) ⌝ }
+{
+    let charge = a.charge;
+    if ((a.runs == 0) & (a.later_runs == 0)) & (charge.made == 0) {
+        return ((a.advances.0 == 0) & (a.later_advances.0 == 0)) & (charge.rest.0 == 0);
     }
+    false
+}
+
+// What is paid of both open years, and what of the charges is not.
+fn payments_fit(a: Account) -> bool
+    ensures { λ r. ⌜ r ≡ paymentsFit a ⌝ }
+{
+    if nothing_paid(a) {
+        return true;
+    }
+    if !charge_fits(a) {
+        return false;
+    }
+    paid_fits(a) & later_fits(a)
 }
 
 // What is paid is looked at last, where all else fits.
@@ -243,7 +268,7 @@ fn booked_fits(year: u16, booked: u16) -> bool
 fn advance_fits(activation: u16, open_year: u16, a: AdvanceRecord) -> bool
     ensures { λ r. ⌜ ((owner : Account) → owner .details .year ≡ activation → owner .«open_year» ≡ open_year → r ≡ advanceFits owner a) ⌝ }
 {
-    if !(is_run(a.run) & (a.ticks.0 <= MAX_YEAR)) {
+    if !((is_run(a.run) & (a.ticks.0 <= MAX_YEAR)) & (a.withheld.0 <= a.ticks.0)) {
         return false;
     }
     if a.booked == 0 {
@@ -259,6 +284,33 @@ fn balance_fits(balance: Balance) -> bool
     (balance.0 <= MAX_CONTRIBUTION) | (LEAST_BALANCE <= balance.0)
 }
 
+// What a balance pays.
+pub fn paid_balance(balance: Balance) -> Ticks
+    ensures { λ r. ⌜ r .0 ≡ paidBalance (balance .0) ⌝ }
+{
+    if balance.0 <= MAX_CONTRIBUTION {
+        Ticks(balance.0)
+    } else {
+        Ticks(0)
+    }
+}
+
+// Most closings have nothing withheld.
+fn withheld_fits(c: ClosingRecord) -> bool
+    ensures { λ r. ⌜ r ≡ withheldFits c ⌝ }
+{
+    let withheld = c.withheld.0;
+    let sums = c.sums;
+    if withheld == 0 {
+        return true;
+    }
+    let paid = paid_balance(sums.balance);
+    if withheld <= paid.0 {
+        return true;
+    }
+    withheld - paid.0 <= sums.liquidation.0
+}
+
 fn closing_fits(activation: u16, open_year: u16, c: ClosingRecord) -> bool
     ensures { λ r. ⌜ ((owner : Account) → owner .details .year ≡ activation → owner .«open_year» ≡ open_year → r ≡ closingFits owner c) ⌝ }
 {
@@ -266,8 +318,10 @@ fn closing_fits(activation: u16, open_year: u16, c: ClosingRecord) -> bool
     let energy = (sums.value.0 <= MAX_YEAR) & (sums.cost.0 <= MAX_YEAR);
     let flat = (sums.flat_rate.0 <= MAX_FLAT_RATE) & (sums.contribution.0 <= MAX_CONTRIBUTION);
     let lapse = fits_years(sums.lapsed, activation, c.year);
-    let rest = ((sums.liquidation.0 <= MAX_YEAR) & lapse) & balance_fits(sums.balance);
-    (year_fits(activation, open_year, c.year) & (c.option <= 1)) & ((energy & flat) & rest)
+    let rest = (sums.liquidation.0 <= MAX_YEAR) & lapse;
+    let payments = balance_fits(sums.balance) & withheld_fits(c);
+    (year_fits(activation, open_year, c.year) & (c.option <= 1))
+        & ((energy & flat) & (rest & payments))
 }
 
 // A RECORD'S OWN RULES: its ranges and its zero bytes. Those of an entry go by its owner's record too.

@@ -16,8 +16,7 @@ use Rattle.account_steps.proofs.TwoYears.{runs-open, advances-open, runs-later,
 use Rattle.book_rules.specs.Book.{isUser, accountAt, accountFits, halvesFit}
 use Rattle.book_rules.proofs.Faultless.{sound-faultless}
 use Rattle.check_book.specs.Verdicts.{Accepted}
-use Rattle.book_records.specs.Entries.{advanceEntry}
-use Rattle.call_rules.specs.Changes.{enters, applied, bookedIn, runAmount}
+use Rattle.call_rules.specs.Changes.{applied, runAmount}
 use Rattle.book_rules.specs.Find.{findUser}
 use Rattle.call_rules.specs.Rules.{testOf, refusedBy as refusedBy}
 use Rattle.call_rules.specs.Refusals.{lookOf, lookAt, hasRoom, runOpen, orderFits}
@@ -33,7 +32,7 @@ use Rattle.call_answers.specs.Answers.{Answered}
 use Rattle.call_answers.specs.Replies.{refusedWith}
 use Rattle.call_answers.proofs.Answers.{sound-refusal, refused-by-rule, refused-absent, accepted}
 use Rattle.call_answers.proofs.Rooms.{entry-fits}
-use Rattle.call_advance.specs.Advances.{RunFits, ticksAnswered}
+use Rattle.call_advance.specs.Advances.{RunFits, runBooked, ticksAnswered}
 
 -- the account after a run that is due has its sums in range
 sums-within : (a : Account) (y r p e₁ e₂ : ℕ) → accountFits a ≡ true → runOpen a y r ≡ true → orderFits p e₁ e₂ ≡ true
@@ -134,8 +133,8 @@ module _ (b : List ℕ) (n y r p e₁ e₂ : ℕ) where
               }
 
           pub advance-booked : (after : List ℕ)
-              → after ≡ applied (user .0) (enters (accountAdvanced y r (paid .0) account) (advanceEntry y (bookedIn account y) r paid)) b → Answered b call 0 0 0 after
-          unfolding booked changeOf namedBy
+              → after ≡ applied (user .0) (runBooked account y r (paid .0)) b → Answered b call 0 0 0 after
+          unfolding booked changeOf namedBy runBooked
           advance-booked after e = accepted b call 0 after none-refused (e ∙ rw (paid-ticks, account-is, there))
 
           pub ticks-answered : paid ≡ ticksAnswered b n y r p e₁ e₂ 0

@@ -14,12 +14,15 @@ use Rattle.calendar.specs.declared.Halves.{Halves}
 use Rattle.calendar.specs.ElectionAndAdvances.{halvesPaid, amountOf}
 use Rattle.account_steps.specs.declared.Account.{Account}
 use Rattle.account_steps.specs.Account.{accountAdvanced}
+use Rattle.account_steps.specs.Charges.{withheldFrom, accountWithheld}
+use Rattle.account_steps.proofs.Charges.{withheld-rest}
 use Rattle.book_records.specs.Records.{advanceImage}
 use Rattle.book_rules.specs.Book.{halvesFit, firstEntryOf}
-use Rattle.book_records.specs.Entries.{advanceEntry, entryImage}
-use Rattle.call_rules.specs.Changes.{enters, withEntry, applied, bookedIn, runAmount}
+use Rattle.book_records.specs.Entries.{entryImage}
+use Rattle.call_rules.specs.Changes.{withEntry, applied, bookedIn, runAmount}
 use Rattle.call_rules.specs.Refusals.{orderFits}
 use Rattle.call_keeps.proofs.Ranges.{conjuncts}
+use Rattle.call_advance.specs.Advances.{runBooked}
 
 pub first-year : (year activation estimate half : ℕ) → year ≡ activation → estimate ≡ cond (eqb year activation) estimate half
 first-year year activation estimate half e = rw (eq-eqb year activation e)
@@ -50,10 +53,16 @@ module _ (a : Account) (p e₁ e₂ : ℕ) where
   unfolding runAmount
   run-paid year run first second f s h e paid amount = rw (amount, e, f, s)
 
-pub run-booked : (b : List ℕ) (user : RecordIndex) (a : Account) (year run : ℕ) (paid : Ticks) (first : RecordIndex)
-    → first ≡ recordIndex (firstEntryOf b (user .0)) → (booked : ℕ) → booked ≡ bookedIn a year → (entry : List ℕ)
-    → entry ≡ advanceImage (record { next = first; run = run; year = year; ticks = paid; owner = user; booked = booked }) → (next : Account)
-    → next ≡ accountAdvanced year run (paid .0) a → (after : List ℕ) → after ≡ withEntry (user .0) next entry b
-    → after ≡ applied (user .0) (enters (accountAdvanced year run (paid .0) a) (advanceEntry year (bookedIn a year) run paid)) b
-unfolding applied entryImage
-run-booked b user a year run paid first f booked k entry e next n after w = rw (w, n, e, f, k)
+-- what is withheld is within the rest, which the run leaves
+pub within-rest : (a : Account) (year run : ℕ) (paid withheld : Ticks) → withheld ≡ ticks (withheldFrom (a .charge .rest .0) (paid .0)) → (next : Account)
+    → next ≡ accountAdvanced year run (paid .0) a → withheld .0 ≤ next .charge .rest .0
+unfolding accountAdvanced
+within-rest a year run paid withheld h next n = rw (h, n) (withheld-rest (a .charge .rest .0) (paid .0))
+
+pub run-booked : (b : List ℕ) (user : RecordIndex) (a : Account) (year run : ℕ) (paid withheld : Ticks) → withheld ≡ ticks (withheldFrom (a .charge .rest .0) (paid .0))
+    → (first : RecordIndex) → first ≡ recordIndex (firstEntryOf b (user .0)) → (booked : ℕ) → booked ≡ bookedIn a year → (entry : List ℕ)
+    → entry ≡ advanceImage (record { next = first; run = run; year = year; ticks = paid; owner = user; booked = booked; withheld = withheld }) → (next : Account)
+    → next ≡ accountAdvanced year run (paid .0) a → (last : Account) → last ≡ accountWithheld (withheld .0) next → (after : List ℕ)
+    → after ≡ withEntry (user .0) last entry b → after ≡ applied (user .0) (runBooked a year run (paid .0)) b
+unfolding applied entryImage runBooked
+run-booked b user a year run paid withheld h first f booked k entry e next n last l after w = rw (w, l, n, e, f, k, h)

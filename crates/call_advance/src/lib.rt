@@ -5,13 +5,11 @@ ghost use Prim.Native.Nat.{_<_, _^_};
 ghost use lib.Dec.{eqb};
 ghost use Rattle.units.specs.Units.{ticks};
 ghost use Rattle.book_rules.specs.Book.{halvesFit};
-ghost use Rattle.account_steps.specs.Account.{accountAdvanced};
-ghost use Rattle.book_records.specs.Entries.{advanceEntry};
-ghost use Rattle.call_rules.specs.Changes.{enters, applied, bookedIn, runAmount};
+ghost use Rattle.call_rules.specs.Changes.{applied, bookedIn, runAmount};
 ghost use Rattle.call_rules.specs.Refusals.{orderFits};
 ghost use Rattle.call_rules.specs.Calls.{advance};
 ghost use Rattle.call_answers.specs.Answers.{Answered};
-ghost use Rattle.call_advance.specs.Advances.{RunFits, ticksAnswered};
+ghost use Rattle.call_advance.specs.Advances.{RunFits, runBooked, ticksAnswered};
 use account_steps::Account;
 use book_records::AdvanceRecord;
 use call_answers::Reply;
@@ -72,12 +70,14 @@ fn booked_in(a: Account, year: u32) -> u16
     }
 }
 
-// "Each run adds one entry, joins the advances field and sets its bit."
+// "Each run adds one entry, joins the advances field and sets its bit." What is withheld from it is taken from the rest.
 fn book_run(book: &mut [u8], user: RecordIndex, account: Account, year: u32, run: u8, paid: Ticks)
     requires { ⌜ RunFits (now book) (user .0) account year run (paid .0) ⌝ }
-    ensures { λ _. ⌜ now (book .exit) ≡ applied (user .0) (enters (accountAdvanced year run (paid .0) account) (advanceEntry year (bookedIn account year) run paid)) (now (book .entry)) ⌝ }
+    ensures { λ _. ⌜ now (book .exit) ≡ applied (user .0) (runBooked account year run (paid .0)) (now (book .entry)) ⌝ }
 {
     let named = year as u16;
+    let charge = account.charge;
+    let withheld = account_steps::withheld_from(charge.rest, paid);
     let entry = book_records::advance_image(AdvanceRecord {
         next: book_view::first_entry_of(book, user),
         run,
@@ -85,8 +85,10 @@ fn book_run(book: &mut [u8], user: RecordIndex, account: Account, year: u32, run
         ticks: paid,
         owner: user,
         booked: booked_in(account, year),
+        withheld,
     });
-    call_writes::write_entry(book, user, account.advanced(year, run, paid), entry);
+    let after = account.advanced(year, run, paid);
+    call_writes::write_entry(book, user, after.withheld(withheld), entry);
 }
 
 pub fn advance(

@@ -21,7 +21,7 @@ use Rattle.account_steps.specs.Account.{InRange}
 use Rattle.book_rules.specs.Book.{isUser, accountAt, accountFits}
 use Rattle.book_rules.proofs.Faultless.{sound-faultless}
 use Rattle.check_book.specs.Verdicts.{Accepted}
-use Rattle.call_rules.specs.Changes.{enters, applied}
+use Rattle.call_rules.specs.Changes.{applied}
 use Rattle.book_rules.specs.Find.{findUser}
 use Rattle.call_rules.specs.Rules.{testOf, refusedBy as refusedBy}
 use Rattle.call_rules.specs.Refusals.{Look, lookOf, lookAt, hasRoom, yearOpen}
@@ -35,9 +35,8 @@ use Rattle.call_answers.specs.Replies.{refusedWith}
 use Rattle.call_answers.proofs.Answers.{sound-refusal, refused-by-rule, refused-absent, refuses, accepted}
 use Rattle.call_answers.proofs.Rooms.{entry-fits}
 use Rattle.account_steps.specs.declared.ClosingSums.{ClosingSums}
-use Rattle.account_steps.specs.Account.{accountClosed, settled}
-use Rattle.book_records.specs.Entries.{closingEntry}
-use Rattle.call_close.specs.Closings.{YearFits, refusedClosing, sumsAnswered}
+use Rattle.account_steps.specs.Account.{settled}
+use Rattle.call_close.specs.Closings.{YearFits, yearBooked, refusedClosing, sumsAnswered}
 use Rattle.call_close.specs.declared.Closed.{Closed}
 
 -- an open year of an account that fits can be closed
@@ -139,9 +138,9 @@ module _ (b s : List ℕ) where
                 }
 
             book-is : (after : List ℕ)
-                → after ≡ applied (user .0) (enters (accountClosed v account) (closingEntry (account .«open_year») (account .option) (settled account v))) b
+                → after ≡ applied (user .0) (yearBooked account v) b
                 → Answered b (close s) 0 0 0 after
-            unfolding booked changeOf namedBy
+            unfolding booked changeOf namedBy yearBooked
             book-is after e = accepted b (close s) 0 after none-refused (e ∙ rw (values-are, account-is, there))
 
             sums-answered : (sums : ClosingSums) → sums ≡ settled account v → sums ≡ sumsAnswered b s 0
@@ -149,6 +148,6 @@ module _ (b s : List ℕ) where
             sums-answered sums e = e ∙ rw (values-are, account-is)
 
             pub close-booked : (after : List ℕ)
-                → after ≡ applied (user .0) (enters (accountClosed v account) (closingEntry (account .«open_year») (account .option) (settled account v))) b
+                → after ≡ applied (user .0) (yearBooked account v) b
                 → (sums : ClosingSums) → sums ≡ settled account v → Said (record { reply = refusedWith 0; position = nowhere; sums = sums }) after
             close-booked after e sums are = (book-is after e, (untold-before s 0 (omega arith), sums-answered sums are))

@@ -8,7 +8,10 @@ use Rattle.units.specs.Units.{ticks}
 use Rattle.sheet.specs.YearSheet.{sheetUser}
 use Rattle.sheet_values.specs.declared.YearValues.{YearValues}
 use Rattle.account_steps.specs.declared.Account.{Account}
-use Rattle.account_steps.specs.Account.{balanceBits, settled, InRange}
+use Rattle.account_steps.specs.Account.{balanceBits, accountClosed, settled, InRange}
+use Rattle.account_steps.specs.Charges.{closingWithheld, accountWithheld}
+use Rattle.book_records.specs.Entries.{closingEntry}
+use Rattle.call_rules.specs.Changes.{Change, enters}
 use Rattle.sheet_values.specs.YearsValues.{yearValues}
 use Rattle.call_rules.specs.Refusals.{userAt}
 use Rattle.call_answers.specs.InnerRooms.{EntryFits}
@@ -35,6 +38,12 @@ refusedClosing reply position = record { reply = reply; position = position; sum
 
 unfoldable pub sumsAnswered : List ℕ → List ℕ → ℕ → ClosingSums
 sumsAnswered b s refusal = cond (eqb refusal 0) (settled (userAt b (sheetUser s)) (yearValues s (userAt b (sheetUser s) .details))) noSums
+
+-- what the closing of an account's open year with these values changes
+unfoldable pub yearBooked : Account → YearValues → Change
+yearBooked a v =
+    let withheld = closingWithheld a v in
+    enters (accountWithheld withheld (accountClosed v a)) (closingEntry (a .«open_year») (a .option) (settled a v) (ticks withheld))
 
 -- the year of the user i, whose account is a, can be closed with these values, and its entry fits into the book
 pub record YearFits (b : List ℕ) (i : ℕ) (a : Account) (v : YearValues) : Type 0 where

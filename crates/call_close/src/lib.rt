@@ -1,13 +1,12 @@
 // Closing a year (document 01, "Closing"): refusals 1 2 11 6 12 13 19 14 3, then the year's entry in front of the user's chain.
 ghost use mathlib.Core.Path.{_≡_};
-ghost use Rattle.account_steps.specs.Account.{accountClosed, closedOf, settled};
+ghost use Rattle.account_steps.specs.Account.{closedOf, settled};
 ghost use Rattle.account_steps.specs.declared.Account.{Account};
-ghost use Rattle.book_records.specs.Entries.{closingEntry};
 ghost use Rattle.sheet.specs.YearSheet.{Tells};
-ghost use Rattle.call_rules.specs.Changes.{enters, applied};
+ghost use Rattle.call_rules.specs.Changes.{applied};
 ghost use Rattle.call_rules.specs.Calls.{close};
 ghost use Rattle.call_answers.specs.Answers.{Answered};
-ghost use Rattle.call_close.specs.Closings.{YearFits, noSums, refusedClosing, sumsAnswered};
+ghost use Rattle.call_close.specs.Closings.{YearFits, yearBooked, noSums, refusedClosing, sumsAnswered};
 use account_steps::Account;
 use account_steps::Balance;
 use account_steps::ClosingSums;
@@ -64,7 +63,7 @@ fn settled_sums(values: YearValues, settlement: Settlement) -> ClosingSums
     }
 }
 
-// Books the closing of a user's open year.
+// Books the closing of a user's open year. What is withheld from what it pays is taken from the rest.
 fn book_year(
     book: &mut [u8],
     user: RecordIndex,
@@ -72,21 +71,31 @@ fn book_year(
     values: YearValues,
 ) -> ClosingSums
     requires { ⌜ YearFits (now book) (user .0) account values ⌝ }
-    ensures { λ _. ⌜ now (book .exit) ≡ applied (user .0) (enters (accountClosed values account) (closingEntry (account .«open_year») (account .option) (settled account values))) (now (book .entry)) ⌝ }
+    ensures { λ _. ⌜ now (book .exit) ≡ applied (user .0) (yearBooked account values) (now (book .entry)) ⌝ }
     ensures { λ r. ⌜ r ≡ settled account values ⌝ }
 {
     let first = book_view::first_entry_of(book, user);
     let after = account.closed(values);
     let sums = settled_sums(values, after.settlement);
+    let charge = account.charge;
+    let withheld = account_steps::withheld_at_closing(
+        charge.rest,
+        sums.contribution,
+        account.advances,
+        sums.liquidation,
+    );
     let entry = ClosingRecord {
         next: first,
         option: account.option,
         year: account.open_year,
         sums,
         owner: user,
+        withheld,
     };
     let image = book_records::closing_image(entry);
-    call_writes::write_entry(book, user, after.account, image);
+    let closed = after.account;
+    let left = closed.withheld(withheld);
+    call_writes::write_entry(book, user, left, image);
     sums
 }
 

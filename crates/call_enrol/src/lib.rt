@@ -5,6 +5,7 @@ ghost use Rattle.call_rules.specs.Changes.{newAccount};
 ghost use Rattle.call_rules.specs.Calls.{enrol};
 ghost use Rattle.call_answers.specs.Answers.{Answered};
 use account_steps::Account;
+use account_steps::Charge;
 use call_answers::Reply;
 use sheet_values::Details;
 use units::Kwh;
@@ -28,6 +29,10 @@ fn new_account(number: UserNumber, details: Details, option: u8) -> Account
         later_advances: Ticks(0),
         half1: Kwh(0),
         half2: Kwh(0),
+        charge: Charge {
+            made: 0,
+            rest: Ticks(0),
+        },
     }
 }
 

@@ -7,8 +7,8 @@ use native.Mathlib.Nat.{le-refl, add-zero}
 use native.Mathlib.Omega.{arith}
 use borrow.Author.Tests.{leb-true, le-leb, lt-ltb, eqb-true, eqb-false, ne-eqb}
 use lib.Dec.{leb, eqb}
-use Rattle.units.proofs.Bools.{and-both, and-right}
-use Rattle.units.specs.Limits.{maxYearTicks, maxHalfTicks, maxHalfKwh, lastActivation, lastOpenYear}
+use Rattle.units.proofs.Bools.{and-both, and-right, cond-capped}
+use Rattle.units.specs.Limits.{maxYearTicks, maxHalfTicks, maxHalfKwh, maxCharge, lastActivation, lastOpenYear}
 use Rattle.calendar.specs.ElectionAndAdvances.{june, october, january, halves, halvesPaid, due, halvesCount}
 use Rattle.sheet_values.specs.declared.Details.{Details}
 use Rattle.sheet_values.specs.declared.YearValues.{YearValues}
@@ -16,9 +16,10 @@ use Rattle.sheet_values.specs.YearsValues.{ValuesFit}
 use Rattle.account_steps.specs.declared.Account.{Account}
 use Rattle.account_steps.specs.Account.{accountElected, runsIn, accountAdvanced, accountClosed}
 use Rattle.account_steps.specs.Closing.{creditAfter}
+use Rattle.account_steps.specs.Charges.{chargeOf, accountCharged, accountWithheld}
 use Rattle.account_steps.proofs.Closing.{credit-capped}
 use Rattle.account_steps.proofs.TwoYears.{joined, joinedLater, runs-open, advanced-open, runs-later, advanced-later}
-use Rattle.book_rules.specs.Book.{detailsFit, openYearFits, halvesOf, isMade, runMade, dueIfMade, runsFit, halvesMade, advancesFit, laterHalf, laterFits, creditFits, halvesFit, accountFits, isRun}
+use Rattle.book_rules.specs.Book.{detailsFit, openYearFits, halvesOf, isMade, runMade, dueIfMade, runsFit, halvesMade, advancesFit, laterHalf, laterFits, chargeFits, creditFits, halvesFit, accountFits, isRun}
 use Rattle.call_rules.specs.Changes.{newAccount}
 use Rattle.call_keeps.proofs.Ranges.{conjuncts, account-good, account-fits, details-within}
 use Rattle.call_keeps.proofs.Widths.{AccountWithin, account-within}
@@ -44,6 +45,12 @@ no-credit : (a : Account) → a .credit .0 ≡ 0 → creditFits a ≡ true
 unfolding creditFits
 no-credit a e = le-leb (a .credit .0) (maxYearTicks * (a .«open_year» - a .details .year)) (omega arith)
 
+no-charge : (a : Account) → a .charge .made ≡ 0 → a .charge .rest .0 ≡ 0 → chargeFits a ≡ true
+unfolding chargeFits
+no-charge a e none =
+    and-both (le-leb (a .charge .made) 1 (omega arith))
+    (le-leb (a .charge .rest .0) (maxCharge * (a .«open_year» - a .details .year + a .charge .made)) (omega arith))
+
 -- a new user has no sums and no runs
 pub new-account-fits : (number : ℕ) (d : Details) (option : ℕ) → not (eqb number 0) ≡ true → detailsFit d option ≡ true
     → accountFits (newAccount number d option) ≡ true
@@ -58,6 +65,7 @@ new-account-fits number d option some fits =
       runs = no-runs (newAccount number d option) refl;
       advances = no-advances (newAccount number d option) refl;
       later = no-later (newAccount number d option) refl refl;
+      charge = no-charge (newAccount number d option) refl refl;
       credit = no-credit (newAccount number d option) refl;
       halves = refl;
     })
@@ -68,7 +76,7 @@ unfolding detailsFit
 details-elected d before option h o = search (and-both, conjuncts)
 
 pub elected-fits : (a : Account) (option : ℕ) → leb option 1 ≡ true → accountFits a ≡ true → accountFits (accountElected option a) ≡ true
-unfolding accountElected openYearFits runsFit dueIfMade halvesOf advancesFit halvesMade laterFits laterHalf creditFits halvesFit
+unfolding accountElected openYearFits runsFit dueIfMade halvesOf advancesFit halvesMade laterFits laterHalf chargeFits creditFits halvesFit
 elected-fits a option o h =
     let g = account-good a h in
     account-fits (accountElected option a)
@@ -79,6 +87,7 @@ elected-fits a option o h =
       runs = g .runs;
       advances = g .advances;
       later = g .later;
+      charge = g .charge;
       credit = g .credit;
       halves = g .halves;
     })
@@ -151,7 +160,7 @@ module _ (a : Account) (run paid : ℕ) (h : accountFits a ≡ true) (is : isRun
       (omega (arith, before, most, halves-joined a paid (is-run run is) (w .runs) unmade))
 
   joined-fits : accountFits (joined run paid a) ≡ true
-  unfolding openYearFits laterFits laterHalf creditFits halvesFit
+  unfolding openYearFits laterFits laterHalf chargeFits creditFits halvesFit
   joined-fits =
       let g = account-good a h in
       account-fits (joined run paid a)
@@ -162,6 +171,7 @@ module _ (a : Account) (run paid : ℕ) (h : accountFits a ≡ true) (is : isRun
         runs = runs-advanced;
         advances = advances-advanced;
         later = g .later;
+        charge = g .charge;
         credit = g .credit;
         halves = g .halves;
       })
@@ -203,7 +213,7 @@ module _ (a : Account) (run paid : ℕ) (h : accountFits a ≡ true) (is : isRun
       by-run January pays u l = absurd (true≢false (sym pays))
 
   later-fits : accountFits (joinedLater run paid a) ≡ true
-  unfolding openYearFits runsFit dueIfMade halvesOf advancesFit halvesMade creditFits halvesFit
+  unfolding openYearFits runsFit dueIfMade halvesOf advancesFit halvesMade chargeFits creditFits halvesFit
   later-fits =
       let g = account-good a h in
       account-fits (joinedLater run paid a)
@@ -214,6 +224,7 @@ module _ (a : Account) (run paid : ℕ) (h : accountFits a ≡ true) (is : isRun
         runs = g .runs;
         advances = g .advances;
         later = later-advanced;
+        charge = g .charge;
         credit = g .credit;
         halves = g .halves;
       })
@@ -246,6 +257,13 @@ module _ (a : Account) (v : YearValues) (h : accountFits a ≡ true) (last : a .
       let years : a .«open_year» + 1 - a .details .year ≡ a .«open_year» - a .details .year + 1 = omega (arith, w .from) in
       le-leb (creditAfter (a .option) (a .credit .0) (v .value .0) (v .cost .0)) (maxYearTicks * (a .«open_year» + 1 - a .details .year))
       (rw years (credit-capped (a .option) (a .credit .0) (v .value .0) (v .cost .0) (a .«open_year» - a .details .year) (w .credit) (values .value)))
+
+  -- the year that was charged is a closed one
+  charge-closed : chargeFits (accountClosed v a) ≡ true
+  unfolding chargeFits accountClosed
+  charge-closed =
+      let w = account-within a h in
+      le-leb (a .charge .rest .0) (maxCharge * (a .«open_year» + 1 - a .details .year + 0)) (omega (arith, w .rest, w .charged, w .from))
 
   pays-then : (run : ℕ) → halvesPaid (a .details .year) (a .details .month) (a .«open_year» + 1) run ≡ halves (eqb run june) (eqb run october)
   pays-then run = other-year (a .details .year) (a .details .month) (a .«open_year» + 1) run (λ e. omega (arith, account-within a h .from))
@@ -283,9 +301,64 @@ module _ (a : Account) (v : YearValues) (h : accountFits a ≡ true) (last : a .
         runs = runs-closed;
         advances = advances-closed;
         later = no-later (accountClosed v a) refl refl;
+        charge = charge-closed;
         credit = credit-closed;
         halves = and-both (le-leb (v .half1 .0) maxHalfKwh (values .half1)) (le-leb (v .half2 .0) maxHalfKwh (values .half2));
       })
+
+-- the charge of the open year, which has none
+chargeOf-capped : (power : ℕ) → chargeOf power ≤ maxCharge
+unfolding chargeOf
+chargeOf-capped power = cond-capped (leb power 3000) (omega arith) (cond-capped (leb power 20000) (omega arith) (omega arith))
+
+pub charged-fits : (a : Account) → accountFits a ≡ true → a .charge .made ≡ 0 → accountFits (accountCharged a) ≡ true
+unfolding accountCharged openYearFits runsFit dueIfMade halvesOf advancesFit halvesMade laterFits laterHalf chargeFits creditFits halvesFit
+charged-fits a h none =
+    let g = account-good a h in
+    let w = account-within a h in
+    account-fits (accountCharged a)
+    (record {
+      number = g .number;
+      details = g .details;
+      openYear = g .openYear;
+      runs = g .runs;
+      advances = g .advances;
+      later = g .later;
+      charge =
+          le-leb (a .charge .rest .0 + chargeOf (a .details .power)) (maxCharge * (a .«open_year» - a .details .year + 1))
+          (omega (arith, w .rest, none, chargeOf-capped (a .details .power)));
+      credit = g .credit;
+      halves = g .halves;
+    })
+
+pub charged-same : (a : Account) → SameUser a (accountCharged a)
+unfolding accountCharged
+charged-same a = record { number = refl; details = refl; openYear = le-refl (a .«open_year») }
+
+-- what is withheld leaves a smaller rest
+pub withheld-fits : (a : Account) (withheld : ℕ) → accountFits a ≡ true → accountFits (accountWithheld withheld a) ≡ true
+unfolding accountWithheld openYearFits runsFit dueIfMade halvesOf advancesFit halvesMade laterFits laterHalf chargeFits creditFits halvesFit
+withheld-fits a withheld h =
+    let g = account-good a h in
+    let w = account-within a h in
+    account-fits (accountWithheld withheld a)
+    (record {
+      number = g .number;
+      details = g .details;
+      openYear = g .openYear;
+      runs = g .runs;
+      advances = g .advances;
+      later = g .later;
+      charge =
+          and-both (le-leb (a .charge .made) 1 (w .charged))
+          (le-leb (a .charge .rest .0 - withheld) (maxCharge * (a .«open_year» - a .details .year + a .charge .made)) (omega (arith, w .rest)));
+      credit = g .credit;
+      halves = g .halves;
+    })
+
+pub withheld-same : (a b : Account) (withheld : ℕ) → SameUser a b → SameUser a (accountWithheld withheld b)
+unfolding accountWithheld
+withheld-same a b withheld s = record { number = s .number; details = s .details; openYear = s .openYear }
 
 pub closed-same : (a : Account) (v : YearValues) → SameUser a (accountClosed v a)
 unfolding accountClosed

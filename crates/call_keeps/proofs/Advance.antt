@@ -19,7 +19,9 @@ use Rattle.call_rules.specs.Changes.{bookedIn, runAmount}
 use Rattle.call_rules.specs.Refusals.{isOpen, runOpen, orderFits}
 use Rattle.call_keeps.proofs.Ranges.{conjuncts}
 use Rattle.call_keeps.proofs.Widths.{account-within}
-use Rattle.call_keeps.proofs.Accounts.{advanced-fits}
+use Rattle.call_keeps.proofs.Accounts.{advanced-fits, withheld-fits}
+use Rattle.account_steps.specs.Charges.{withheldFrom, accountWithheld}
+use Rattle.account_steps.proofs.Charges.{withheld-paid}
 use Rattle.book_records.specs.Entries.{advanceEntry, advanceRecord}
 use Rattle.call_keeps.proofs.Changes.{Joins, an-advance}
 use Rattle.units.specs.Units.{ticks}
@@ -85,24 +87,26 @@ booked-level a year some (inr later) =
     (rw (other, noted), rw (other, noted, eq-eqb (a .«open_year» + 1) year (omega arith)))
 
 -- the account and the entry of an accepted run
-pub record RunBooked (a : Account) (year run paid : ℕ) : Type 0 where
-  pub fits : accountFits (accountAdvanced year run paid a) ≡ true
-  pub joins : Joins (accountAdvanced year run paid a) (a .«open_year») (advanceEntry year (bookedIn a year) run (ticks paid))
+pub record RunBooked (a : Account) (year run paid withheld : ℕ) : Type 0 where
+  pub fits : accountFits (accountWithheld withheld (accountAdvanced year run paid a)) ≡ true
+  pub joins : Joins (accountWithheld withheld (accountAdvanced year run paid a)) (a .«open_year») (advanceEntry year (bookedIn a year) run (ticks paid) (ticks withheld))
 
 pub run-booked : (a : Account) (year run rate estimate1 estimate2 : ℕ) → accountFits a ≡ true → runOpen a year run ≡ true → orderFits rate estimate1 estimate2 ≡ true
-    → RunBooked a year run (runAmount a year run rate estimate1 estimate2)
-unfolding advanceFits yearFits accountAdvanced
+    → RunBooked a year run (runAmount a year run rate estimate1 estimate2) (withheldFrom (a .charge .rest .0) (runAmount a year run rate estimate1 estimate2))
+unfolding advanceFits yearFits accountAdvanced accountWithheld
 run-booked a year run rate estimate1 estimate2 before is-open order =
     let paid = runAmount a year run rate estimate1 estimate2 in
+    let withheld = withheldFrom (a .charge .rest .0) paid in
     let d = run-due a year run is-open in
     let most = run-at-most a year run rate estimate1 estimate2 before order in
     let two = halves-at-most (halvesPaid (a .details .year) (a .details .month) year run) in
     let w = account-within a before in
     let level = booked-level a year (omega (arith, w .details .from, w .from)) (d .year-is) in
-    let ranges : advanceFits (accountAdvanced year run paid a) (advanceRecord 0 0 year (bookedIn a year) run (ticks paid)) ≡ true =
+    let ranges : advanceFits (accountWithheld withheld (accountAdvanced year run paid a)) (advanceRecord 0 0 year (bookedIn a year) run (ticks paid) (ticks withheld)) ≡ true =
     and-both
     (and-both
     (and-both (le-leb (a .details .year) (levelFrom year (bookedIn a year)) (omega (arith, w .from, level .0))) (le-leb (levelFrom year (bookedIn a year)) (a .«open_year») (omega (arith, level .0))))
     (level .1))
-    (and-both (d .is) (le-leb paid maxYearTicks (omega arith))) in
-    record { fits = advanced-fits a year run paid before (d .year-is) (d .is) (d .unmade) (d .due-then) most; joins = an-advance ranges (level .0) refl }
+    (and-both (and-both (d .is) (le-leb paid maxYearTicks (omega arith))) (le-leb withheld paid (withheld-paid (a .charge .rest .0) paid))) in
+    let after = advanced-fits a year run paid before (d .year-is) (d .is) (d .unmade) (d .due-then) most in
+    record { fits = withheld-fits (accountAdvanced year run paid a) withheld after; joins = an-advance ranges (level .0) refl }

@@ -14,18 +14,19 @@ use Rattle.sheet_values.specs.declared.Details.{Details}
 use Rattle.sheet_values.specs.YearsValues.{yearValues}
 use Rattle.account_steps.specs.declared.Account.{Account}
 use Rattle.account_steps.specs.Account.{accountElected}
+use Rattle.account_steps.specs.Charges.{accountCharged}
 use Rattle.book_rules.specs.Book.{isUser, accountAt, accountFits}
 use Rattle.book_rules.specs.Find.{findUser}
 use Rattle.call_rules.specs.Rules.{testOf}
-use Rattle.call_rules.specs.Refusals.{lookAt, userAt, dayAndOption, yearOpen}
+use Rattle.call_rules.specs.Refusals.{lookAt, userAt, dayAndOption, yearOpen, chargeOpen}
 use Rattle.call_rules.specs.Changes.{newAccount}
-use Rattle.call_rules.specs.Calls.{Call, enrol, elect, advance, close, statement, namedBy, rulesOf, refusalOf, changeOf}
+use Rattle.call_rules.specs.Calls.{Call, enrol, elect, advance, close, statement, charge, namedBy, rulesOf, refusalOf, changeOf}
 use Rattle.call_rules.specs.Typed.{Typed}
 use Rattle.call_rules.proofs.Orders.{fact}
 use Rattle.call_keeps.proofs.Good.{Good, room}
 use Rattle.call_keeps.proofs.Numbers.{Found, found, none-found}
 use Rattle.call_keeps.proofs.YearRanges.{values-fit}
-use Rattle.call_keeps.proofs.Accounts.{new-account-fits, elected-fits, elected-same, advanced-same, closed-same}
+use Rattle.call_keeps.proofs.Accounts.{new-account-fits, elected-fits, elected-same, advanced-same, closed-same, charged-fits, charged-same, withheld-same}
 use Rattle.call_keeps.proofs.Enrolment.{NewAccount}
 use Rattle.call_keeps.proofs.Changes.{Fits, no-change, a-user, an-account, an-entry}
 use Rattle.call_keeps.proofs.Advance.{run-booked}
@@ -59,6 +60,11 @@ year-is-open a year h =
     let last = leb-true year lastActivation (and-right (eqb year (a .«open_year»)) (leb year lastActivation) h) in
     (same, omega (arith, same, last))
 
+-- the open year has no charge
+uncharged : (a : Account) → chargeOpen a ≡ true → a .charge .made ≡ 0
+unfolding chargeOpen
+uncharged a h = eqb-true (a .charge .made) 0 (and-left (eqb (a .charge .made) 0) (leb (a .«open_year») lastActivation) h)
+
 pub sheet-passed : (b s : List ℕ) → refusalOf b (close s) ≡ 0 → Passed s
 unfolding testOf rulesOf lookAt namedBy
 sheet-passed b s h = let accepted = fact b (close s) h in record { past11 = not-true (refused11 s) (accepted 11); past13 = (not-true (refused13 s) (accepted 13), not-true (refused19 s) (accepted 19)) }
@@ -68,7 +74,7 @@ module _ (b : List ℕ) (g : Good b) where
   fits-at i u = g .faultless .user i u .fits
 
   pub call-fits : (c : Call) → Typed c → refusalOf b c ≡ 0 → Fits b (findUser b (namedBy c)) (changeOf (userAt b (namedBy c)) c)
-  unfolding changeOf accountElected Typed testOf rulesOf lookAt namedBy
+  unfolding changeOf accountElected accountCharged Typed testOf rulesOf lookAt namedBy
   call-fits (enrol n d o) t h = a-user (new-account b n d o (t .0) h) (room b g (fact b (enrol n d o) h 3))
   call-fits (elect n o y m d) t h =
       let accepted = fact b (elect n o y m d) h in
@@ -79,7 +85,7 @@ module _ (b : List ℕ) (g : Good b) where
       let accepted = fact b (advance n y r p e₁ e₂) h in
       let user = named-user b n (accepted 6) .user in
       let k = run-booked (userAt b n) y r p e₁ e₂ (fits-at (findUser b n) user) (accepted 9) (accepted 10) in
-      an-entry user (advanced-same (userAt b n) y r _) (k .fits) (room b g (accepted 3)) (k .joins)
+      an-entry user (withheld-same (userAt b n) _ _ (advanced-same (userAt b n) y r _)) (k .fits) (room b g (accepted 3)) (k .joins)
   call-fits (close s) t h =
       let accepted = fact b (close s) h in
       let n = sheetUser s in
@@ -87,5 +93,10 @@ module _ (b : List ℕ) (g : Good b) where
       let a = userAt b n in
       let v = yearValues s (a .details) in
       let k = year-booked a v (fits-at (findUser b n) user) (values-fit s (sheet-passed b s h) (a .details)) (year-is-open a (sheetYear s) (accepted 12) .1) in
-      an-entry user (closed-same a v) (k .fits) (room b g (accepted 3)) (k .joins)
+      an-entry user (withheld-same a _ _ (closed-same a v)) (k .fits) (room b g (accepted 3)) (k .joins)
   call-fits (statement n) t h = no-change
+  call-fits (charge n) t h =
+      let accepted = fact b (charge n) h in
+      let user = named-user b n (accepted 6) .user in
+      let a = userAt b n in
+      an-account user (charged-same a) (charged-fits a (fits-at (findUser b n) user) (uncharged a (accepted 16))) refl

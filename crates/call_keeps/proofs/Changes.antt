@@ -12,7 +12,7 @@ use Rattle.book_records.specs.Records.{accountIn, advanceImage, closingImage}
 use Rattle.book_records.specs.Entries.{Entry, advanceEntry, closingEntry, ofAdvance, ofClosing, entryIn, advanceRecord, closingRecord, entryImage}
 use Rattle.book_records.proofs.Advances.{length-advance-image, bytes-advance-image}
 use Rattle.book_records.proofs.Closings.{length-closing-image, bytes-closing-image}
-use Rattle.book_rules.specs.Book.{used, kindAt, isUser, isEntry, nextOf, ownerOf, firstEntryOf, accountAt, accountFits, levelFrom, advanceFits, closingFits, openYearOf}
+use Rattle.book_rules.specs.Book.{used, kindAt, isUser, isEntry, nextOf, ownerOf, firstEntryOf, accountAt, accountFits, levelFrom, advanceFits, closingFits, withheldFits, openYearOf}
 use Rattle.call_rules.specs.Changes.{Change, nothing, opens, sets, enters, enrolledAs, withAccount, withEntry, applied}
 use Rattle.call_keeps.proofs.Good.{Good}
 use Rattle.call_keeps.proofs.Frame.{Frame, SameUser, frame-of-old}
@@ -25,10 +25,10 @@ use Rattle.call_keeps.proofs.NewEntries.{advance-entered, closing-enter
 
 -- an entry that may stand in front of a chain whose open year is y, of an account that becomes a
 pub data Joins (a : Account) (y : ℕ) : Entry → Type 0 where
-  an-advance : {year booked run : ℕ} {paid : Ticks} → advanceFits a (advanceRecord 0 0 year booked run paid) ≡ true → levelFrom year booked ≡ y
-      → a .«open_year» ≡ y → Joins a y (advanceEntry year booked run paid)
-  a-closing : {option : ℕ} {s : ClosingSums} → closingFits a (closingRecord 0 0 y option s) ≡ true → s .balance .0 < 2 ^ 64 → a .«open_year» ≡ y + 1
-      → Joins a y (closingEntry y option s)
+  an-advance : {year booked run : ℕ} {paid withheld : Ticks} → advanceFits a (advanceRecord 0 0 year booked run paid withheld) ≡ true → levelFrom year booked ≡ y
+      → a .«open_year» ≡ y → Joins a y (advanceEntry year booked run paid withheld)
+  a-closing : {option : ℕ} {s : ClosingSums} {withheld : Ticks} → closingFits a (closingRecord 0 0 y option s withheld) ≡ true → s .balance .0 < 2 ^ 64
+      → a .«open_year» ≡ y + 1 → Joins a y (closingEntry y option s withheld)
 
 -- a change of the user at i that fits the book
 pub data Fits (b : List ℕ) (i : ℕ) : Change → Type 0 where
@@ -53,33 +53,33 @@ pub data Changed (b : List ℕ) (i : ℕ) (b′ : List ℕ) : Change → Type 0 
   entered : {a : Account} {e : Entry} → isUser b i ≡ true → Entered b b′ i a → EntryIs b b′ i e → Changed b i b′ (enters a e)
 
 module _ (b b′ : List ℕ) (i : ℕ) where
-  advance-is : (year booked run : ℕ) (paid : Ticks) → isEntry b′ (used b) ≡ true
-      → AdvanceAt b′ (used b) (advanceRecord (firstEntryOf b i) i year booked run paid) → EntryIs b b′ i (advanceEntry year booked run paid)
+  advance-is : (year booked run : ℕ) (paid withheld : Ticks) → isEntry b′ (used b) ≡ true
+      → AdvanceAt b′ (used b) (advanceRecord (firstEntryOf b i) i year booked run paid withheld) → EntryIs b b′ i (advanceEntry year booked run paid withheld)
   unfolding entryIn kindAt
-  advance-is year booked run paid e at =
+  advance-is year booked run paid withheld e at =
       record { is-entry = e; next-is = at .entry .next-is; owner-is = at .entry .owner-is; says = rw (at .kind) (ap ofAdvance (at .advance)) }
 
-  closing-is : (y option : ℕ) (s : ClosingSums) → isEntry b′ (used b) ≡ true → ClosingAt b′ (used b) (closingRecord (firstEntryOf b i) i y option s)
-      → EntryIs b b′ i (closingEntry y option s)
+  closing-is : (y option : ℕ) (s : ClosingSums) (withheld : Ticks) → isEntry b′ (used b) ≡ true
+      → ClosingAt b′ (used b) (closingRecord (firstEntryOf b i) i y option s withheld) → EntryIs b b′ i (closingEntry y option s withheld)
   unfolding entryIn kindAt
-  closing-is y option s e at =
+  closing-is y option s withheld e at =
       record { is-entry = e; next-is = at .entry .next-is; owner-is = at .entry .owner-is; says = rw (at .kind) (ap ofClosing (at .closing)) }
 
 module _ (b : List ℕ) (g : Good b) (i : ℕ) where
   entered-by : (a : Account) (e : Entry) → isUser b i ≡ true → SameUser (accountAt b i) a → accountFits a ≡ true → used b < capacity b
       → Joins a (accountAt b i .«open_year») e → Changed b i (withEntry i a (entryImage (firstEntryOf b i) i e) b) (enters a e)
-  unfolding entryImage openYearOf accountIn advanceFits closingFits
-  entered-by a e h same fits room (an-advance {year} {booked} {run} {paid} ranges level open-year) =
-      let x = advanceRecord (firstEntryOf b i) i year booked run paid in
+  unfolding entryImage openYearOf accountIn advanceFits closingFits withheldFits
+  entered-by a e h same fits room (an-advance {year} {booked} {run} {paid} {withheld} ranges level open-year) =
+      let x = advanceRecord (firstEntryOf b i) i year booked run paid withheld in
       let k = advance-entered b (withEntry i a (advanceImage x) b) i a g h same fits room x (record { next-is = refl; owner-is = refl; year-is = level }) ranges open-year
       (entry-added b g i a (advanceImage x) h room (length-advance-image x) (bytes-advance-image x)) in
-      entered h (k .0) (advance-is b (withEntry i a (advanceImage x) b) i year booked run paid (k .1 .0) (k .1 .1))
-  entered-by a e h same fits room (a-closing {option} {s} ranges balance year) =
+      entered h (k .0) (advance-is b (withEntry i a (advanceImage x) b) i year booked run paid withheld (k .1 .0) (k .1 .1))
+  entered-by a e h same fits room (a-closing {option} {s} {withheld} ranges balance year) =
       let y = accountAt b i .«open_year» in
-      let x = closingRecord (firstEntryOf b i) i y option s in
+      let x = closingRecord (firstEntryOf b i) i y option s withheld in
       let k = closing-entered b (withEntry i a (closingImage x) b) i a g h same fits room x (record { next-is = refl; owner-is = refl; year-is = refl }) ranges balance year
       (entry-added b g i a (closingImage x) h room (length-closing-image x) (bytes-closing-image x)) in
-      entered h (k .0) (closing-is b (withEntry i a (closingImage x) b) i y option s (k .1 .0) (k .1 .1))
+      entered h (k .0) (closing-is b (withEntry i a (closingImage x) b) i y option s withheld (k .1 .0) (k .1 .1))
 
   pub change-made : (c : Change) → Fits b i c → Changed b i (applied i c b) c
   unfolding applied

@@ -8,7 +8,7 @@ use Rattle.units.proofs.Bools.{and-left, and-right, and-both}
 use Rattle.units.specs.Limits.{maxPower, firstActivation, lastActivation}
 use Rattle.sheet_values.specs.declared.Details.{Details}
 use Rattle.account_steps.specs.declared.Account.{Account}
-use Rattle.book_rules.specs.Book.{detailsFit, openYearFits, runsFit, advancesFit, laterFits, creditFits, halvesFit, accountFits}
+use Rattle.book_rules.specs.Book.{detailsFit, openYearFits, runsFit, advancesFit, laterFits, chargeFits, creditFits, halvesFit, accountFits}
 
 pub ruleset conjuncts = (and-left, and-right)
 
@@ -20,6 +20,7 @@ pub record AccountGood (a : Account) : Type 0 where
   pub runs : runsFit a ≡ true
   pub advances : advancesFit a ≡ true
   pub later : laterFits a ≡ true
+  pub charge : chargeFits a ≡ true
   pub credit : creditFits a ≡ true
   pub halves : halvesFit a ≡ true
 
@@ -29,7 +30,7 @@ account-good a h = search conjuncts
 
 pub account-fits : (a : Account) → AccountGood a → accountFits a ≡ true
 unfolding accountFits
-account-fits a g = and-both (and-both (g .number) (and-both (g .details) (g .openYear))) (and-both (and-both (and-both (g .runs) (g .advances)) (g .later)) (and-both (g .credit) (g .halves)))
+account-fits a g = and-both (and-both (g .number) (and-both (g .details) (g .openYear))) (and-both (and-both (and-both (and-both (g .runs) (g .advances)) (g .later)) (g .charge)) (and-both (g .credit) (g .halves)))
 
 -- the ranges of the details and the option
 pub record DetailsWithin (d : Details) (elected : ℕ) : Type 0 where

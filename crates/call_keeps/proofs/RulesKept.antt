@@ -14,7 +14,7 @@ use Rattle.book_layout.specs.Fields.{get, kindField, recordAt, userKind, advanc
 use Rattle.book_records.specs.declared.AdvanceRecord.{AdvanceRecord}
 use Rattle.book_records.specs.declared.ClosingRecord.{ClosingRecord}
 use Rattle.book_records.specs.Records.{accountIn, advanceIn, closingIn}
-use Rattle.book_rules.specs.Book.{isUser, isAdvance, isClosing, isEntry, nextOf, firstEntryOf, ownerOf, accountAt, activationOf, openYearOf, levelOf, yearFits, isRun, levelFrom, bookedFits, advanceFits, balanceFits, closingFits, entryRanges, userNextFits, numberIsNew, firstEntryFits, entryNextFits, ownerFits, inOrder, firstInOrder, nextInOrder}
+use Rattle.book_rules.specs.Book.{isUser, isAdvance, isClosing, isEntry, nextOf, firstEntryOf, ownerOf, accountAt, activationOf, openYearOf, levelOf, yearFits, isRun, levelFrom, bookedFits, advanceFits, balanceFits, withheldFits, closingFits, entryRanges, userNextFits, numberIsNew, firstEntryFits, entryNextFits, ownerFits, inOrder, firstInOrder, nextInOrder}
 use Rattle.book_rules.proofs.RecordKinds.{kind-index, user-index, advance-entry, closing-entry, entry-index}
 use Rattle.book_rules.proofs.Faultless.{owner-before}
 use Rattle.call_keeps.proofs.Bools.{or-stays, and-stays, cond-stays}
@@ -37,14 +37,14 @@ unfolding advanceFits
 advance-later o p a same later h =
     let level = levelFrom (a .year) (a .booked) in
     let noted = bookedFits (a .year) (a .booked) in
-    and-stays (yearFits o level && noted) (isRun (a .run) && leb (a .ticks .0) maxYearTicks)
+    and-stays (yearFits o level && noted) ((isRun (a .run) && leb (a .ticks .0) maxYearTicks) && leb (a .withheld .0) (a .ticks .0))
     (and-stays (yearFits o level) noted (year-later o p level same later) (λ e. e)) (λ e. e) h
 
 -- the ranges of a closing's sums, by its owner's activation
 abbrev sumsFit : ℕ → ClosingRecord → Bool
 sumsFit activation c =
     ((leb (c .sums .value .0) maxYearTicks && leb (c .sums .cost .0) maxYearTicks) && (leb (c .sums .«flat_rate» .0) maxFlatRate && leb (c .sums .contribution .0) maxContribution))
-    && ((leb (c .sums .liquidation .0) maxYearTicks && leb (c .sums .lapsed .0) (maxYearTicks * (c .year - activation))) && balanceFits (c .sums .balance .0))
+    && ((leb (c .sums .liquidation .0) maxYearTicks && leb (c .sums .lapsed .0) (maxYearTicks * (c .year - activation))) && (balanceFits (c .sums .balance .0) && withheldFits c))
 
 closing-later : (o p : Account) (c : ClosingRecord) → p .details .year ≡ o .details .year → o .«open_year» ≤ p .«open_year»
     → closingFits o c ≡ true → closingFits p c ≡ true

@@ -1,13 +1,13 @@
 -- What fits its ranges fits its bytes: the widths of a user, an advance and a closing that a booking writes.
 use Prim.Native.Nat.{ℕ, _+_, _-_, _*_, _^_, _≤_, _<_}
 use mathlib.Core.Path.{_≡_, refl}
-use mathlib.Core.Bool.{Bool, true, false}
+use mathlib.Core.Bool.{Bool, true, false, cond}
 use native.Mathlib.Omega.{arith}
 use borrow.Author.Tests.{leb-true, ltb-true, eqb-true}
 use lib.Dec.{leb, eqb}
 use Rattle.units.proofs.Bools.{and-right, cond-capped}
 use Rattle.units.specs.Units.{recordIndex}
-use Rattle.units.specs.Limits.{maxYearTicks, maxFlatRate, maxContribution, maxHalfTicks, maxHalfKwh, lastOpenYear}
+use Rattle.units.specs.Limits.{maxYearTicks, maxFlatRate, maxContribution, maxHalfTicks, maxHalfKwh, maxCharge, lastOpenYear}
 use Rattle.account_steps.specs.declared.Account.{Account}
 use Rattle.book_records.specs.declared.AdvanceRecord.{AdvanceRecord}
 use Rattle.book_records.specs.declared.ClosingRecord.{ClosingRecord}
@@ -15,7 +15,7 @@ use Rattle.book_records.proofs.Users.{UserFits}
 use Rattle.book_records.proofs.Advances.{AdvanceFits}
 use Rattle.book_records.proofs.Closings.{ClosingFits}
 use Rattle.calendar.specs.ElectionAndAdvances.{june, october, january}
-use Rattle.book_rules.specs.Book.{openYearFits, runsFit, advancesFit, laterHalf, laterFits, isMade, creditFits, halvesFit, accountFits, halvesMade, yearFits, isRun, levelFrom, bookedFits, advanceFits, closingFits}
+use Rattle.book_rules.specs.Book.{openYearFits, runsFit, advancesFit, laterHalf, laterFits, chargeFits, isMade, creditFits, halvesFit, accountFits, halvesMade, yearFits, isRun, levelFrom, bookedFits, advanceFits, paidBalance, withheldFits, closingFits}
 use Rattle.call_keeps.proofs.Ranges.{conjuncts, account-good, DetailsWithin, details-within}
 use Rattle.call_keeps.proofs.Runs.{made-two-halves, is-run, Run, June, October, January}
 
@@ -31,6 +31,8 @@ pub record AccountWithin (a : Account) : Type 0 where
   pub credit : a .credit .0 ≤ maxYearTicks * (a .«open_year» - a .details .year)
   pub half1 : a .half1 .0 ≤ maxHalfKwh
   pub half2 : a .half2 .0 ≤ maxHalfKwh
+  pub charged : a .charge .made ≤ 1
+  pub rest : a .charge .rest .0 ≤ maxCharge * (a .«open_year» - a .details .year + a .charge .made)
 
 advances-capped : (a : Account) → advancesFit a ≡ true → a .advances .0 ≤ maxYearTicks
 unfolding advancesFit
@@ -48,12 +50,13 @@ later-capped a h =
     omega arith
 
 pub account-within : (a : Account) → accountFits a ≡ true → AccountWithin a
-unfolding openYearFits runsFit laterFits creditFits halvesFit
+unfolding openYearFits runsFit laterFits chargeFits creditFits halvesFit
 account-within a h =
     let g = account-good a h in
     let open-year = g .openYear in
     let runs = g .runs in
     let later = g .later in
+    let charge = g .charge in
     let halves = g .halves in
     record {
       details = details-within (a .details) (a .option) (g .details);
@@ -66,6 +69,8 @@ account-within a h =
       credit = leb-true (a .credit .0) (maxYearTicks * (a .«open_year» - a .details .year)) (g .credit);
       half1 = search (conjuncts, leb-true);
       half2 = search (conjuncts, leb-true);
+      charged = search (conjuncts, leb-true);
+      rest = search (conjuncts, leb-true);
     }
 
 pub user-fits : (next first : ℕ) (a : Account) → next < 2 ^ 32 → first < 2 ^ 32 → a .number .0 < 2 ^ 32 → accountFits a ≡ true
@@ -92,6 +97,8 @@ user-fits next first a hn hf number h =
       half2 = omega (arith, w .half2);
       «later_runs» = omega (arith, w .«later_runs»);
       «later_advances» = omega (arith, w .«later_advances»);
+      charged = omega (arith, w .charged);
+      rest = omega (arith, w .rest, w .charged, w .to);
     }
 
 -- the level of an entry bounds its year and what it notes
@@ -117,6 +124,7 @@ advance-widths owner x account h next own =
     let noted : bookedFits (x .year) (x .booked) ≡ true = search conjuncts in
     let years = level-bounds (x .year) (x .booked) (owner .«open_year») level noted in
     let paid : x .ticks .0 ≤ maxYearTicks = search (conjuncts, leb-true) in
+    let held : x .withheld .0 ≤ x .ticks .0 = search (conjuncts, leb-true) in
     record {
       next = next;
       run = run-below (is-run (x .run) run);
@@ -124,12 +132,28 @@ advance-widths owner x account h next own =
       ticks = omega arith;
       owner = own;
       booked = omega (arith, w .to, years .1);
+      withheld = omega arith;
     }
   where
     run-below : {run : ℕ} → Run run → run < 2 ^ 8
     run-below June = omega arith
     run-below October = omega arith
     run-below January = omega arith
+
+paid-capped : (bits : ℕ) → paidBalance bits ≤ maxContribution
+unfolding paidBalance
+paid-capped bits = by-size (leb bits maxContribution) refl
+  where
+    by-size : (t : Bool) → leb bits maxContribution ≡ t → cond t bits 0 ≤ maxContribution
+    by-size true e = leb-true bits maxContribution e
+    by-size false e = omega arith
+
+held-below : (c : ClosingRecord) → withheldFits c ≡ true → c .sums .liquidation .0 ≤ maxYearTicks → c .withheld .0 < 2 ^ 64
+unfolding withheldFits
+held-below c h l =
+    let bits = c .sums .balance .0 in
+    let at-most = leb-true (c .withheld .0) (paidBalance bits + c .sums .liquidation .0) h in
+    omega (arith, paid-capped bits)
 
 pub closing-widths : (owner : Account) (c : ClosingRecord) → accountFits owner ≡ true → closingFits owner c ≡ true → c .next .0 < 2 ^ 32 → c .owner .0 < 2 ^ 32
     → c .sums .balance .0 < 2 ^ 64 → ClosingFits c
@@ -144,6 +168,7 @@ closing-widths owner c account h next own balance =
     let contribution : c .sums .contribution .0 ≤ maxContribution = search (conjuncts, leb-true) in
     let liquidation : c .sums .liquidation .0 ≤ maxYearTicks = search (conjuncts, leb-true) in
     let lapsed : c .sums .lapsed .0 ≤ maxYearTicks * (c .year - owner .details .year) = search (conjuncts, leb-true) in
+    let held : withheldFits c ≡ true = search conjuncts in
     let last = w .to in
     record {
       next = next;
@@ -157,4 +182,5 @@ closing-widths owner c account h next own balance =
       lapsed = omega arith;
       balance = balance;
       owner = own;
+      withheld = held-below c held liquidation;
     }

@@ -7,13 +7,13 @@ ghost use lib.ListN.{length};
 ghost use Rattle.sheet.specs.YearSheet.{sheetLength, Tells};
 ghost use Rattle.sheet.specs.Objections.{FaultTold};
 ghost use Rattle.call_rules.specs.Rules.{refusedBy};
-ghost use Rattle.call_rules.specs.Refusals.{lookOf, hasRoom, dayAndOption, electionOpen, isOpen, runOpen, orderFits, yearOpen};
+ghost use Rattle.call_rules.specs.Refusals.{lookOf, hasRoom, dayAndOption, electionOpen, isOpen, runOpen, orderFits, yearOpen, chargeOpen};
 ghost use Rattle.calendar.specs.ElectionAndAdvances.{halvesPaid, due};
 ghost use Rattle.account_steps.specs.Account.{runsIn};
 ghost use Rattle.book_rules.specs.Book.{isMade, isRun};
 ghost use Rattle.units.specs.Limits.{lastActivation};
 ghost use lib.Dec.{leb};
-ghost use Rattle.call_rules.specs.Calls.{enrol, elect, advance, sheetRules, rulesOf};
+ghost use Rattle.call_rules.specs.Calls.{enrol, elect, advance, charge, sheetRules, rulesOf};
 use account_steps::Account;
 use book_rules::LAST_ACTIVATION;
 use book_rules::LAST_OPEN_YEAR;
@@ -146,6 +146,19 @@ pub fn elect_objection(a: Account, option: u8, year: u32, month: u32, day: u32) 
 {
     let window = refuse(election_open(a, year, month, day), 8, 0);
     refuse(day_and_option(option, year, month, day), 7, window)
+}
+
+fn charge_open(a: Account) -> bool
+    ensures { λ r. ⌜ r ≡ chargeOpen a ⌝ }
+{
+    (a.charge.made == 0) & (a.open_year <= LAST_ACTIVATION)
+}
+
+// 16
+pub fn charge_objection(a: Account) -> u32
+    ensures { λ r. ⌜ ((number user : ℕ) (room : Bool) → (user ≡ 0 → ⊥) → r ≡ refusedBy (rulesOf (lookOf user a room) (charge number))) ⌝ }
+{
+    refuse(charge_open(a), 16, 0)
 }
 
 // 9 10 3

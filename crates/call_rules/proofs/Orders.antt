@@ -9,7 +9,7 @@ use Rattle.sheet_values.specs.declared.Details.{Details}
 use Rattle.book_rules.specs.Book.{lengthFits}
 use Rattle.call_rules.specs.Rules.{Rule, numbersOf, testOf, without}
 use Rattle.call_rules.specs.Refusals.{Look, lookAt}
-use Rattle.call_rules.specs.Calls.{Call, enrol, elect, advance, close, statement, namedBy, rulesOf, orderOf, refusalOf}
+use Rattle.call_rules.specs.Calls.{Call, enrol, elect, advance, close, statement, charge, namedBy, rulesOf, orderOf, refusalOf}
 use Rattle.call_rules.proofs.Rules.{passes}
 
 module _ (v : Look) where
@@ -33,6 +33,10 @@ module _ (v : Look) where
   unfolding numbersOf rulesOf
   statement-order n = refl
 
+  pub charge-order : (n : ℕ) → numbersOf (rulesOf v (charge n)) ≡ 6 ∷ 16 ∷ []
+  unfolding numbersOf rulesOf
+  charge-order n = refl
+
 -- 0 is acceptance, 1 and 2 are the book's. Each is a computation: where a number of a list were no literal, it would stop here.
 pub record Reserved (rs : List Rule) : Type 0 where
   pub zero : without 0 rs ≡ true
@@ -46,6 +50,7 @@ reserved v (elect n o y m d) = record { zero = refl; one = refl; two = refl }
 reserved v (advance n y r p e₁ e₂) = record { zero = refl; one = refl; two = refl }
 reserved v (close s) = record { zero = refl; one = refl; two = refl }
 reserved v (statement n) = record { zero = refl; one = refl; two = refl }
+reserved v (charge n) = record { zero = refl; one = refl; two = refl }
 
 module _ (b : List ℕ) (c : Call) (h : refusalOf b c ≡ 0) where
   pub fact : (n : ℕ) → testOf n (orderOf b c) ≡ true

@@ -1,4 +1,4 @@
--- The five calls of document 01: their refusal, their answer and the book after them. "A refusal leaves every byte and
+-- The five calls of document 01 and the charge of ticket 1: their refusal, their answer and the book after them. "A refusal leaves every byte and
 -- answers zeros beside its number, but for the record in 2."
 use Prim.Native.Nat.{ℕ}
 use mathlib.Core.Bool.{cond, not}
@@ -11,11 +11,12 @@ use Rattle.units.specs.Units.{ticks}
 use Rattle.sheet_values.specs.YearsValues.{yearValues}
 use Rattle.account_steps.specs.declared.Account.{Account}
 use Rattle.account_steps.specs.Account.{accountElected, accountAdvanced, accountClosed, settled}
+use Rattle.account_steps.specs.Charges.{withheldFrom, closingWithheld, accountWithheld, accountCharged}
 use Rattle.book_records.specs.Entries.{advanceEntry, closingEntry}
 use Rattle.call_rules.specs.Changes.{Change, nothing, opens, sets, enters, applied, newAccount, bookedIn, runAmount}
 use Rattle.book_rules.specs.Find.{findUser}
 use Rattle.call_rules.specs.Rules.{Rule, _unless_, refusedBy}
-use Rattle.call_rules.specs.Refusals.{Look, lookAt, numberFree, present, dayAndOption, electionOpen, runOpen, orderFits, yearOpen, userAt}
+use Rattle.call_rules.specs.Refusals.{Look, lookAt, numberFree, present, dayAndOption, electionOpen, runOpen, orderFits, yearOpen, chargeOpen, userAt}
 
 -- the calls and what they bring
 pub data Call : Type 0 where
@@ -24,6 +25,7 @@ pub data Call : Type 0 where
   advance : (number year run rate estimate1 estimate2 : ℕ) → Call
   close : (sheet : List ℕ) → Call
   statement : (number : ℕ) → Call
+  charge : (number : ℕ) → Call
 
 -- the number that a call names
 unfoldable pub namedBy : Call → ℕ
@@ -32,10 +34,11 @@ namedBy (elect n o y m d) = n
 namedBy (advance n y r p e₁ e₂) = n
 namedBy (close s) = sheetUser s
 namedBy (statement n) = n
+namedBy (charge n) = n
 
 -- "Order: fresh 1; enrol 1 2 4 5 3; elect 1 2 6 7 8; advance 1 2 6 9 10 3; close 1 2 11 6 12 13 14 3; statement 1 2 6." Each
 -- call looks at the length and the soundness of the book first, then by its own rules at the user that it names. "It refuses
--- with 19 in the new case, at 13's place." (ticket 7)
+-- with 19 in the new case, at 13's place." (ticket 7) "It refuses with 16 .., right after 6." (ticket 1)
 abbrev pub sheetRules : Look → List ℕ → List Rule
 sheetRules v s =
     (6 unless present v) ∷ (12 unless yearOpen (v .account) (sheetYear s)) ∷ (13 unless not (refused13 s))
@@ -48,6 +51,7 @@ rulesOf v (advance n y r p e₁ e₂) =
     (6 unless present v) ∷ (9 unless runOpen (v .account) y r) ∷ (10 unless orderFits p e₁ e₂) ∷ (3 unless v .room) ∷ []
 rulesOf v (close s) = (11 unless not (refused11 s)) ∷ sheetRules v s
 rulesOf v (statement n) = (6 unless present v) ∷ []
+rulesOf v (charge n) = (6 unless present v) ∷ (16 unless chargeOpen (v .account)) ∷ []
 
 abbrev pub orderOf : List ℕ → Call → List Rule
 orderOf b c = (1 unless lengthFits b) ∷ (2 unless sound b) ∷ rulesOf (lookAt b (namedBy c)) c
@@ -56,15 +60,21 @@ unfoldable pub refusalOf : List ℕ → Call → ℕ
 refusalOf b c = refusedBy (orderOf b c)
 
 -- what an accepted call changes, by the account of the user that it names: "An election sets the option"; "Each run adds one
--- entry, joins the advances field and sets its bit."; a closing is entered with its sums
+-- entry, joins the advances field and sets its bit."; a closing is entered with its sums; what each payment has withheld is taken
+-- from the rest and kept by the entry (ticket 1)
 unfoldable pub changeOf : Account → Call → Change
 changeOf a (enrol n d o) = opens (newAccount n d o)
 changeOf a (elect n o y m d) = sets (accountElected o a)
 changeOf a (advance n y r p e₁ e₂) =
-    let paid = runAmount a y r p e₁ e₂ in enters (accountAdvanced y r paid a) (advanceEntry y (bookedIn a y) r (ticks paid))
+    let paid = runAmount a y r p e₁ e₂ in
+    let withheld = withheldFrom (a .charge .rest .0) paid in
+    enters (accountWithheld withheld (accountAdvanced y r paid a)) (advanceEntry y (bookedIn a y) r (ticks paid) (ticks withheld))
 changeOf a (close s) =
-    let v = yearValues s (a .details) in enters (accountClosed v a) (closingEntry (a .«open_year») (a .option) (settled a v))
+    let v = yearValues s (a .details) in
+    let withheld = closingWithheld a v in
+    enters (accountWithheld withheld (accountClosed v a)) (closingEntry (a .«open_year») (a .option) (settled a v) (ticks withheld))
 changeOf a (statement n) = nothing
+changeOf a (charge n) = sets (accountCharged a)
 
 -- the book after an accepted call
 unfoldable pub booked : List ℕ → Call → List ℕ

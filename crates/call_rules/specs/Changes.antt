@@ -9,6 +9,7 @@ use Rattle.units.specs.Units.{kwh, ticks, userNumber, recordIndex}
 use Rattle.calendar.specs.ElectionAndAdvances.{halvesPaid, amountOf}
 use Rattle.sheet_values.specs.declared.Details.{Details}
 use Rattle.account_steps.specs.declared.Account.{Account}
+use Rattle.account_steps.specs.Charges.{chargeIs}
 use Rattle.book_layout.specs.Fields.{putRecord}
 use Rattle.book_records.specs.Records.{headImage, userImage}
 use Rattle.book_records.specs.Entries.{Entry, entryImage}
@@ -60,6 +61,7 @@ newAccount number d option =
       «later_advances» = ticks 0;
       half1 = kwh 0;
       half2 = kwh 0;
+      charge = chargeIs 0 0;
     }
 
 -- the year that an entry of a run notes: none where it is the open one, else the year that is open when the run is booked (ticket 6)

@@ -63,5 +63,9 @@ orderFits rate estimate1 estimate2 = leb rate maxPrice && (leb estimate1 maxHalf
 unfoldable pub yearOpen : Account → ℕ → Bool
 yearOpen a year = eqb year (a .«open_year») && leb year lastActivation
 
+-- "It refuses with 16 a second charge for the same year or one above 2099" (ticket 1)
+unfoldable pub chargeOpen : Account → Bool
+chargeOpen a = eqb (a .charge .made) 0 && leb (a .«open_year») lastActivation
+
 abbrev pub userAt : List ℕ → ℕ → Account
 userAt b number = accountAt b (findUser b number)

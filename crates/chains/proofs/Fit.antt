@@ -56,7 +56,7 @@ module _ (b : List ℕ) (f : Faultless b) (i : ℕ) (u : isUser b i ≡ true) wh
   balance-sum : natAbs (sumOverℤ (balancePart b) (entriesOf b i)) ≤ maxContribution * mostYears
   balance-sum = omega (arith, balance-sizes, size-of-sum (balancePart b) (entriesOf b i))
 
-  -- A sum over the advances has at most a term for each record.
+  -- A sum over all entries has at most a term for each record.
   entries-few : length (entriesOf b i) ≤ used b
   unfolding entriesOf
   entries-few =
@@ -72,10 +72,14 @@ module _ (b : List ℕ) (f : Faultless b) (i : ℕ) (u : isUser b i ≡ true) wh
       by-test true q = rw q (advance-range b f e (and-left (isAdvance b e) (p (advanceIn (recordAt b e) .year)) q))
       by-test false q = rw q (omega arith)
 
-  pub advance-sum : lengthFits b ≡ true → (p : ℕ → Bool) → sumOver (advancePart p b) (entriesOf b i) ≤ maxYearTicks * mostRecords
-  advance-sum l p =
-      let sum = sum-at-most (Owned b i) (advancePart p b) maxYearTicks (λ e o. advance-term p e) (entriesOf b i) (entries-only b f i u) in
-      omega (arith, sum, entries-few, used-within b (f .used-fits), capacity-most b l)
+  pub entries-sum : lengthFits b ≡ true → (g : ℕ → ℕ) (cap : ℕ) → ((e : ℕ) → g e ≤ cap) → sumOver g (entriesOf b i) ≤ cap * mostRecords
+  entries-sum l g cap most =
+      let sum = sum-at-most (Owned b i) g cap (λ e o. most e) (entriesOf b i) (entries-only b f i u) in
+      let few : length (entriesOf b i) ≤ mostRecords = omega (arith, entries-few, used-within b (f .used-fits), capacity-most b l) in
+      omega (arith, sum, mul-le-mul-left cap few)
+
+  advance-sum : lengthFits b ≡ true → (p : ℕ → Bool) → sumOver (advancePart p b) (entriesOf b i) ≤ maxYearTicks * mostRecords
+  advance-sum l p = entries-sum l (advancePart p b) maxYearTicks (advance-term p)
 
 -- each sum but the balance's is below 2^63, and that lies from −2^62 to 2^62
 pub record SumsFit (s : Statement) : Type 0 where

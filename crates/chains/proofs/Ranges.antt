@@ -17,7 +17,7 @@ use Rattle.book_layout.specs.Fields.{recordAt}
 use Rattle.account_steps.specs.declared.ClosingSums.{ClosingSums}
 use Rattle.book_records.specs.declared.ClosingRecord.{ClosingRecord}
 use Rattle.book_records.specs.Records.{advanceIn, closingIn}
-use Rattle.book_rules.specs.Book.{within, isUser, isAdvance, isClosing, ownerOf, accountAt, accountFits, detailsFit, openYearFits, runsFit, advancesFit, laterFits, creditFits, halvesFit, yearFits, levelFrom, bookedFits, isRun, advanceFits, balanceFits, closingFits}
+use Rattle.book_rules.specs.Book.{within, isUser, isAdvance, isClosing, ownerOf, accountAt, accountFits, detailsFit, openYearFits, paymentsFit, creditFits, halvesFit, yearFits, levelFrom, bookedFits, isRun, advanceFits, balanceFits, withheldFits, closingFits}
 use Rattle.book_rules.proofs.Faultless.{Faultless}
 use Rattle.book_rules.proofs.Faultless as book
 use Rattle.book_rules.proofs.RecordKinds.{advance-entry, closing-entry}
@@ -55,7 +55,7 @@ unfolding accountFits openYearFits
 years-fit a h =
     let named = not (eqb (a .number .0) 0) in
     let years = detailsFit (a .details) (a .option) && openYearFits a in
-    let money = ((runsFit a && advancesFit a) && laterFits a) && (creditFits a && halvesFit a) in
+    let money = paymentsFit a && (creditFits a && halvesFit a) in
     let both = and-right named years (and-left (named && years) money h) in
     let range = within-true (a .details .year) lastOpenYear (a .«open_year») (and-right (detailsFit (a .details) (a .option)) (openYearFits a) both) in
     record {
@@ -70,7 +70,7 @@ unfolding accountFits creditFits
 credit-of a h =
     let own = not (eqb (a .number .0) 0) && (detailsFit (a .details) (a .option) && openYearFits a) in
     let sums = creditFits a && halvesFit a in
-    let runs = (runsFit a && advancesFit a) && laterFits a in
+    let runs = paymentsFit a in
     let y = years-fit a h in
     let first = y .activation in
     let last = y .latest in
@@ -97,12 +97,13 @@ closing-ranges-of owner c y h =
     let paid = leb (c .sums .liquidation .0) maxYearTicks in
     let lapsed = leb (c .sums .lapsed .0) (maxYearTicks * (c .year - owner .details .year)) in
     let near = (value && cost) && (flat && due) in
-    let far = (paid && lapsed) && balanceFits (c .sums .balance .0) in
+    let money = balanceFits (c .sums .balance .0) && withheldFits c in
+    let far = (paid && lapsed) && money in
     let sums : (near && far) ≡ true = and-right (year && option) (near && far) h in
     let n : near ≡ true = and-left near far sums in
     let m : far ≡ true = and-right near far sums in
     let years = within-true (owner .details .year) (owner .«open_year») (c .year) (and-left year option (and-left (year && option) (near && far) h)) in
-    let lapse = leb-true (c .sums .lapsed .0) (maxYearTicks * (c .year - owner .details .year)) (and-right paid lapsed (and-left (paid && lapsed) (balanceFits (c .sums .balance .0)) m)) in
+    let lapse = leb-true (c .sums .lapsed .0) (maxYearTicks * (c .year - owner .details .year)) (and-right paid lapsed (and-left (paid && lapsed) money m)) in
     let a = y .activation in
     let l = y .latest in
     record {
@@ -110,9 +111,9 @@ closing-ranges-of owner c y h =
       cost = leb-true (c .sums .cost .0) maxYearTicks (and-right value cost (and-left (value && cost) (flat && due) n));
       flatRate = leb-true (c .sums .«flat_rate» .0) maxFlatRate (and-left flat due (and-right (value && cost) (flat && due) n));
       contribution = leb-true (c .sums .contribution .0) maxContribution (and-right flat due (and-right (value && cost) (flat && due) n));
-      liquidation = leb-true (c .sums .liquidation .0) maxYearTicks (and-left paid lapsed (and-left (paid && lapsed) (balanceFits (c .sums .balance .0)) m));
+      liquidation = leb-true (c .sums .liquidation .0) maxYearTicks (and-left paid lapsed (and-left (paid && lapsed) money m));
       lapsed = omega arith;
-      balance = balance-size (c .sums .balance .0) (and-right (paid && lapsed) (balanceFits (c .sums .balance .0)) m);
+      balance = balance-size (c .sums .balance .0) (and-left (balanceFits (c .sums .balance .0)) (withheldFits c) (and-right (paid && lapsed) money m));
     }
 
 module _ (b : List ℕ) (f : Faultless b) where
@@ -132,6 +133,7 @@ module _ (b : List ℕ) (f : Faultless b) where
       let owner = accountAt b (ownerOf b e) in
       let r = advanceIn (recordAt b e) in
       let amount = leb (r .ticks .0) maxYearTicks in
+      let held = leb (r .withheld .0) (r .ticks .0) in
       let dated = yearFits owner (levelFrom (r .year) (r .booked)) && bookedFits (r .year) (r .booked) in
       leb-true (r .ticks .0) maxYearTicks
-      (and-right (isRun (r .run)) amount (and-right dated (isRun (r .run) && amount) (book.advance-ranges b e (f .entry e (advance-entry b e a) .own) a)))
+      (and-right (isRun (r .run)) amount (and-left (isRun (r .run) && amount) held (and-right dated ((isRun (r .run) && amount) && held) (book.advance-ranges b e (f .entry e (advance-entry b e a) .own) a))))

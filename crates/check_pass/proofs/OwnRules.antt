@@ -11,7 +11,7 @@ use lib.Dec.{eqb, leb, ltb}
 use Rattle.units.proofs.Bools.{and-left, or-cases}
 use Rattle.book_layout.specs.Fields.{get, allZero, unnamedOfUser, recordAt, kindField, numberField, ownerField, userKind}
 use Rattle.book_records.specs.Records.{accountIn}
-use Rattle.book_rules.specs.Book.{kindAt, hasKind, isUser, ownerOf, ownerFits, accountFits, entryRanges, rangesFit, unnamedOf, zeroBytesFit, ownRulesFit, goodRecord, detailsFit, openYearFits, runsFit, advancesFit, laterFits, creditFits, halvesFit}
+use Rattle.book_rules.specs.Book.{kindAt, hasKind, isUser, ownerOf, ownerFits, accountFits, entryRanges, rangesFit, unnamedOf, zeroBytesFit, ownRulesFit, goodRecord, detailsFit, openYearFits, paymentsFit, creditFits, halvesFit}
 use Rattle.book_rules.proofs.Faults.{ownerless-bad}
 
 -- a user that keeps its rules has a number
@@ -22,7 +22,7 @@ number-some r own =
     let fits = and-left (accountFits a) (allZero unnamedOfUser r) own in
     let known : (not (eqb (get numberField r) 0) && (detailsFit (a .details) (a .option) && openYearFits a)) ≡ true =
     and-left (not (eqb (get numberField r) 0) && (detailsFit (a .details) (a .option) && openYearFits a))
-    (((runsFit a && advancesFit a) && laterFits a) && (creditFits a && halvesFit a)) fits in
+    (paymentsFit a && (creditFits a && halvesFit a)) fits in
     let some = eqb-false (get numberField r) 0 (not-true (eqb (get numberField r) 0) (and-left (not (eqb (get numberField r) 0)) (detailsFit (a .details) (a .option) && openYearFits a) known)) in
     omega (arith, some)
 

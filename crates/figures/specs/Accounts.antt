@@ -19,6 +19,7 @@ opened =
       «later_advances» = ticks 0;
       half1 = kwh 0;
       half2 = kwh 0;
+      charge = record { made = 0; rest = ticks 0 };
     }
 
 -- a year of C and O, with F 0

@@ -1,6 +1,7 @@
 // The ten figures of document 01, "Figures to prove, one table", as the proved functions work them: a figure a line, its
 // number and then its values.
 use account_steps::Account;
+use account_steps::Charge;
 use output::Row;
 use sheet_values::Details;
 use sheet_values::YearValues;
@@ -100,6 +101,10 @@ fn opened() -> Account
         later_advances: Ticks(0),
         half1: Kwh(0),
         half2: Kwh(0),
+        charge: Charge {
+            made: 0,
+            rest: Ticks(0),
+        },
     }
 }
 

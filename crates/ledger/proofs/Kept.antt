@@ -9,7 +9,8 @@ use lib.IntN.{pos, _+ℤ_, _-ℤ_, +ℤ-comm}
 use Rattle.sheet_values.specs.declared.Details.{Details}
 use Rattle.account_steps.specs.Closing.{liquidates, contributionOf, lapsedOf, creditAfter, balanceOf}
 use Rattle.account_steps.proofs.Closing.{one-year}
-use Rattle.ledger.specs.Ledger.{Ledger, yearAfter, openYear, sumItems, sumBalances, sumAdvances, enrolled, elected, advanceAmount, advanced, itemOf, Figures, closedWith, statementOf}
+use Rattle.account_steps.proofs.Charges.{withheld-rest, closing-rest}
+use Rattle.ledger.specs.Ledger.{Ledger, yearAfter, openYear, sumItems, sumBalances, sumAll, sumAdvances, enrolled, elected, charged, advanceAmount, advanced, itemOf, Figures, itemWith, closedWith, statementOf}
 use Rattle.ledger.specs.Accounting.{lapsedOver, conserved, Consecutive, Accounts}
 use Rattle.ledger.proofs.Standing.{figure, standing-exists}
 use Rattle.ledger.proofs.Years.{from-activation, NoneBefore, closed-advances-before}
@@ -30,11 +31,12 @@ pub record Kept (injected : ℕ) (l : Ledger) : Type 0 where
   pub years : Consecutive (l .details .year) (l .items)
   pub noneLater : NoneAfter (openYear l + 1) (l .advances)
   pub noneEarlier : NoneBefore (l .details .year) (l .advances)
+  pub charged : l .charges ≡ sumAll (l .withheld) + l .rest
 
 pub kept-enrolled : (d : Details) (o : ℕ) → Kept 0 (enrolled d o)
-unfolding enrolled statementOf sumItems sumBalances sumAdvances figure lapsedOver Consecutive NoneAfter NoneBefore
+unfolding enrolled statementOf sumItems sumBalances sumAdvances sumAll figure lapsedOver Consecutive NoneAfter NoneBefore
 kept-enrolled d o =
-    record { values = refl; sums = refl; balances = refl; credit = refl; lapsed = refl; years = tt; noneLater = tt; noneEarlier = tt }
+    record { values = refl; sums = refl; balances = refl; credit = refl; lapsed = refl; years = tt; noneLater = tt; noneEarlier = tt; charged = refl }
 
 pub kept-elected : {n : ℕ} {l : Ledger} (o : ℕ) → Kept n l → Kept n (elected o l)
 unfolding elected statementOf
@@ -48,11 +50,28 @@ kept-elected o k =
       years = k .years;
       noneLater = k .noneLater;
       noneEarlier = k .noneEarlier;
+      charged = k .charged;
+    }
+
+-- a charge joins both sides
+pub kept-charged : {n : ℕ} {l : Ledger} → Kept n l → Kept n (charged l)
+unfolding charged statementOf
+kept-charged {n} {l} k =
+    record {
+      values = k .values;
+      sums = k .sums;
+      balances = k .balances;
+      credit = k .credit;
+      lapsed = k .lapsed;
+      years = k .years;
+      noneLater = k .noneLater;
+      noneEarlier = k .noneEarlier;
+      charged = omega (arith, k .charged);
     }
 
 -- an advance of the open year or of the one after it
 pub kept-advanced : {n : ℕ} {l : Ledger} (y r p e₁ e₂ : ℕ) → openYear l ≤ y → y ≤ openYear l + 1 → Kept n l → Kept n (advanced y r p e₁ e₂ l)
-unfolding advanced statementOf sumAdvances NoneAfter NoneBefore
+unfolding advanced statementOf sumAdvances sumAll NoneAfter NoneBefore
 kept-advanced {n} {l} y r p e₁ e₂ from to k =
     let paid : ℕ = advanceAmount y r p e₁ e₂ l in
     let before : ℕ = sumAdvances (λ z. ltb z (openYear l)) (l .advances) in
@@ -66,6 +85,7 @@ kept-advanced {n} {l} y r p e₁ e₂ from to k =
       years = k .years;
       noneLater = (to, k .noneLater);
       noneEarlier = (omega (arith, from-activation (l .details .year) (l .items) (k .years)), k .noneEarlier);
+      charged = omega (arith, k .charged, withheld-rest (l .rest) paid);
     }
 
 -- the sums of one year join those of the years before
@@ -107,7 +127,7 @@ module _ {n : ℕ} {l : Ledger} (year : ℕ) (f : Figures) (open-year : year ≡
   closed-lapsed = ap₂ _+_ (ap (λ c. cond (liquidates (l .option)) c 0) (k .credit)) (k .lapsed)
 
   pub kept-closed : Kept (n + f .value) after
-  unfolding closedWith itemOf sumItems statementOf figure Consecutive yearAfter
+  unfolding closedWith itemOf sumItems sumAll statementOf figure Consecutive yearAfter
   kept-closed =
       record {
         values = omega (arith, k .values);
@@ -118,6 +138,7 @@ module _ {n : ℕ} {l : Ledger} (year : ℕ) (f : Figures) (open-year : year ≡
         years = (open-year, k .years);
         noneLater = none-after-later (omega arith) (l .advances) (k .noneLater);
         noneEarlier = k .noneEarlier;
+        charged = omega (arith, k .charged, closing-rest (l .rest) (itemWith year f l .balance) (itemWith year f l .liquidation));
       }
 
   -- the year after the one that it opens has no advance yet

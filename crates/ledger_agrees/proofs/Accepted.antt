@@ -14,7 +14,7 @@ use Rattle.ledger.specs.Ledger.{sheetValue, sheetFlatRate}
 use Rattle.book_rules.specs.Find.{findUser}
 use Rattle.call_rules.specs.Rules.{testOf}
 use Rattle.call_rules.specs.Refusals.{lookAt, userAt}
-use Rattle.call_rules.specs.Calls.{Call, enrol, elect, advance, close, statement, namedBy, rulesOf, refusalOf}
+use Rattle.call_rules.specs.Calls.{Call, enrol, elect, advance, close, statement, charge, namedBy, rulesOf, refusalOf}
 use Rattle.call_rules.proofs.Orders.{fact}
 use Rattle.call_keeps.proofs.Good.{Good}
 use Rattle.call_keeps.proofs.Numbers.{none-found}
@@ -25,7 +25,7 @@ use Rattle.call_keeps.proofs.Close.{contribution-below}
 use Rattle.call_keeps.proofs.CallsFit.{named-user, year-is-open, sheet-passed}
 use Rattle.ledger_views.specs.Views.{viewAt, viewOf}
 use Rattle.ledger_views.proofs.Kept.{view-is, view-none}
-use Rattle.ledger_agrees.proofs.Ledgers.{contribution, Posts, enrols, elects, advances, closes, states}
+use Rattle.ledger_agrees.proofs.Ledgers.{contribution, Posts, enrols, elects, advances, closes, states, charges}
 
 module _ (b : List ℕ) (g : Good b) where
   -- a number that is there
@@ -55,4 +55,5 @@ module _ (b : List ℕ) (g : Good b) where
       let accepted = fact b (close s) h in
       let small = small-sums s h in
       subst (Posts (close s)) (sym (there (sheetUser s) (accepted 6))) (closes (year-is-open (userAt b (sheetUser s)) (sheetYear s) (accepted 12) .0) (small .0) (small .1))
+  call-posts (charge n) h = subst (Posts (charge n)) (sym (there n (fact b (charge n) h 6))) charges
   call-posts (statement n) h = subst (Posts (statement n)) (sym (there n (fact b (statement n) h 6))) states

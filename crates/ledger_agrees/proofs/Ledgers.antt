@@ -1,5 +1,5 @@
 -- A user by value and its ledger, kept in step by every accepted call: nothing of the book's bytes is left here.
-use Prim.Native.Nat.{ℕ, _+_, _^_, _≤_, _<_}
+use Prim.Native.Nat.{ℕ, _+_, _-_, _^_, _≤_, _<_}
 use mathlib.Core.Path.{_≡_, refl, ap, ap₂, sym, _∙_, subst}
 use mathlib.Core.Bool.{true, cond}
 use mathlib.Core.Logic.{_⊎_, inl, inr, ⊎-elim}
@@ -17,14 +17,15 @@ use Rattle.sheet_values.specs.YearsValues.{yearValues}
 use Rattle.account_steps.specs.declared.Account.{Account}
 use Rattle.account_steps.specs.Closing.{contributionOf}
 use Rattle.account_steps.specs.Account.{accountElected, accountAdvanced, accountClosed, settled}
+use Rattle.account_steps.specs.Charges.{chargeOf, withheldFrom, withheldAtClosing, closingWithheld, accountCharged, accountWithheld}
 use Rattle.account_steps.proofs.Balances.{balance-back}
 use Rattle.book_records.specs.Entries.{advanceEntry, closingEntry}
 use Rattle.ledger.specs.Ledger.{Item, Advance, Ledger, openYear, yearAfter, sumItems, sumBalances, sumAdvances, advanceAmount, sheetValue, sheetFlatRate, statementOf}
 use Rattle.ledger.specs.Ledger as ledger
-use Rattle.ledger.proofs.Kept.{Kept, kept-enrolled, kept-elected, kept-advanced, kept-closed, no-advance-yet}
+use Rattle.ledger.proofs.Kept.{Kept, kept-enrolled, kept-elected, kept-charged, kept-advanced, kept-closed, no-advance-yet}
 use Rattle.call_rules.specs.Changes.{newAccount, bookedIn, runAmount}
-use Rattle.call_rules.specs.Calls.{Call, enrol, elect, advance, close, statement, changeOf}
-use Rattle.ledger_views.specs.Views.{View, viewIs, viewAfter, accountOf, stepOf}
+use Rattle.call_rules.specs.Calls.{Call, enrol, elect, advance, close, statement, charge, changeOf}
+use Rattle.ledger_views.specs.Views.{View, viewIs, withheldOf, viewAfter, accountOf, stepOf}
 use Rattle.ledger_agrees.specs.Fed.{posted, valueBy}
 use Rattle.ledger.proofs.Kept.{closed-paid}
 use Rattle.ledger.proofs.Years.{none-closed}
@@ -42,6 +43,8 @@ pub record Agrees (v : View) (l : Ledger) : Type 0 where
   pub later : v .account .«later_advances» .0 ≡ sumAdvances (eqb (openYear l + 1)) (l .advances)
   pub items : itemsOf (v .entries) ≡ l .items
   pub paid : advancesOf (v .entries) ≡ l .advances
+  pub rest : v .account .charge .rest .0 ≡ l .rest
+  pub withheld : withheldOf (v .entries) ≡ l .withheld
 
 pub data State : Option View → Option Ledger → ℕ → Type 0 where
   unknown : State none none 0
@@ -78,6 +81,7 @@ pub data Posts : Call → Option View → Type 0 where
   advances : {n y r p e₁ e₂ : ℕ} {v : View} → (y ≡ v .account .«open_year») ⊎ (y ≡ v .account .«open_year» + 1) → Posts (advance n y r p e₁ e₂) (some v)
   closes : {s : List ℕ} {v : View} → sheetYear s ≡ v .account .«open_year» → contribution (v .account) s < 2 ^ 63 → v .account .advances .0 < 2 ^ 63 → Posts (close s) (some v)
   states : {n : ℕ} {v : View} → Posts (statement n) (some v)
+  charges : {n : ℕ} {v : View} → Posts (charge n) (some v)
 
 module _ (v : View) (l : Ledger) (a : Agrees v l) where
   agrees-elected : (o : ℕ) → Agrees (viewIs (accountElected o (v .account)) (v .entries)) (ledger.elected o l)
@@ -94,6 +98,26 @@ module _ (v : View) (l : Ledger) (a : Agrees v l) where
         later = a .later;
         items = a .items;
         paid = a .paid;
+        rest = a .rest;
+        withheld = a .withheld;
+      }
+
+  agrees-charged : Agrees (viewIs (accountCharged (v .account)) (v .entries)) (ledger.charged l)
+  unfolding accountCharged ledger.charged
+  agrees-charged =
+      record {
+        details = a .details;
+        option = a .option;
+        credit = a .credit;
+        half1 = a .half1;
+        half2 = a .half2;
+        open-year = a .open-year;
+        advances = a .advances;
+        later = a .later;
+        items = a .items;
+        paid = a .paid;
+        rest = ap₂ (λ (n : ℕ) (d : Details). n + chargeOf (d .power)) (a .rest) (a .details);
+        withheld = a .withheld;
       }
 
   same-amount : (y r p e₁ e₂ : ℕ) {x : ℕ} → Kept x l → runAmount (v .account) y r p e₁ e₂ ≡ advanceAmount y r p e₁ e₂ l
@@ -126,11 +150,17 @@ module _ (v : View) (l : Ledger) (a : Agrees v l) where
     joins-later (inr e) =
         rw (ne-eqb y (v .account .«open_year») (λ q. omega arith), eq-eqb (openYear l + 1) y (omega (arith, e, a .open-year))) (omega (arith, a .later, paid-is))
 
+    abbrev held : ℕ
+    held = withheldFrom (v .account .charge .rest .0) (runAmount (v .account) y r p e₁ e₂)
+
+    held-is : held ≡ withheldFrom (l .rest) amount
+    held-is = ap₂ withheldFrom (a .rest) paid-is
+
     agrees-advanced : (y ≡ v .account .«open_year») ⊎ (y ≡ v .account .«open_year» + 1)
         → Agrees
-        (viewIs (accountAdvanced y r (runAmount (v .account) y r p e₁ e₂) (v .account))
-        (advanceEntry y (bookedIn (v .account) y) r (ticks (runAmount (v .account) y r p e₁ e₂)) ∷ v .entries)) (ledger.advanced y r p e₁ e₂ l)
-    unfolding accountAdvanced ledger.advanced sumAdvances itemsOf advancesOf
+        (viewIs (accountWithheld held (accountAdvanced y r (runAmount (v .account) y r p e₁ e₂) (v .account)))
+        (advanceEntry y (bookedIn (v .account) y) r (ticks (runAmount (v .account) y r p e₁ e₂)) (ticks held) ∷ v .entries)) (ledger.advanced y r p e₁ e₂ l)
+    unfolding accountAdvanced accountWithheld ledger.advanced sumAdvances itemsOf advancesOf withheldOf
     agrees-advanced years =
         record {
           details = a .details;
@@ -143,6 +173,8 @@ module _ (v : View) (l : Ledger) (a : Agrees v l) where
           later = joins-later years;
           items = a .items;
           paid = ap₂ (λ (t : ℕ) (ps : List Advance). advanceOf y t ∷ ps) paid-is (a .paid);
+          rest = ap₂ (λ (m n : ℕ). m - n) (a .rest) held-is;
+          withheld = ap₂ (λ (n : ℕ) (ns : List ℕ). n ∷ ns) held-is (a .withheld);
         }
 
   same-item : (s : List ℕ) → sheetYear s ≡ openYear l → contribution (v .account) s < 2 ^ 63 → v .account .advances .0 < 2 ^ 63
@@ -153,11 +185,21 @@ module _ (v : View) (l : Ledger) (a : Agrees v l) where
       let signed = balance-back (contribution (v .account) s) (v .account .advances .0) small field in
       rw (signed, year, a .open-year, a .option, a .credit, a .advances, a .details)
 
+  -- what the closing withholds, on both sides
+  abbrev held-closing : List ℕ → ℕ
+  held-closing s = closingWithheld (v .account) (yearValues s (v .account .details))
+
+  held-is-closing : (s : List ℕ) → sheetYear s ≡ openYear l
+      → held-closing s
+      ≡ withheldAtClosing (l .rest) (ledger.itemWith (sheetYear s) (ledger.figuresOf (l .details) s) l .balance) (ledger.itemWith (sheetYear s) (ledger.figuresOf (l .details) s) l .liquidation)
+  unfolding closingWithheld yearValues ledger.itemOf ledger.figuresOf sheetValue sheetFlatRate
+  held-is-closing s year = rw (a .rest, year, a .option, a .credit, a .advances, a .details)
+
   agrees-closed : (s : List ℕ) {x : ℕ} → Kept x l → sheetYear s ≡ openYear l → contribution (v .account) s < 2 ^ 63 → v .account .advances .0 < 2 ^ 63
       → Agrees
-      (viewIs (accountClosed (yearValues s (v .account .details)) (v .account))
-      (closingEntry (v .account .«open_year») (v .account .option) (settled (v .account) (yearValues s (v .account .details))) ∷ v .entries)) (ledger.closed s l)
-  unfolding accountClosed yearValues ledger.closed ledger.closedWith ledger.figuresOf sheetValue yearAfter ledger.itemOf itemsOf advancesOf
+      (viewIs (accountWithheld (held-closing s) (accountClosed (yearValues s (v .account .details)) (v .account)))
+      (closingEntry (v .account .«open_year») (v .account .option) (settled (v .account) (yearValues s (v .account .details))) (ticks (held-closing s)) ∷ v .entries)) (ledger.closed s l)
+  unfolding accountClosed accountWithheld yearValues ledger.closed ledger.closedWith ledger.figuresOf sheetValue yearAfter ledger.itemOf itemsOf advancesOf withheldOf
   agrees-closed s k year small field =
       record {
         details = a .details;
@@ -170,10 +212,12 @@ module _ (v : View) (l : Ledger) (a : Agrees v l) where
         later = sym (no-advance-yet (sheetYear s) (ledger.figuresOf (l .details) s) year k);
         items = ap₂ (λ (i : Item) (is : List Item). i ∷ is) (same-item s year small field) (a .items);
         paid = a .paid;
+        rest = ap₂ (λ (m n : ℕ). m - n) (a .rest) (held-is-closing s year);
+        withheld = ap₂ (λ (n : ℕ) (ns : List ℕ). n ∷ ns) (held-is-closing s year) (a .withheld);
       }
 
 fresh-agrees : (n : ℕ) (d : Details) (o : ℕ) → Agrees (viewIs (newAccount n d o) []) (ledger.enrolled d o)
-unfolding newAccount ledger.enrolled yearAfter sumAdvances itemsOf advancesOf
+unfolding newAccount ledger.enrolled yearAfter sumAdvances itemsOf advancesOf withheldOf
 fresh-agrees n d o =
     record {
       details = refl;
@@ -186,6 +230,8 @@ fresh-agrees n d o =
       later = refl;
       items = refl;
       paid = refl;
+      rest = refl;
+      withheld = refl;
     }
 
 -- the value that a call adds, by the details that the ledger notes
@@ -208,6 +254,7 @@ in-step c v m x (advances {y = y} {r} {p} {e₁} {e₂} year) (known {v = u} {l 
 in-step c v m x (closes {s} year small field) (known {v = u} {l = l} a k) =
     known (agrees-closed u l a s k (year ∙ a .open-year) small field) (kept-closed (sheetYear s) (ledger.figuresOf (l .details) s) (year ∙ a .open-year) k)
 in-step c v m x states (known a k) = more (known a k)
+in-step c v m x charges (known {v = u} {l = l} a k) = more (known (agrees-charged u l a) (kept-charged k))
 
 -- a ledger that notes these details, or none
 abbrev pub Notes : Option Ledger → Details → Type 0
@@ -217,9 +264,10 @@ Notes (some l) d = l .details ≡ d
 -- details stay as enrolled, so that what a call adds is worked from those that the ledger notes at the end
 pub noted : (c : Call) (v : Option View) (m : Option Ledger) (x : ℕ) → Posts c v → State v m x → (d : Details) → Notes (posted c m) d
     → Notes m d × (gainOf c m ≡ valueBy d c)
-unfolding posted gainOf valueBy ledger.elected ledger.advanced ledger.closed ledger.closedWith
+unfolding posted gainOf valueBy ledger.elected ledger.charged ledger.advanced ledger.closed ledger.closedWith
 noted c v m x enrols unknown d n = (tt, refl)
 noted c v m x elects (known a k) d n = (n, refl)
 noted c v m x (advances year) (known a k) d n = (n, refl)
 noted c v m x (closes {s} year small field) (known a k) d n = (n, ap (λ (e : Details). sheetValue e s) n)
 noted c v m x states (known a k) d n = (n, refl)
+noted c v m x charges (known a k) d n = (n, refl)

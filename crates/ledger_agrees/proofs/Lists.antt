@@ -1,7 +1,7 @@
 -- Along a list of calls what the book holds of each user follows its steps, and the ledger follows its own; so the demand holds
 -- at the list's end.
 use Prim.Native.Nat.{ℕ, _+_}
-use mathlib.Core.Path.{_≡_, refl, ap, sym, _∙_, subst, subst₂}
+use mathlib.Core.Path.{_≡_, refl, ap, ap₂, sym, _∙_, subst, subst₂}
 use mathlib.Core.Bool.{Bool, true, false, cond}
 use mathlib.Core.List.{List, [], _∷_}
 use mathlib.Core.Option.{Option, none, some}
@@ -12,7 +12,7 @@ use lib.Dec.{eqb}
 use Rattle.sheet_values.specs.declared.Details.{Details}
 use Rattle.book_rules.specs.Book.{isUser}
 use Rattle.book_rules.specs.Find.{findUser}
-use Rattle.ledger.specs.Ledger.{Ledger, statementOf}
+use Rattle.ledger.specs.Ledger.{Ledger, sumAll, statementOf}
 use Rattle.ledger.specs.Accounting.{Accounts}
 use Rattle.ledger.proofs.Kept.{Kept, accounts}
 use Rattle.chains.specs.Statements.{statementAt}
@@ -22,7 +22,8 @@ use Rattle.call_rules.specs.Calls.{Call, statement, namedBy, rulesOf, refusalOf
 use Rattle.call_rules.specs.Typed.{Typed, AllTyped}
 use Rattle.call_keeps.proofs.Good.{Good, good-sound}
 use Rattle.call_keeps.proofs.Numbers.{found}
-use Rattle.ledger_views.specs.Views.{View, viewAt, viewOf, stepOf}
+use Rattle.ledger_views.specs.Views.{View, withheldOf, viewAt, viewOf, stepOf}
+use Rattle.ledger_agrees.specs.Charged.{withheldOn, restAt, ChargesKept}
 use Rattle.ledger_views.proofs.Kept.{view-is, view-none, view-nobody}
 use Rattle.ledger_views.proofs.Steps.{Stepped, accepted-step}
 use Rattle.ledger_agrees.specs.Lists.{made, madeOf, bookAfterAll}
@@ -90,6 +91,7 @@ pub record After (b : List ℕ) (n : ℕ) (m : Option Ledger) (x : ℕ) (cs : Li
 pub record Demanded (b : List ℕ) (cs : List Call) (number : ℕ) (l : Ledger) : Type 0 where
   pub answered : refusalOf (bookAfterAll b cs) (statement number) ≡ 0
   pub right : Accounts l (valueOf number (l .details) (madeOf b cs)) (statementAt (bookAfterAll b cs) (findUser (bookAfterAll b cs) number))
+  pub charges : ChargesKept (bookAfterAll b cs) number l
 
 module _ (n : ℕ) where
   pub run : (cs : List Call) (b : List ℕ) → Good b → AllTyped cs → (m : Option Ledger) (x : ℕ) → State (viewOf b n) m x → (l : Ledger) → ledgerOf n (madeOf b cs) m ≡ some l
@@ -113,14 +115,14 @@ module _ (n : ℕ) where
 
   -- what the book holds of a user with a ledger
   held : (b : List ℕ) → Good b → (l : Ledger) (x : ℕ) {v : Option View} {m : Option Ledger} → State v m x → viewOf b n ≡ v → m ≡ some l
-      → (Kept x l) × (eqb (findUser b n) 0 ≡ false) × (statementAt b (findUser b n) ≡ statementOf l)
+      → (Kept x l) × (eqb (findUser b n) 0 ≡ false) × (statementAt b (findUser b n) ≡ statementOf l) × ChargesKept b n l
   held b g l x unknown is e = let z : _≡_ {A = ℕ} 0 1 = cc in let w : ⊥ = omega arith in absurd w
   held b g l x (known {v = v} {l = k} agrees kept) is e = by-place (eqb (findUser b n) 0) refl
     where
       same : k ≡ l
       same = cc
 
-      by-place : (t : Bool) → eqb (findUser b n) 0 ≡ t → (Kept x l) × (eqb (findUser b n) 0 ≡ false) × (statementAt b (findUser b n) ≡ statementOf l)
+      by-place : (t : Bool) → eqb (findUser b n) 0 ≡ t → (Kept x l) × (eqb (findUser b n) 0 ≡ false) × (statementAt b (findUser b n) ≡ statementOf l) × ChargesKept b n l
       by-place true z =
           let none-there : viewOf b n ≡ none = view-nobody b n z in
           let q : _≡_ {A = ℕ} 0 1 = cc in
@@ -130,7 +132,11 @@ module _ (n : ℕ) where
           let at : some (viewAt b (findUser b n)) ≡ some v = sym (view-is b (g .faultless) n (findUser b n) (u .user) (u .number-is)) ∙ is in
           let is-view : viewAt b (findUser b n) ≡ v = cc in
           let right = subst (Kept x) same kept in
-          (right, z, statement-stated b (g .faultless) (findUser b n) (u .user) ∙ ap stated is-view ∙ same-statement v l (subst (Agrees v) same agrees) right)
+          let agreed = subst (Agrees v) same agrees in
+          let each : withheldOn b n ≡ l .withheld = ap (λ (w : View). withheldOf (w .entries)) is-view ∙ agreed .withheld in
+          let rest : restAt b n ≡ l .rest = ap (λ (w : View). w .account .charge .rest .0) is-view ∙ agreed .rest in
+          let kept-sum : l .charges ≡ sumAll (withheldOn b n) + restAt b n = right .charged ∙ sym (ap₂ (λ (ws : List ℕ) (r : ℕ). sumAll ws + r) each rest) in
+          (right, z, statement-stated b (g .faultless) (findUser b n) (u .user) ∙ ap stated is-view ∙ same-statement v l agreed right, record { charges = kept-sum; each = each; rest = rest })
 
   -- from a book without a user
   pub demanded : (cs : List Call) (b : List ℕ) → Good b → ((i : ℕ) → isUser b i ≡ true → ⊥) → AllTyped cs → (l : Ledger) → ledgerOf n (madeOf b cs) none ≡ some l
@@ -145,4 +151,5 @@ module _ (n : ℕ) where
       record {
         answered = rw (after .good .length, good-sound b′ (after .good), h .1);
         right = subst (Accounts l (valueOf n (l .details) (madeOf b cs))) (sym (h .2)) (accounts value);
+        charges = h .3;
       }

@@ -17,8 +17,8 @@ use Rattle.book_layout.specs.Fields.{capacity}
 use Rattle.book_rules.specs.Book.{freshBook, used, detailsFit, accountAt}
 use Rattle.book_rules.specs.Find.{findUser}
 use Rattle.call_rules.specs.Rules.{refusedBy, testOf}
-use Rattle.call_rules.specs.Refusals.{Look, lookAt, hasRoom, dayAndOption, electionOpen, runOpen, orderFits, yearOpen}
-use Rattle.call_rules.specs.Calls.{Call, enrol, elect, advance, close, statement, namedBy, rulesOf, refusalOf, bookAfter}
+use Rattle.call_rules.specs.Refusals.{Look, lookAt, hasRoom, dayAndOption, electionOpen, runOpen, orderFits, yearOpen, chargeOpen}
+use Rattle.call_rules.specs.Calls.{Call, enrol, elect, advance, close, statement, charge, namedBy, rulesOf, refusalOf, bookAfter}
 use Rattle.call_rules.specs.Typed.{Typed, AllTyped}
 use Rattle.call_rules.proofs.Orders.{fact}
 use Rattle.call_keeps.proofs.Good.{Good, good-sound, sizes, room}
@@ -78,6 +78,7 @@ module _ (v w : Look) (a : Alike v w) where
       (λ acc. through (yearOpen acc (sheetYear s)) 12 _ _ (through (not (refused13 s)) 13 _ _ (through (not (refused19 s)) 19 _ _ (through (not (refused14 (acc .details .class) s)) 14 _ _ (last-room (v .room) (w .room) (a .room)))))))
       h
   same-answer (statement n) h = with-user (λ acc. 0) (λ acc. 0) (λ acc q. refl) h
+  same-answer (charge n) h = with-user (λ acc. cond (chargeOpen acc) 0 16) (λ acc. cond (chargeOpen acc) 0 16) (λ acc q. refl) h
 
 -- a number is there if the book holds a user of it, with that account
 thereIn : Option View → Bool

@@ -44,21 +44,21 @@ advanceOf year paid = record { year = year; ticks = paid }
 
 unfoldable pub itemsOf : List Entry → List Item
 itemsOf [] = []
-itemsOf (advanceEntry y k r p ∷ es) = itemsOf es
-itemsOf (closingEntry y o s ∷ es) = itemOf y o s ∷ itemsOf es
+itemsOf (advanceEntry y k r p w ∷ es) = itemsOf es
+itemsOf (closingEntry y o s w ∷ es) = itemOf y o s ∷ itemsOf es
 
 unfoldable pub advancesOf : List Entry → List Advance
 advancesOf [] = []
-advancesOf (advanceEntry y k r p ∷ es) = advanceOf y (p .0) ∷ advancesOf es
-advancesOf (closingEntry y o s ∷ es) = advancesOf es
+advancesOf (advanceEntry y k r p w ∷ es) = advanceOf y (p .0) ∷ advancesOf es
+advancesOf (closingEntry y o s w ∷ es) = advancesOf es
 
 -- an entry of the book, by its kind
 data Told (b : List ℕ) (e : ℕ) : Type 0 where
   an-advance : isAdvance b e ≡ true → isClosing b e ≡ false
       → entryIn (recordAt b e)
-      ≡ advanceEntry (advanceIn (recordAt b e) .year) (advanceIn (recordAt b e) .booked) (advanceIn (recordAt b e) .run) (advanceIn (recordAt b e) .ticks) → Told b e
+      ≡ advanceEntry (advanceIn (recordAt b e) .year) (advanceIn (recordAt b e) .booked) (advanceIn (recordAt b e) .run) (advanceIn (recordAt b e) .ticks) (advanceIn (recordAt b e) .withheld) → Told b e
   a-closing : isAdvance b e ≡ false → isClosing b e ≡ true
-      → entryIn (recordAt b e) ≡ closingEntry (closingIn (recordAt b e) .year) (closingIn (recordAt b e) .option) (closingIn (recordAt b e) .sums) → Told b e
+      → entryIn (recordAt b e) ≡ closingEntry (closingIn (recordAt b e) .year) (closingIn (recordAt b e) .option) (closingIn (recordAt b e) .sums) (closingIn (recordAt b e) .withheld) → Told b e
 
 told : (b : List ℕ) (e : ℕ) → isEntry b e ≡ true → Told b e
 unfolding entryIn kindAt

@@ -7,8 +7,8 @@ use mathlib.Core.List.{List, [], _∷_}
 use mathlib.Core.Option.{Option, none, some}
 use lib.Dec.{eqb}
 use Rattle.sheet_values.specs.declared.Details.{Details}
-use Rattle.ledger.specs.Ledger.{Ledger, enrolled, elected, advanced, closed, sheetValue}
-use Rattle.call_rules.specs.Calls.{Call, enrol, elect, advance, close, statement, namedBy}
+use Rattle.ledger.specs.Ledger.{Ledger, enrolled, elected, charged, advanced, closed, sheetValue}
+use Rattle.call_rules.specs.Calls.{Call, enrol, elect, advance, close, statement, charge, namedBy}
 use Rattle.ledger_agrees.specs.Lists.{Made, made}
 
 -- a ledger after an accepted call for its number; there is none before the enrolment
@@ -21,6 +21,8 @@ posted (advance n y r p e₁ e₂) (some l) = some (advanced y r p e₁ e₂ l)
 posted (close s) none = none
 posted (close s) (some l) = some (closed s l)
 posted (statement n) l = l
+posted (charge n) none = none
+posted (charge n) (some l) = some (charged l)
 
 -- "Refused calls, statements and calls for other numbers change nothing."
 unfoldable pub isFor : ℕ → Made → Bool
@@ -37,6 +39,7 @@ valueBy d (elect n o y m e) = 0
 valueBy d (advance n y r p e₁ e₂) = 0
 valueBy d (close s) = sheetValue d s
 valueBy d (statement n) = 0
+valueBy d (charge n) = 0
 
 unfoldable pub valueOf : ℕ → Details → List Made → ℕ
 valueOf number d [] = 0

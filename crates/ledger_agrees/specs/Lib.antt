@@ -1,3 +1,4 @@
 pub mod Lists
 pub mod Fed
 pub mod Queue
+pub mod Charged

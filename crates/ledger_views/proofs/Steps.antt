@@ -13,7 +13,7 @@ use Rattle.book_rules.specs.Find.{findUser}
 use Rattle.call_rules.specs.Rules.{testOf}
 use Rattle.call_rules.specs.Refusals.{lookAt, userAt}
 use Rattle.call_rules.specs.Changes.{Change, newAccount}
-use Rattle.call_rules.specs.Calls.{Call, enrol, elect, advance, close, statement, namedBy, rulesOf, refusalOf, changeOf, booked}
+use Rattle.call_rules.specs.Calls.{Call, enrol, elect, advance, close, statement, charge, namedBy, rulesOf, refusalOf, changeOf, booked}
 use Rattle.call_rules.specs.Typed.{Typed}
 use Rattle.call_rules.proofs.Orders.{fact}
 use Rattle.call_keeps.proofs.Good.{Good}
@@ -48,6 +48,9 @@ named b g (close s) h =
     let there = fact b (close s) h 6 in
     record { for = named-user b (sheetUser s) there .number-is; account = ap (λ (a : Account). changeOf a (close s)) (held-account b g (sheetUser s) there) }
 named b g (statement n) h = record { for = tt; account = refl }
+named b g (charge n) h =
+    let there = fact b (charge n) h 6 in
+    record { for = named-user b n there .number-is; account = ap (λ (a : Account). changeOf a (charge n)) (held-account b g n there) }
 
 -- the records that an accepted call adds do not hang on the account
 unfoldable pub addedBy : Call → ℕ
@@ -56,6 +59,7 @@ addedBy (elect n o y m d) = 0
 addedBy (advance n y r p e₁ e₂) = 1
 addedBy (close s) = 1
 addedBy (statement n) = 0
+addedBy (charge n) = 0
 
 added-by : (a : Account) (c : Call) → adds (changeOf a c) ≡ addedBy c
 unfolding adds changeOf addedBy
@@ -64,6 +68,7 @@ added-by a (elect n o y m d) = refl
 added-by a (advance n y r p e₁ e₂) = refl
 added-by a (close s) = refl
 added-by a (statement n) = refl
+added-by a (charge n) = refl
 
 pub record Stepped (b b′ : List ℕ) (c : Call) (n : ℕ) : Type 0 where
   pub good : Good b′

@@ -7,7 +7,7 @@ use lib.Dec.{eqb}
 use Rattle.account_steps.specs.declared.Account.{Account}
 use Rattle.book_layout.specs.Fields.{recordAt}
 use Rattle.book_records.specs.Records.{accountIn}
-use Rattle.book_records.specs.Entries.{Entry, entryIn}
+use Rattle.book_records.specs.Entries.{Entry, advanceEntry, closingEntry, entryIn}
 use Rattle.book_rules.specs.Book.{accountAt}
 use Rattle.book_rules.specs.Chains.{entriesOf}
 use Rattle.book_rules.specs.Find.{findUser}
@@ -25,6 +25,12 @@ viewIs a entries = record { account = a; entries = entries }
 unfoldable pub entriesIn : List ℕ → List ℕ → List Entry
 entriesIn b [] = []
 entriesIn b (e ∷ es) = entryIn (recordAt b e) ∷ entriesIn b es
+
+-- what was withheld at each of them, newest first (ticket 1)
+unfoldable pub withheldOf : List Entry → List ℕ
+withheldOf [] = []
+withheldOf (advanceEntry y k r p w ∷ es) = w .0 ∷ withheldOf es
+withheldOf (closingEntry y o s w ∷ es) = w .0 ∷ withheldOf es
 
 abbrev pub viewAt : List ℕ → ℕ → View
 viewAt b i = viewIs (accountAt b i) (entriesIn b (entriesOf b i))

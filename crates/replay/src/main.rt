@@ -69,7 +69,7 @@ fn refusal_of(reply: Reply) -> Row {
     output::put_number(output::no_text(), reply.refusal as u64)
 }
 
-// What an enrolment answers. After a 2 the record stands in the place of the values, whatever the call.
+// What an enrolment or a charge answers. After a 2 the record stands in the place of the values, whatever the call.
 fn say_record(reply: Reply) -> bool {
     say(output::put_field(refusal_of(reply), reply.record.0 as u64))
 }
@@ -442,6 +442,7 @@ fn call(order: Order, line: &[u8], book: &mut [u8], out: &mut [u8]) -> bool
             ))
         }
         Order::Close(at) => close_year(book, line, at),
+        Order::Charge(number) => say_record(call_charge::charge(book, UserNumber(number))),
         Order::Statement(number) => say_stated(call_statement::statement(book, UserNumber(number))),
         Order::Archive { sheet, buffer } => rearrange(line, sheet, buffer, Work::Archive, out),
         Order::Restore { archive, buffer } => rearrange(line, archive, buffer, Work::Restore, out),

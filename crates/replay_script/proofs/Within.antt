@@ -15,7 +15,7 @@ use Rattle.text.specs.declared.Number.the-variants as number
 use Rattle.text.specs.InnerText.{fieldAt, afterFields}
 use Rattle.replay_script.specs.declared.Order.{Order}
 use Rattle.replay_script.specs.declared.Order.the-variants as order
-use Rattle.replay_script.specs.Orders.{newWord, loadWord, freshWord, enrolWord, electWord, advanceWord, closeWord, statementWord, archiveWord, restoreWord, moreSunWord, readMeasuresWord, writeMeasuresWord, raiseWord, dumpWord, listWord, longestBook, longestLine, begins, isAtMost, valueOf, numbersFit, numberOf, bytesFit, wordAt, wordsAt, newOrder, enrolOrder, electOrder, advanceOrder, statementOrder, loadOrder, closeOrder, archiveOrder, restoreOrder, readMeasuresOrder, writeMeasuresOrder, textOrder, raiseOrder, sheetOrder, moreSunOrder, askingOrder, aloneOrder, callOrder, bookOrder, orderOf, enrolMost, electMost, advanceMost, most32}
+use Rattle.replay_script.specs.Orders.{newWord, loadWord, freshWord, enrolWord, electWord, advanceWord, closeWord, chargeWord, statementWord, archiveWord, restoreWord, moreSunWord, readMeasuresWord, writeMeasuresWord, raiseWord, dumpWord, listWord, longestBook, longestLine, begins, isAtMost, valueOf, numbersFit, numberOf, bytesFit, wordAt, wordsAt, newOrder, enrolOrder, electOrder, advanceOrder, chargeOrder, statementOrder, loadOrder, closeOrder, archiveOrder, restoreOrder, readMeasuresOrder, writeMeasuresOrder, textOrder, raiseOrder, sheetOrder, moreSunOrder, askingOrder, aloneOrder, callOrder, bookOrder, orderOf, enrolMost, electMost, advanceMost, most32}
 
 abbrev pub NewFits : Order → Type 0
 NewFits (order.New n) = n ≤ longestBook
@@ -25,6 +25,7 @@ NewFits (order.Enrol number class plant option power year month island) = Unit {
 NewFits (order.Elect number option year month day) = Unit {0}
 NewFits (order.Advance number year run rate estimate1 estimate2) = Unit {0}
 NewFits (order.Close at) = Unit {0}
+NewFits (order.Charge number) = Unit {0}
 NewFits (order.Statement number) = Unit {0}
 NewFits (order.Archive sheet buffer) = Unit {0}
 NewFits (order.Restore archive buffer) = Unit {0}
@@ -71,17 +72,18 @@ text-fits line =
     (either (begins line writeMeasuresWord) _ _ (either (wordsAt line (length writeMeasuresWord) .fit) _ _ tt tt) tt)
 
 call-fits : (line : List ℕ) → NewFits (callOrder line)
-unfolding callOrder enrolOrder electOrder advanceOrder closeOrder statementOrder askingOrder moreSunOrder sheetOrder archiveOrder restoreOrder raiseOrder
+unfolding callOrder enrolOrder electOrder advanceOrder closeOrder chargeOrder statementOrder askingOrder moreSunOrder sheetOrder archiveOrder restoreOrder raiseOrder
 call-fits line =
     either (begins line enrolWord) _ _ (either (numbersFit line (length enrolWord) enrolMost) _ _ tt tt)
     (either (begins line electWord) _ _ (either (numbersFit line (length electWord) electMost) _ _ tt tt)
     (either (begins line advanceWord) _ _ (either (numbersFit line (length advanceWord) advanceMost) _ _ tt tt)
     (either (begins line closeWord) _ _ (either (bytesFit line (length closeWord)) _ _ tt tt)
+    (either (begins line chargeWord) _ _ (either (numbersFit line (length chargeWord) (most32 ∷ [])) _ _ tt tt)
     (either (begins line statementWord) _ _ (either (numbersFit line (length statementWord) (most32 ∷ [])) _ _ tt tt)
     (either (begins line moreSunWord) _ _ (either (wordAt line (length moreSunWord) .fit && numbersFit line (wordAt line (length moreSunWord) .digits .to) (most32 ∷ most32 ∷ [])) _ _ tt tt)
     (either (begins line archiveWord) _ _ (either (wordsAt line (length archiveWord) .fit) _ _ tt tt)
     (either (begins line restoreWord) _ _ (either (wordsAt line (length restoreWord) .fit) _ _ tt tt)
-    (either (begins line raiseWord) _ _ (either (wordAt line (length raiseWord) .fit && numbersFit line (wordAt line (length raiseWord) .digits .to) (most32 ∷ [])) _ _ tt tt) (text-fits line)))))))))
+    (either (begins line raiseWord) _ _ (either (wordAt line (length raiseWord) .fit && numbersFit line (wordAt line (length raiseWord) .digits .to) (most32 ∷ [])) _ _ tt tt) (text-fits line))))))))))
 
 pub new-fits : (line : List ℕ) → NewFits (orderOf line)
 unfolding orderOf bookOrder loadOrder

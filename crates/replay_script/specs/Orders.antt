@@ -38,6 +38,9 @@ advanceWord = 97 ∷ 100 ∷ 118 ∷ 97 ∷ 110 ∷ 99 ∷ 101 ∷ []
 abbrev pub closeWord : List ℕ
 closeWord = 99 ∷ 108 ∷ 111 ∷ 115 ∷ 101 ∷ []
 
+abbrev pub chargeWord : List ℕ
+chargeWord = 99 ∷ 104 ∷ 97 ∷ 114 ∷ 103 ∷ 101 ∷ []
+
 abbrev pub readMeasuresWord : List ℕ
 readMeasuresWord = 114 ∷ 101 ∷ 97 ∷ 100 ∷ 109 ∷ 101 ∷ 97 ∷ 115 ∷ 117 ∷ 114 ∷ 101 ∷ 115 ∷ []
 
@@ -173,6 +176,10 @@ unfoldable pub statementOrder : List ℕ → Order
 statementOrder line =
     cond (numbersFit line (length statementWord) (most32 ∷ [])) (order.Statement (numberOf line (length statementWord) 0)) order.Wrong
 
+unfoldable pub chargeOrder : List ℕ → Order
+chargeOrder line =
+    cond (numbersFit line (length chargeWord) (most32 ∷ [])) (order.Charge (numberOf line (length chargeWord) 0)) order.Wrong
+
 unfoldable pub loadOrder : List ℕ → Order
 loadOrder line = cond (bytesFit line (length loadWord)) (order.Load (afterBlank line (length loadWord))) order.Wrong
 
@@ -217,7 +224,7 @@ moreSunOrder line =
 unfoldable pub aloneOrder : List ℕ → List ℕ → Order → Order
 aloneOrder line word asked = cond (eqb (length line) (length word)) asked order.Wrong
 
--- the calls on the operator's text, those on sheets alone, the one that asks of a book and a sheet, and those on the book
+-- the calls on the operator's text, those on sheets alone, those that ask of a book, and those that book
 unfoldable pub textOrder : List ℕ → Order
 textOrder line =
     cond (begins line readMeasuresWord) (readMeasuresOrder line)
@@ -229,7 +236,8 @@ sheetOrder line =
     (cond (begins line restoreWord) (restoreOrder line) (cond (begins line raiseWord) (raiseOrder line) (textOrder line)))
 
 unfoldable pub askingOrder : List ℕ → Order
-askingOrder line = cond (begins line moreSunWord) (moreSunOrder line) (sheetOrder line)
+askingOrder line =
+    cond (begins line statementWord) (statementOrder line) (cond (begins line moreSunWord) (moreSunOrder line) (sheetOrder line))
 
 unfoldable pub callOrder : List ℕ → Order
 callOrder line =
@@ -237,7 +245,7 @@ callOrder line =
     (cond (begins line electWord) (electOrder line)
     (cond (begins line advanceWord) (advanceOrder line)
     (cond (begins line closeWord) (closeOrder line)
-    (cond (begins line statementWord) (statementOrder line) (askingOrder line)))))
+    (cond (begins line chargeWord) (chargeOrder line) (askingOrder line)))))
 
 unfoldable pub bookOrder : List ℕ → Order
 bookOrder line =

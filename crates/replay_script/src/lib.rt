@@ -3,7 +3,7 @@ ghost use mathlib.Core.Path.{_≡_};
 ghost use mathlib.Core.Bool.{cond};
 ghost use Prim.Native.Nat.{_≤_};
 ghost use lib.ListN.{length};
-ghost use Rattle.replay_script.specs.Orders.{begins, bytesFit, NumbersRead, newOrder, enrolOrder, electOrder, advanceOrder, statementOrder, loadOrder, closeOrder, aloneOrder, callOrder, bookOrder, orderOf};
+ghost use Rattle.replay_script.specs.Orders.{begins, bytesFit, NumbersRead, newOrder, enrolOrder, electOrder, advanceOrder, chargeOrder, statementOrder, loadOrder, closeOrder, aloneOrder, callOrder, bookOrder, orderOf};
 ghost use Rattle.replay_script.specs.Orders.{isNoBytes, isSomeBytes, wordAt, wordsAt, archiveOrder, restoreOrder, raiseOrder, sheetOrder};
 ghost use Rattle.replay_script.specs.Orders.{readMeasuresOrder, writeMeasuresOrder, textOrder};
 ghost use Rattle.replay_script.specs.Orders.{moreSunOrder, askingOrder};
@@ -45,6 +45,7 @@ pub enum Order {
         estimate2: u64,
     },
     Close(usize),
+    Charge(u32),
     Statement(u32),
     Archive {
         sheet: Digits,
@@ -279,6 +280,18 @@ fn statement_order(line: &[u8]) -> Order
     }
 }
 
+fn charge_order(line: &[u8]) -> Order
+    ensures { λ r. ⌜ r ≡ chargeOrder (now (line .entry)) ⌝ }
+{
+    let read = numbers_at(line, 6, &[MOST32]);
+    let n = read.values;
+    if read.fit {
+        Order::Charge(n[0] as u32)
+    } else {
+        Order::Wrong
+    }
+}
+
 fn load_order(line: &[u8]) -> Order
     ensures { λ r. ⌜ r ≡ loadOrder (now (line .entry)) ⌝ }
 {
@@ -427,17 +440,20 @@ fn sheet_order(line: &[u8]) -> Order
     text_order(line)
 }
 
-// The call that asks of a book and a sheet, and else one on sheets.
+// The calls that ask of a book, and else one on sheets.
 fn asking_order(line: &[u8]) -> Order
     ensures { λ r. ⌜ r ≡ askingOrder (now (line .entry)) ⌝ }
 {
+    if begins(line, b"statement") {
+        return statement_order(line);
+    }
     if begins(line, b"moresun") {
         return more_sun_order(line);
     }
     sheet_order(line)
 }
 
-// The five calls on the book, and else another one.
+// The calls that book, and else another one.
 fn call_order(line: &[u8]) -> Order
     ensures { λ r. ⌜ r ≡ callOrder (now (line .entry)) ⌝ }
 {
@@ -453,8 +469,8 @@ fn call_order(line: &[u8]) -> Order
     if begins(line, b"close") {
         return close_order(line);
     }
-    if begins(line, b"statement") {
-        return statement_order(line);
+    if begins(line, b"charge") {
+        return charge_order(line);
     }
     asking_order(line)
 }

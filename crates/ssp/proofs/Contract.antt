@@ -6,9 +6,10 @@ use Rattle.sheet_losses.specs.Losses.{answerOf, raisedAfter}
 use Rattle.sheet_text.specs.Reading as reading
 use Rattle.sheet_text.specs.Writing.{writeAnswer, bufferAfter}
 use Rattle.book_rules.specs.Book.{used}
+use Rattle.book_rules.specs.Find.{findUser}
 use Rattle.check_book.specs.Verdicts.{freshAnswer, freshAfter}
 use Rattle.sheet.specs.YearSheet.{Tells}
-use Rattle.call_rules.specs.Calls.{enrol, elect, advance, close, statement}
+use Rattle.call_rules.specs.Calls.{enrol, elect, charge, advance, close, statement}
 use Rattle.call_answers.specs.Answers.{Answered}
 use Rattle.call_advance.specs.Advances.{ticksAnswered}
 use Rattle.call_close.specs.Closings.{sumsAnswered}
@@ -21,6 +22,7 @@ use Rattle.ssp.proofs.ssp_interface.Reads as interface-of
 use Rattle.ssp.proofs.ssp_fresh.Reads as fresh-of
 use Rattle.ssp.proofs.ssp_enrol.Reads as enrol-of
 use Rattle.ssp.proofs.ssp_elect.Reads as elect-of
+use Rattle.ssp.proofs.ssp_charge.Reads as charge-of
 use Rattle.ssp.proofs.ssp_advance.Reads as advance-of
 use Rattle.ssp.proofs.ssp_close.Reads as close-of
 use Rattle.ssp.proofs.ssp_statement.Reads as statement-of
@@ -44,6 +46,10 @@ enrol-says κs a r s said = said
 pub elect-says : (κs : _) (a : _) (r : _) (s : _) → elect-of.Post κs a r s
     → Answered (now (a .0)) (elect (a .1 .0) (a .1 .1 .0) (a .1 .1 .1 .0) (a .1 .1 .1 .1 .0) (a .1 .1 .1 .1 .1 .0)) 0 (r .refusal) (r .«record») (now (s .0))
 elect-says κs a r s said = said
+
+pub charge-says : (κs : _) (a : _) (r : _) (s : _) → charge-of.Post κs a r s
+    → Answered (now (a .0)) (charge (a .1 .0)) (findUser (now (a .0)) (a .1 .0)) (r .refusal) (r .«record») (now (s .0))
+charge-says κs a r s said = said
 
 pub advance-says : (κs : _) (a : _) (r : _) (s : _) → advance-of.Post κs a r s
     → Answered (now (a .0)) (advance (a .1 .0) (a .1 .1 .0) (a .1 .1 .1 .0) (a .1 .1 .1 .1 .0) (a .1 .1 .1 .1 .1 .0) (a .1 .1 .1 .1 .1 .1 .0)) 0 (r .refusal) (r .«record») (now (s .0))

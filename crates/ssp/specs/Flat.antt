@@ -17,7 +17,7 @@ use Rattle.ssp.specs.declared.Raised.{Raised}
 
 -- SSP_INTERFACE of include/ssp.h, which rises with each landing that changes a struct or a function
 abbrev pub interfaceNumber : ℕ
-interfaceNumber = 6
+interfaceNumber = 7
 
 abbrev pub detailsOf : ℕ → ℕ → ℕ → ℕ → ℕ → ℕ → Details
 detailsOf class plant power year month island =

@@ -6,9 +6,10 @@ ghost use Rattle.sheet_losses.specs.Losses.{answerOf, raisedAfter};
 ghost use Rattle.sheet_text.specs.Reading as reading;
 ghost use Rattle.sheet_text.specs.Writing.{writeAnswer, bufferAfter};
 ghost use Rattle.book_rules.specs.Book.{used};
+ghost use Rattle.book_rules.specs.Find.{findUser};
 ghost use Rattle.check_book.specs.Verdicts.{freshAnswer, freshAfter};
 ghost use Rattle.sheet.specs.YearSheet.{Tells};
-ghost use Rattle.call_rules.specs.Calls.{enrol, elect, advance, close, statement};
+ghost use Rattle.call_rules.specs.Calls.{enrol, elect, charge, advance, close, statement};
 ghost use Rattle.call_answers.specs.Answers.{Answered};
 ghost use Rattle.call_answers.specs.Answers.{AnsweredBy};
 ghost use Rattle.call_more_sun.specs.Asked.{moreSunOrder, additionAnswered};
@@ -24,7 +25,7 @@ use units::UserNumber;
 use units::WideKwh;
 
 // The number of this interface, SSP_INTERFACE of the header: it rises with each landing that changes a struct or a function.
-const INTERFACE: u32 = 6;
+const INTERFACE: u32 = 7;
 
 #[repr(C)]
 pub struct Booked {
@@ -265,6 +266,17 @@ pub extern "C" fn ssp_elect(
     ensures { λ r. ⌜ Answered (now (book .entry)) (elect number option year month day) 0 (r .refusal) (r .record) (now (book .exit)) ⌝ }
 {
     let said = call_elect::elect(book, UserNumber(number), option, year, month, day);
+    Booked {
+        refusal: said.refusal,
+        record: said.record.0,
+    }
+}
+
+#[no_mangle]
+pub extern "C" fn ssp_charge(book: &mut [u8], number: u32) -> Booked
+    ensures { λ r. ⌜ Answered (now (book .entry)) (charge number) (findUser (now (book .entry)) number) (r .refusal) (r .record) (now (book .exit)) ⌝ }
+{
+    let said = call_charge::charge(book, UserNumber(number));
     Booked {
         refusal: said.refusal,
         record: said.record.0,

@@ -1,5 +1,5 @@
--- One list: an enrolment, a run of the later year before a closing and one of the same year after it, an election, two closings
--- and a call that is refused. It is one of those that the third demand is about.
+-- One list: an enrolment, a charge, a run of the later year before a closing and one of the same year after it, an election, two
+-- closings and a call that is refused. It is one of those that the third demand is about.
 use Prim.Native.Nat.{ℕ, zero, suc}
 use mathlib.Core.Path.{_≡_, refl, subst}
 use mathlib.Core.Bool.{Bool, true, _&&_}
@@ -17,16 +17,17 @@ use Rattle.sheet.specs.YearSheet.{withdrawnReading, injectedReading, word, head
 use Rattle.sheet_prices.specs.ValueAndCost.{costIn, costOf, singlePrice, valueIn, valueOf}
 use Rattle.sheet_values.specs.YearsValues.{monthInjected, withdrawnOver, injectedOver, exchangedOver, monthExchanged, annualRate, annualFlatRate, flatRateOver, halfOf, yearValues}
 use Rattle.account_steps.specs.Account.{accountElected, runsIn, accountAdvanced, accountClosed, settled}
+use Rattle.account_steps.specs.Charges.{chargeOf, withheldFrom, positivePart, withheldAtClosing, closingWithheld, accountCharged, accountWithheld}
 use Rattle.account_steps.specs.Closing.{contributionOf, liquidationOf, lapsedOf, creditAfter, balanceOf}
 use Rattle.book_layout.specs.Fields.{get, recordAt, putRecord, written, allZero}
 use Rattle.book_records.specs.Records.{headImage, userImage, advanceImage, closingImage, accountIn, advanceIn, closingIn}
-use Rattle.book_rules.specs.Book.{lengthFits, freshBook, used, firstUser, usedFits, kindAt, hasKind, isEntry, detailsFit, openYearFits, halvesOf, isMade, dueIfMade, runsFit, halvesMade, advancesFit, laterHalf, laterFits, creditFits, halvesFit, accountFits, yearFits, isRun, levelFrom, bookedFits, advanceFits, balanceFits, closingFits, ownerOf, rangesFit, zeroBytesFit, nextOf, firstEntryOf, numberOf, userNextFits, numberIsNew, firstEntryFits, entryNextFits, ownerFits, hits, pointersFrom, pointersTo, pointedOnce, levelOf, inOrder, activationOf, openYearOf, firstInOrder, nextInOrder, linksFit, goodRecord, goodHead, faulty, sound, entryKind, entryRanges, unnamedOf, levelIn}
+use Rattle.book_rules.specs.Book.{lengthFits, freshBook, used, firstUser, usedFits, kindAt, hasKind, isEntry, detailsFit, openYearFits, halvesOf, isMade, dueIfMade, runsFit, halvesMade, advancesFit, laterHalf, laterFits, creditFits, halvesFit, chargeFits, accountFits, yearFits, isRun, levelFrom, bookedFits, advanceFits, balanceFits, paidBalance, withheldFits, closingFits, ownerOf, rangesFit, zeroBytesFit, nextOf, firstEntryOf, numberOf, userNextFits, numberIsNew, firstEntryFits, entryNextFits, ownerFits, hits, pointersFrom, pointersTo, pointedOnce, levelOf, inOrder, activationOf, openYearOf, firstInOrder, nextInOrder, linksFit, goodRecord, goodHead, faulty, sound, entryKind, entryRanges, unnamedOf, levelIn}
 use Rattle.call_rules.specs.Changes.{newAccount, enrolledAs, withAccount, withEntry, applied, bookedIn, runAmount}
 use Rattle.book_records.specs.Entries.{entryImage}
 use Rattle.book_rules.specs.Find.{findBelow, findUser}
-use Rattle.call_rules.specs.Calls.{Call, enrol, elect, advance, close, namedBy, rulesOf, refusalOf, changeOf, booked, bookAfter}
+use Rattle.call_rules.specs.Calls.{Call, enrol, elect, advance, close, charge, namedBy, rulesOf, refusalOf, changeOf, booked, bookAfter}
 use Rattle.call_rules.specs.Rules.{refusedBy}
-use Rattle.call_rules.specs.Refusals.{lookAt, hasRoom, dayAndOption, electionOpen, isOpen, runOpen, orderFits, yearOpen}
+use Rattle.call_rules.specs.Refusals.{lookAt, hasRoom, dayAndOption, electionOpen, chargeOpen, isOpen, runOpen, orderFits, yearOpen}
 use Rattle.sheet_values.specs.declared.Details.{Details}
 use Rattle.check_book.specs.Verdicts.{freshAnswer, freshAfter}
 use Rattle.book_layout.proofs.ByteRanges.{Bytes}
@@ -63,18 +64,18 @@ june-2014 = advance 7 2014 1 9000 4000 4000
 abbrev october-2014 : Call
 october-2014 = advance 7 2014 2 9000 0 0
 
--- enrolled on credit, then liquidation is elected; the second enrolment of the number is refused with 4
+-- enrolled on credit and charged, then liquidation is elected; the second enrolment of the number is refused with 4
 unfoldable pub calls : List Call
 calls =
-    enrol 7 details 0 ∷ june-2014 ∷ close (sheetOf 2013) ∷ october-2014 ∷ elect 7 1 2014 6 30 ∷ close (sheetOf 2014) ∷ enrol 7 details 0 ∷ []
+    enrol 7 details 0 ∷ charge 7 ∷ june-2014 ∷ close (sheetOf 2013) ∷ october-2014 ∷ elect 7 1 2014 6 30 ∷ close (sheetOf 2014) ∷ enrol 7 details 0 ∷ []
 
 unfoldable pub others : List Made
 others =
-    made june-2014 0 ∷ made (close (sheetOf 2013)) 0 ∷ made october-2014 0 ∷ made (elect 7 1 2014 6 30) 0 ∷ made (close (sheetOf 2014)) 0
+    made (charge 7) 0 ∷ made june-2014 0 ∷ made (close (sheetOf 2013)) 0 ∷ made october-2014 0 ∷ made (elect 7 1 2014 6 30) 0 ∷ made (close (sheetOf 2014)) 0
     ∷ made (enrol 7 details 0) 4 ∷ []
 
 answered : madeOf (freshBook 480) calls ≡ made (enrol 7 details 0) 0 ∷ others
-unfolding madeOf calls others sumBelow allBelow anyBelow littleEndian bytesOf part number stored domestic monthlyMethod between above tiers annualTiers meanRate tierRate flatRateOf daysIn isDay notAfter inWindow withdrawnReading injectedReading word headerFits lastWordsFit formFits refused11 limitAt aboveLimit unusedBand strayBand atFault earliest refused13 refused19 monthWithdrawn refused14 costIn costOf singlePrice valueIn valueOf monthInjected withdrawnOver injectedOver exchangedOver monthExchanged annualRate annualFlatRate flatRateOver halfOf yearValues halvesPaid due halvesCount paidOf amountOf accountElected runsIn accountAdvanced accountClosed contributionOf liquidationOf lapsedOf creditAfter balanceOf get zeros recordAt putRecord written headImage userImage advanceImage closingImage accountIn advanceIn closingIn lengthFits freshBook used firstUser usedFits kindAt hasKind entryKind entryRanges unnamedOf allZero levelIn isEntry detailsFit openYearFits halvesOf isMade dueIfMade runsFit halvesMade advancesFit laterHalf laterFits creditFits halvesFit accountFits yearFits isRun levelFrom bookedFits advanceFits balanceFits closingFits ownerOf rangesFit zeroBytesFit nextOf firstEntryOf numberOf userNextFits numberIsNew firstEntryFits entryNextFits ownerFits hits pointersFrom pointersTo pointedOnce levelOf inOrder activationOf openYearOf firstInOrder nextInOrder linksFit goodRecord goodHead faulty sound findBelow findUser newAccount enrolledAs withAccount withEntry applied bookedIn runAmount entryImage settled refusalOf changeOf booked bookAfter refusedBy rulesOf namedBy lookAt hasRoom dayAndOption electionOpen isOpen runOpen orderFits yearOpen words month months sheetOf
+unfolding madeOf calls others sumBelow allBelow anyBelow littleEndian bytesOf part number stored domestic monthlyMethod between above tiers annualTiers meanRate tierRate flatRateOf daysIn isDay notAfter inWindow withdrawnReading injectedReading word headerFits lastWordsFit formFits refused11 limitAt aboveLimit unusedBand strayBand atFault earliest refused13 refused19 monthWithdrawn refused14 costIn costOf singlePrice valueIn valueOf monthInjected withdrawnOver injectedOver exchangedOver monthExchanged annualRate annualFlatRate flatRateOver halfOf yearValues halvesPaid due halvesCount paidOf amountOf accountElected runsIn accountAdvanced accountClosed contributionOf liquidationOf lapsedOf creditAfter balanceOf chargeOf withheldFrom positivePart withheldAtClosing closingWithheld accountCharged accountWithheld get zeros recordAt putRecord written headImage userImage advanceImage closingImage accountIn advanceIn closingIn lengthFits freshBook used firstUser usedFits kindAt hasKind entryKind entryRanges unnamedOf allZero levelIn isEntry detailsFit openYearFits halvesOf isMade dueIfMade runsFit halvesMade advancesFit laterHalf laterFits creditFits halvesFit chargeFits accountFits yearFits isRun levelFrom bookedFits advanceFits balanceFits paidBalance withheldFits closingFits ownerOf rangesFit zeroBytesFit nextOf firstEntryOf numberOf userNextFits numberIsNew firstEntryFits entryNextFits ownerFits hits pointersFrom pointersTo pointedOnce levelOf inOrder activationOf openYearOf firstInOrder nextInOrder linksFit goodRecord goodHead faulty sound findBelow findUser newAccount enrolledAs withAccount withEntry applied bookedIn runAmount entryImage settled refusalOf changeOf booked bookAfter refusedBy rulesOf namedBy lookAt hasRoom dayAndOption electionOpen chargeOpen isOpen runOpen orderFits yearOpen words month months sheetOf
 answered = refl
 
 -- every byte of the sheets is one
@@ -104,6 +105,10 @@ election-typed : Typed (elect 7 1 2014 6 30)
 unfolding Typed
 election-typed = (omega arith, omega arith, omega arith, omega arith, omega arith)
 
+charge-typed : Typed (charge 7)
+unfolding Typed
+charge-typed = omega arith
+
 june-typed : Typed june-2014
 unfolding Typed
 june-typed = (omega arith, omega arith, omega arith, omega arith, omega arith, omega arith)
@@ -114,7 +119,7 @@ october-typed = (omega arith, omega arith, omega arith, omega arith, omega arith
 
 typed : AllTyped calls
 unfolding AllTyped Typed calls
-typed = (enrolment-typed, (june-typed, (bytes-2013, (october-typed, (election-typed, (bytes-2014, (enrolment-typed, tt)))))))
+typed = (enrolment-typed, (charge-typed, (june-typed, (bytes-2013, (october-typed, (election-typed, (bytes-2014, (enrolment-typed, tt))))))))
 
 -- a buffer of 480 bytes
 abbrev buffer : List ℕ

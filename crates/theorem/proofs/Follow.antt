@@ -7,11 +7,12 @@ use Rattle.call_rules.specs.Typed.{AllTyped}
 use Rattle.call_answers.specs.Answers.{Answered}
 use Rattle.call_enrol.proofs.Contract.{enrol-says}
 use Rattle.call_elect.proofs.Contract.{elect-says}
+use Rattle.call_charge.proofs.Contract.{charge-says}
 use Rattle.call_advance.proofs.Contract.{advance-says}
 use Rattle.call_close.proofs.Contract.{close-says}
 use Rattle.call_statement.proofs.Contract.{statement-says}
 use Rattle.ledger_agrees.specs.Lists.{Made, made, callsOf, Runs, done, andThen, madeOf, bookAfterAll}
-use Rattle.theorem.specs.Runs.{Calls, enrols, elects, advances, closes, states}
+use Rattle.theorem.specs.Runs.{Calls, enrols, elects, advances, closes, charges, states}
 
 -- what a call answers and leaves is what its definition has
 pub record Said (b : List ℕ) (m : Made) (b′ : List ℕ) : Type 0 where
@@ -26,6 +27,7 @@ said b m b′ (enrols κs a r s p) = answered (enrol-says κs a r s p)
 said b m b′ (elects κs a r s p) = answered (elect-says κs a r s p)
 said b m b′ (advances κs a r s p) = answered (advance-says κs a r s p .0)
 said b m b′ (closes κs a r s p) = answered (close-says κs a r s p .0)
+said b m b′ (charges κs a r s p) = answered (charge-says κs a r s p)
 said b m b′ (states κs a r s p) = answered (statement-says κs a r s p .0)
 
 pub run-typed : {b b″ : List ℕ} {ms : List Made} → Runs Calls b ms b″ → AllTyped (callsOf ms)

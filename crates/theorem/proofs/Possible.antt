@@ -10,9 +10,10 @@ use Rattle.units.specs.declared.Rate.{Rate}
 use Rattle.units.specs.declared.WideKwh.{WideKwh}
 use Rattle.sheet.specs.YearSheet.{sheetUser, sheetYear, refused11, refused14, tells, Past13}
 use Rattle.sheet.proofs.Faults.{telling}
+use Rattle.book_rules.specs.Find.{findUser}
 use Rattle.book_rules.specs.Book.{lengthFits, used, sound}
 use Rattle.call_rules.specs.Refusals.{lookAt, present, yearOpen}
-use Rattle.call_rules.specs.Calls.{Call, enrol, elect, advance, close, statement, namedBy, rulesOf, refusalOf, changeOf, booked, bookAfter, recordNamed}
+use Rattle.call_rules.specs.Calls.{Call, enrol, elect, advance, close, statement, charge, namedBy, rulesOf, refusalOf, changeOf, booked, bookAfter, recordNamed}
 use Rattle.call_rules.specs.Rules.{refusedBy}
 use Rattle.call_rules.specs.Changes.{applied}
 use Rattle.call_answers.specs.declared.Reply.{Reply}
@@ -23,7 +24,7 @@ use Rattle.call_close.specs.Closings.{sumsAnswered}
 use Rattle.call_statement.specs.Stated.{sumsStated}
 use Rattle.ledger_agrees.specs.Lists.{made, callsOf, Runs, done, andThen, madeOf, bookAfterAll}
 use Rattle.call_rules.specs.Typed.{AllTyped}
-use Rattle.theorem.specs.Runs.{Calls, enrols, elects, advances, closes, states}
+use Rattle.theorem.specs.Runs.{Calls, enrols, elects, advances, closes, charges, states}
 
 -- a buffer that holds these bytes
 abbrev pub lent : List ℕ → RefT (List ℕ)
@@ -93,6 +94,10 @@ module _ (b : List ℕ) where
       closes ([], ([], tt)) (lent b, (lent s, tt))
       (record { reply = unnamed c; position = at .position; sums = sumsAnswered b s (refusalOf b c) })
       (lent (bookAfter b c), (lent s, tt)) (right c 0, (at .told, refl))
+  performed (charge n) =
+      let c = charge n in
+      charges ([], tt) (lent b, (userNumber n, tt)) (replyOf (refusalOf b c) (recordNamed b (refusalOf b c) (findUser b n))) (lent (bookAfter b c), (userNumber n, tt))
+      (right c (findUser b n))
   performed (statement n) =
       let c = statement n in
       let same = stated-left n in

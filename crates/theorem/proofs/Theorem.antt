@@ -20,7 +20,7 @@ use Rattle.chains.proofs.Fit.{sums-fit}
 use Rattle.book_rules.specs.Find.{findUser}
 use Rattle.call_rules.specs.Rules.{testOf}
 use Rattle.call_rules.specs.Refusals.{lookAt}
-use Rattle.call_rules.specs.Calls.{Call, enrol, elect, advance, close, statement, namedBy, rulesOf, refusalOf, recordNamed}
+use Rattle.call_rules.specs.Calls.{Call, enrol, elect, advance, close, statement, charge, namedBy, rulesOf, refusalOf, recordNamed}
 use Rattle.call_rules.proofs.Orders.{fact}
 use Rattle.call_keeps.proofs.CallsFit.{named-user}
 use Rattle.statements.specs.InnerWalk.{sumsOf, statementIn}
@@ -31,6 +31,7 @@ use Rattle.call_statement.proofs.Contract.{statement-says}
 use Rattle.call_statement.proofs.statement.Reads as statement-of
 use Rattle.ledger_agrees.specs.Lists.{Made, callsOf, Runs, madeOf, bookAfterAll}
 use Rattle.ledger_agrees.specs.Fed.{posted, isFor, ledgerOf, valueOf, Enrols, here, later, NoneDamaged}
+use Rattle.ledger_agrees.specs.Charged.{ChargesKept}
 use Rattle.ledger_agrees.proofs.Theorem as demand
 use Rattle.theorem.specs.Runs.{Calls}
 use Rattle.theorem.specs.Claims.{Claim, ThirdDemand, EveryList}
@@ -45,6 +46,7 @@ posted-some (elect n o y m d) l = (_, refl)
 posted-some (advance n y r p e₁ e₂) l = (_, refl)
 posted-some (close s) l = (_, refl)
 posted-some (statement n) l = (_, refl)
+posted-some (charge n) l = (_, refl)
 
 stays : (number : ℕ) (ms : List Made) (l : Ledger) → (k : Ledger) × (ledgerOf number ms (some l) ≡ some k)
 unfolding ledgerOf
@@ -107,6 +109,7 @@ module _ (b : List ℕ) (fits : lengthFits b ≡ true) (ms : List Made) (b′ : 
         statement = λ κs a r s p is-book is-number.
             let said = statement-answers b′ number known κs a r s p is-book is-number in
             (said .0, said .1, subst (Accounts (l .0) (valueOf number (l .0 .details) ms)) (sym (said .2)) right);
+        charges = subst (λ (x : List ℕ). ChargesKept x number (l .0)) (sym left) (d .charges);
       }
 
 -- an accepted fresh had a length that fits, and left the fresh book

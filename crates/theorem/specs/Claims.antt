@@ -1,7 +1,8 @@
 -- THE THIRD DEMAND, over the functions themselves: "For every list of enrolments, elections, advance runs, closings and
 -- statements from a fresh book, whatever they bring, refused calls included and users mixed freely: after it, the statement of
--- each user it enrolled answers exactly what the ledger of document 01 gives from the accepted calls." And that every list can be
--- made, so that nothing is claimed of no list.
+-- each user it enrolled answers exactly what the ledger of document 01 gives from the accepted calls." The lists hold the charges of
+-- ticket 1 too: "A user's charges made equal those withheld plus the rest, after every list of demand 3." And that every list can
+-- be made, so that nothing is claimed of no list.
 use Prim.Native.Nat.{ℕ}
 use mathlib.Core.Path.{_≡_}
 use mathlib.Core.List.{List}
@@ -16,15 +17,17 @@ use Rattle.call_statement.proofs.statement.Reads as statement-of
 use Rattle.check_book.proofs.fresh.Reads as fresh-of
 use Rattle.ledger_agrees.specs.Lists.{Made, callsOf, Runs}
 use Rattle.ledger_agrees.specs.Fed.{ledgerOf, valueOf, Enrols, NoneDamaged}
+use Rattle.ledger_agrees.specs.Charged.{ChargesKept}
 use Rattle.theorem.specs.Runs.{Calls}
 
 -- after a list of calls, which left the book b: a number that it enrolled has a ledger, and whatever a call of `statement` for it
--- answers is right by that ledger
+-- answers is right by that ledger, as are what the entries on its chain had withheld and the unpaid rest
 pub record Claim (ms : List Made) (b : List ℕ) (number : ℕ) : Type 1 where
   pub ledger : Ledger
   pub fed : ledgerOf number ms none ≡ some ledger
   pub statement : (κs : _) (a : _) (r : _) (s : _) → statement-of.Post κs a r s → now (a .0) ≡ b → a .1 .0 .0 ≡ number
       → (r .reply .refusal ≡ 0) × (r .reply .«record» .0 ≡ 0) × Accounts ledger (valueOf number (ledger .details) ms) (statementIn (r .sums))
+  pub charges : ChargesKept b number ledger
 
 abbrev pub ThirdDemand : Type 1
 ThirdDemand =

@@ -16,7 +16,7 @@ use Rattle.call_statement.specs.Stated.{sumsStated}
 use Rattle.theorem.specs.Runs as beneath
 use Rattle.ledger_agrees.specs.Lists.{Made, Runs, done, andThen}
 use Rattle.ssp.specs.Flat.{detailsOf, positionOf}
-use Rattle.theorem_ssp.specs.Exported.{Calls, enrols, elects, advances, closes, states}
+use Rattle.theorem_ssp.specs.Exported.{Calls, enrols, elects, advances, closes, charges, states}
 
 lift-call : (b : List ℕ) (m : Made) (b′ : List ℕ) → Calls b m b′ → beneath.Calls b m b′
 lift-call b m b′ (enrols κs a r s p) =
@@ -32,6 +32,9 @@ lift-call b m b′ (advances κs a r s p) =
 lift-call b m b′ (closes κs a r s p) =
     let sums = sumsAnswered (now (a .0)) (now (a .1 .0)) (r .refusal) in
     beneath.closes κs a (record { reply = replyOf (r .refusal) (r .«record»); position = positionOf (r .month) (r .place); sums = sums }) s (p .0, (p .1 .0, refl))
+lift-call b m b′ (charges κs a r s p) =
+    let brought : UserNumber × Unit {0} = (userNumber (a .1 .0), tt) in
+    beneath.charges κs (a .0, brought) (replyOf (r .refusal) (r .«record»)) (s .0, brought) p
 lift-call b m b′ (states κs a r s p) =
     let sums = sumsStated (now (a .0)) (a .1 .0) (r .refusal) in
     let brought : UserNumber × Unit {0} = (userNumber (a .1 .0), tt) in

@@ -6,7 +6,7 @@ use Rattle.theorem.specs.Runs as beneath
 use Rattle.ledger_agrees.specs.Lists.{Made, Runs, done, andThen}
 use Rattle.ssp.specs.declared.Advanced.{Advanced}
 use Rattle.ssp.specs.Flat.{flatClosed, flatSums}
-use Rattle.theorem_ssp.specs.Exported.{Calls, enrols, elects, advances, closes, states}
+use Rattle.theorem_ssp.specs.Exported.{Calls, enrols, elects, advances, closes, charges, states}
 
 flat-call : (b : List ℕ) (m : Made) (b′ : List ℕ) → beneath.Calls b m b′ → Calls b m b′
 unfolding flatClosed flatSums
@@ -25,6 +25,9 @@ flat-call b m b′ (beneath.advances κs a r s p) =
     advances κs (a .0, brought) answer (s .0, brought) (p .0, ap (λ t. t .0) (p .1))
 flat-call b m b′ (beneath.closes κs a r s p) =
     closes κs a (flatClosed (r .reply .refusal) (r .reply .«record» .0) (r .position) (r .sums)) s (p .0, (p .1 .0, ap (flatClosed (r .reply .refusal) (r .reply .«record» .0) (r .position)) (p .1 .1)))
+flat-call b m b′ (beneath.charges κs a r s p) =
+    let brought : ℕ × Unit {0} = (a .1 .0 .0, tt) in
+    charges κs (a .0, brought) (record { refusal = r .refusal; «record» = r .«record» .0 }) (s .0, brought) p
 flat-call b m b′ (beneath.states κs a r s p) =
     let brought : ℕ × Unit {0} = (a .1 .0 .0, tt) in
     states κs (a .0, brought) (flatSums (r .reply .refusal) (r .reply .«record» .0) (r .sums)) (s .0, brought) (p .0, ap (flatSums (r .reply .refusal) (r .reply .«record» .0)) (p .1))

@@ -44,6 +44,7 @@ module _ (ms : List Made) (b : List ℕ) (number : ℕ) (c : beneath.Claim ms b 
               under .1,
               subst (Accounts (c .ledger) (valueOf number (c .ledger .details) ms)) (sym (same-statement r (r .refusal) (r .«record») sums (said .1))) (under .2),
             );
+        charges = c .charges;
       }
 
 pub third-demand : ThirdDemand

@@ -8,15 +8,17 @@ use mathlib.Core.Option.{none, some}
 use denote.Ref.{now}
 use Rattle.ledger.specs.Ledger.{Ledger, Statement}
 use Rattle.ledger.specs.Accounting.{Accounts}
-use Rattle.call_rules.specs.Calls.{Call, enrol, elect, advance, close, statement}
+use Rattle.call_rules.specs.Calls.{Call, enrol, elect, advance, close, statement, charge}
 use Rattle.call_rules.specs.Typed.{AllTyped}
 use Rattle.ledger_agrees.specs.Lists.{Made, made, callsOf, Runs}
+use Rattle.ledger_agrees.specs.Charged.{ChargesKept}
 use Rattle.ledger_agrees.specs.Fed.{ledgerOf, valueOf, Enrols, NoneDamaged}
 use Rattle.ssp.specs.declared.Sums.{Sums}
 use Rattle.ssp.specs.Flat.{detailsOf}
 use Rattle.ssp.proofs.ssp_fresh.Reads as fresh-of
 use Rattle.ssp.proofs.ssp_enrol.Reads as enrol-of
 use Rattle.ssp.proofs.ssp_elect.Reads as elect-of
+use Rattle.ssp.proofs.ssp_charge.Reads as charge-of
 use Rattle.ssp.proofs.ssp_advance.Reads as advance-of
 use Rattle.ssp.proofs.ssp_close.Reads as close-of
 use Rattle.ssp.proofs.ssp_statement.Reads as statement-of
@@ -27,6 +29,7 @@ pub data Calls : List ℕ → Made → List ℕ → Type 1 where
   elects : (κs : _) (a : _) (r : _) (s : _) → elect-of.Post κs a r s → Calls (now (a .0)) (made (elect (a .1 .0) (a .1 .1 .0) (a .1 .1 .1 .0) (a .1 .1 .1 .1 .0) (a .1 .1 .1 .1 .1 .0)) (r .refusal)) (now (s .0))
   advances : (κs : _) (a : _) (r : _) (s : _) → advance-of.Post κs a r s → Calls (now (a .0)) (made (advance (a .1 .0) (a .1 .1 .0) (a .1 .1 .1 .0) (a .1 .1 .1 .1 .0) (a .1 .1 .1 .1 .1 .0) (a .1 .1 .1 .1 .1 .1 .0)) (r .refusal)) (now (s .0))
   closes : (κs : _) (a : _) (r : _) (s : _) → close-of.Post κs a r s → Calls (now (a .0)) (made (close (now (a .1 .0))) (r .refusal)) (now (s .0))
+  charges : (κs : _) (a : _) (r : _) (s : _) → charge-of.Post κs a r s → Calls (now (a .0)) (made (charge (a .1 .0)) (r .refusal)) (now (s .0))
   states : (κs : _) (a : _) (r : _) (s : _) → statement-of.Post κs a r s → Calls (now (a .0)) (made (statement (a .1 .0)) (r .refusal)) (now (a .0))
 
 -- the statement that an exported answer's fields are
@@ -46,12 +49,13 @@ statementIn s =
       closedAdvances = s .«closed_advances»;
     }
 
--- what is claimed of a user of the list, and of whatever the exported statement answers for it
+-- what is claimed of a user of the list, of whatever the exported statement answers for it, and of its charges
 pub record Claim (ms : List Made) (b : List ℕ) (number : ℕ) : Type 1 where
   pub ledger : Ledger
   pub fed : ledgerOf number ms none ≡ some ledger
   pub statement : (κs : _) (a : _) (r : _) (s : _) → statement-of.Post κs a r s → now (a .0) ≡ b → a .1 .0 ≡ number
       → (r .refusal ≡ 0) × (r .«record» ≡ 0) × Accounts ledger (valueOf number (ledger .details) ms) (statementIn r)
+  pub charges : ChargesKept b number ledger
 
 abbrev pub ThirdDemand : Type 1
 ThirdDemand =

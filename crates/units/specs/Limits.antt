@@ -28,6 +28,10 @@ maxContribution = 1080000000000000
 abbrev pub maxHalfTicks : ℕ
 maxHalfTicks = 180000000000000
 
+-- ticket 1: the largest yearly charge, 45 €, in ticks
+abbrev pub maxCharge : ℕ
+maxCharge = 4500000
+
 -- "a half 360,000,000", in kWh; "Payer": "an estimate above 360,000,000"
 abbrev pub maxHalfKwh : ℕ
 maxHalfKwh = 360000000

@@ -1,7 +1,7 @@
 //! The exported functions of libssp.a, as `include/ssp.h` declares them.
 
 /// `SSP_INTERFACE` of the header that these declarations follow.
-pub const INTERFACE: u32 = 6;
+pub const INTERFACE: u32 = 7;
 
 #[repr(C)]
 pub struct Booked {
@@ -100,6 +100,7 @@ unsafe extern "C" {
         island: u8,
     ) -> Booked;
     pub fn ssp_elect(book: *mut u8, len: usize, number: u32, option: u8, year: u32, month: u32, day: u32) -> Booked;
+    pub fn ssp_charge(book: *mut u8, len: usize, number: u32) -> Booked;
     pub fn ssp_advance(
         book: *mut u8,
         len: usize,
@@ -125,7 +126,7 @@ mod tests {
     use std::ptr::{null, null_mut};
 
     use super::{
-        ssp_archive, ssp_close, ssp_fresh, ssp_more_sun, ssp_raise, ssp_read_measures, ssp_restore, ssp_statement,
+        ssp_archive, ssp_charge, ssp_close, ssp_fresh, ssp_more_sun, ssp_raise, ssp_read_measures, ssp_restore, ssp_statement,
         ssp_write_measures,
     };
 
@@ -138,6 +139,7 @@ mod tests {
             assert_eq!(ssp_fresh(null_mut(), 0), 1);
             assert_eq!(ssp_statement(null(), 0, 7).refusal, 1);
             assert_eq!(ssp_close(null_mut(), 0, null(), 0).refusal, 1);
+            assert_eq!(ssp_charge(null_mut(), 0, 7).refusal, 1);
             assert_eq!(ssp_fresh(book.as_mut_ptr(), book.len()), 0);
             assert_eq!(ssp_close(book.as_mut_ptr(), book.len(), null(), 0).refusal, 11);
             assert_eq!(ssp_more_sun(null(), 0, null(), 0, 1, 1).refusal, 1);

@@ -135,6 +135,10 @@ impl<'a> Book<'a> {
     /// The bytes that the lines of every sheet fit into, as the grid operator's text has them.
     pub const MEASURES: usize = 675;
 
+    /// Where a user's record has its newest entry, and an entry what it had withheld (docs/FORMAT.md).
+    const FIRST_ENTRY: usize = 12;
+    const WITHHELD: usize = 68;
+
     /// The book that the bytes hold. Whether they hold one is checked by each call.
     ///
     /// # Panics
@@ -201,8 +205,51 @@ impl<'a> Book<'a> {
         Refusal::check(booked.refusal, booked.record)
     }
 
-    /// Books a run of advances for a user's open year, or for the one after it, and answers what it pays.
-    /// Refusals in the order 1 2 6 9 10 3.
+    /// Charges a user's open year, once: 15 € for a plant of up to 3,000 W, 30 € up to 20,000 W, 45 € above. What is charged is
+    /// withheld from the payments after it, see [`Book::withheld`]. Answers the index of the user's record. Refusals in the order
+    /// 1 2 6 16.
+    pub fn charge(&mut self, number: u32) -> Result<u32, Refusal> {
+        // SAFETY: the pointer and the length are those of a slice that is borrowed mutably for the whole call.
+        let booked = unsafe { ffi::ssp_charge(self.bytes.as_mut_ptr(), self.bytes.len(), number) };
+        Refusal::check(booked.refusal, booked.record)?;
+        Ok(booked.record)
+    }
+
+    /// What the newest advance or closing of a user had withheld for charges: it is to be taken off what that call answered, which
+    /// is counted before it. The user is named by the index of its record, as [`Book::enrol`] and [`Book::charge`] answer it. None
+    /// where it has no entry, or where the book has no such record.
+    ///
+    /// ```
+    /// use ssp_book::{Book, Enrolment, Order, Refusal, Ticks, option, run};
+    ///
+    /// let mut bytes = [0; 8 * Book::RECORD];
+    /// let mut book = Book::fresh(&mut bytes)?;
+    /// let (number, option) = (7, option::CREDIT);
+    /// let user = book.enrol(Enrolment { number, class: 2, plant: 1, option, power: 3000, year: 2013, month: 1, island: 0 })?;
+    /// assert_eq!(book.charge(7)?, user);
+    /// assert_eq!(book.charge(7), Err(Refusal::Charge));
+    /// assert_eq!(book.withheld(user), None);
+    ///
+    /// // 400 kWh at 0.09 € are 36 €, of which the charge of 15 € is withheld.
+    /// let paid = book.advance(7, Order { year: 2013, run: run::JUNE, rate: 9_000, estimates: [400, 0] })?;
+    /// assert_eq!(paid, Ticks(3_600_000));
+    /// assert_eq!(book.withheld(user), Some(Ticks(1_500_000)));
+    /// # Ok::<(), Refusal>(())
+    /// ```
+    pub fn withheld(&self, user: u32) -> Option<Ticks> {
+        let first = u32::from_le_bytes(*self.field(user, Book::FIRST_ENTRY)?);
+        (first != 0).then_some(first)?;
+        Some(Ticks(u64::from_le_bytes(*self.field(first, Book::WITHHELD)?)))
+    }
+
+    /// So many bytes of a record from this one on.
+    fn field<const N: usize>(&self, record: u32, at: usize) -> Option<&[u8; N]> {
+        let begin = usize::try_from(record).ok()?.checked_mul(Book::RECORD)? + at;
+        self.bytes.get(begin..)?.first_chunk()
+    }
+
+    /// Books a run of advances for a user's open year, or for the one after it, and answers what it pays, before charges are
+    /// withheld ([`Book::withheld`]). Refusals in the order 1 2 6 9 10 3.
     pub fn advance(&mut self, number: u32, order: Order) -> Result<Ticks, Refusal> {
         // SAFETY: the pointer and the length are those of a slice that is borrowed mutably for the whole call.
         let advanced = unsafe {
@@ -221,8 +268,8 @@ impl<'a> Book<'a> {
         Ok(Ticks(advanced.ticks))
     }
 
-    /// Closes the open year of the user that the year sheet names, and opens the next one. Refusals in the order 1 2 11 6 12
-    /// 13 14 3, with 19 at the place of 13.
+    /// Closes the open year of the user that the year sheet names, and opens the next one. Its sums are counted before charges are
+    /// withheld ([`Book::withheld`]). Refusals in the order 1 2 11 6 12 13 14 3, with 19 at the place of 13.
     pub fn close(&mut self, sheet: &[u8]) -> Result<Closing, Refusal> {
         // SAFETY: the pointers and the lengths are those of two slices that are borrowed for the whole call, the book's
         // mutably, so that they do not overlap.

@@ -45,6 +45,8 @@ pub enum Refusal {
     },
     /// 14: a domestic user withdrew more than 4,000,000 kWh in a month.
     DomesticMonth,
+    /// 16: the open year is charged already, or is above 2099.
+    Charge,
     /// 17: a line of the operator's text is not seven numbers with semicolons, is not of its month, or stands behind the twelfth.
     Line {
         /// The line, 1 to 13.
@@ -94,6 +96,7 @@ impl Refusal {
             12 => Refusal::SheetYear,
             13 => Refusal::AboveLimit { month, place },
             14 => Refusal::DomesticMonth,
+            16 => Refusal::Charge,
             17 => Refusal::Line { line },
             19 => Refusal::StrayBand { month, place },
             23 => Refusal::NoField,
@@ -120,6 +123,7 @@ impl Refusal {
             Refusal::SheetYear => 12,
             Refusal::AboveLimit { .. } => 13,
             Refusal::DomesticMonth => 14,
+            Refusal::Charge => 16,
             Refusal::Line { .. } => 17,
             Refusal::StrayBand { .. } => 19,
             Refusal::NoField => 23,
@@ -152,6 +156,7 @@ impl fmt::Display for Refusal {
                 return write!(f, "month {month}: {place} is above {limit}");
             }
             Refusal::DomesticMonth => "a domestic user withdrew more than 4,000,000 kWh in a month",
+            Refusal::Charge => "the open year is charged already, or is above 2099",
             Refusal::Line { line: line @ 13.. } => {
                 return write!(f, "line {line}: the text goes on behind its twelfth line");
             }
@@ -180,7 +185,7 @@ mod tests {
         for number in 1..=30 {
             let refusal = Refusal::check(number, 5).expect_err("not 0");
             assert_eq!(refusal.number(), number);
-            let named = number <= 14 || matches!(number, 17 | 19 | 23 | 26 | 27);
+            let named = number <= 14 || matches!(number, 16 | 17 | 19 | 23 | 26 | 27);
             assert_eq!(refusal != Refusal::Other(number), named, "refusal {number} has a name");
         }
         assert_eq!(Refusal::check(0, 0), Ok(()));

@@ -2,7 +2,7 @@
 
 mod common;
 
-use common::{Clerk, Dice, clear_later_year, has_later_year};
+use common::{Clerk, Dice, clear_ticket_bytes, has_ticket_bytes};
 use ssp_book::{Book, Refusal};
 
 /// Refused with 2 and the smallest record that the peer finds faulty, or sound for both; nothing is written.
@@ -36,7 +36,7 @@ fn every_byte() {
         for wrong in [0, 1, 2, 3, 4, 5, 127, 255, right ^ 1, right ^ 128, right.wrapping_add(1)] {
             bytes[at] = wrong;
             // the peer is one of document 01, which has no such bytes
-            if !has_later_year(&bytes) {
+            if !has_ticket_bytes(&bytes) {
                 sound += usize::from(judged(&mut bytes));
                 books += 1;
             }
@@ -57,7 +57,7 @@ fn any_bytes() {
             .map(|_| if small { dice.below(5) as u8 } else { dice.next() as u8 })
             .collect();
         bytes[..4].copy_from_slice(&(dice.below(records + 2) as u32).to_le_bytes());
-        clear_later_year(&mut bytes);
+        clear_ticket_bytes(&mut bytes);
         let before = bytes.clone();
         judged(&mut bytes);
         let mut clerk = Clerk::new(seed, 50);

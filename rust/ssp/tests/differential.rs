@@ -3,7 +3,7 @@
 
 mod common;
 
-use common::{Answer, Call, Clerk, Dice, damage, has_later_year, is_for_later_year};
+use common::{Answer, Call, Clerk, Dice, damage, has_ticket_bytes, is_of_ticket};
 use ssp_book::{Balance, Book, Closing, Place, Refusal, Statement, Ticks};
 
 /// The peer's answer: the refusal's number, and the answer of an accepted call.
@@ -21,6 +21,7 @@ fn by_peer(call: &Call, bytes: &mut [u8]) -> (u32, Answer) {
             let a = peer::elect(bytes, *number, *option, d.year, d.month, d.day);
             (a.code.into(), Answer::Nothing)
         }
+        Call::Charge(_) => unreachable!("the peer is one of document 01"),
         Call::Advance(number, o) => {
             let year = u16::try_from(o.year).unwrap_or(u16::MAX);
             let [first, second] = o.estimates.map(narrow);
@@ -150,7 +151,7 @@ fn compare(seed: u64, records: usize, calls: usize, copies: usize, count: &mut C
         for _ in 0..4 {
             let call = clerk.next_call();
             // the peer is one of document 01, which knows one open year
-            if !has_later_year(&proved) && !is_for_later_year(&call, &proved) {
+            if !has_ticket_bytes(&proved) && !is_of_ticket(&call, &proved) {
                 both(&call, &mut proved, &mut other, count);
             }
         }

@@ -25,6 +25,7 @@ fn calls() -> Vec<Call> {
     vec![
         Call::Enrol(household(7)),
         Call::Elect(7, option::LIQUIDATION, day),
+        Call::Charge(7),
         Call::Advance(7, order),
         Call::Close(sheet(&mut Dice::of(1), 7, 2013)),
         Call::Statement(7),

@@ -133,6 +133,25 @@ fn window() {
 }
 
 #[test]
+fn charge() {
+    let text = "the open year is charged already, or is above 2099";
+    let twice = |book: &mut Book<'_>| {
+        book.charge(7).expect("a year that is not charged");
+        book.charge(7).err()
+    };
+    is(refused(twice), Refusal::Charge, 16, text);
+    let mut bytes = [0; 3 * Book::RECORD];
+    let mut book = Book::fresh(&mut bytes).expect("a length that fits");
+    book.enrol(Enrolment {
+        year: 2099,
+        ..household(8)
+    })
+    .expect("a free record");
+    book.close(&sheet(8, 2099, 0, 0)).expect("a year that is open");
+    is(book.charge(8).expect_err("open year 2100"), Refusal::Charge, 16, text);
+}
+
+#[test]
 fn run_of_advances() {
     let text = "the year is not open or is above 2099, or the run is none, is not due or was made";
     for wrong in [

@@ -125,6 +125,7 @@ fn call(command: &str, words: &mut Words<'_>, bytes: &mut [u8]) -> String {
             };
             line(book.advance(number, order), 1, |ticks| format!(" {}", ticks.0))
         }
+        "charge" => line(book.charge(words.number()), 1, |record| format!(" {record}")),
         "close" => line(book.close(&words.bytes()), 7, closing),
         "statement" => line(book.statement(words.number()), 11, statement),
         "list" => listing(&book),

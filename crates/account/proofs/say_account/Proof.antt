@@ -26,14 +26,14 @@ say-totals-requires c κs = search needs
 returns-3 : tie.Need-returns-3
 returns-3 c = search needs
 
-say-open-year-requires : tie.Need-say-open-year-requires
-say-open-year-requires c κs = search needs
+say-charges-requires : tie.Need-say-charges-requires
+say-charges-requires c κs = search needs
 
 returns-4 : tie.Need-returns-4
 returns-4 c = search needs
 
-say-open-years-requires : tie.Need-say-open-years-requires
-say-open-years-requires c κs = search needs
+say-open-year-requires : tie.Need-say-open-year-requires
+say-open-year-requires c κs = search needs
 
 returns-5 : tie.Need-returns-5
 returns-5 c = search needs
@@ -59,9 +59,9 @@ say-account-spec =
     statement-of-requires
     say-totals-requires
     returns-3
-    say-open-year-requires
+    say-charges-requires
     returns-4
-    say-open-years-requires
+    say-open-year-requires
     returns-5
     say-rest-requires
     returns-6)

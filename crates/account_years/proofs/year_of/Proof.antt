@@ -29,8 +29,8 @@ record-requires c κs = search needs
 closing-of-requires : tie.Need-closing-of-requires
 closing-of-requires c κs = search needs
 
-advances-of-requires : tie.Need-advances-of-requires
-advances-of-requires c κs =
+payments-of-requires : tie.Need-payments-of-requires
+payments-of-requires c κs =
     let p = c .before .before .before .before .before .pre in
     (p .0, (p .1 .0, p .1 .1 .0))
 
@@ -50,7 +50,7 @@ returns c =
     let bytes = c .before .before .before .before .before .before .before .before .before .before .before .«record» in
     let closing = c .before .before .before .before .before .before .before .before .before .before .closing-of in
     let year = ap (λ y. y + a .n) (c .before .before .before .before .before .before .before .before .before .before .before .before .before .activation-of .ensures) in
-    year-is b (a .user .0) (a .n) (c .before .before .before .before .before .before .before .before .before .before .before .before .before .activation-of .result + a .n) year (entry .result) (entry .ensures) (now (bytes .result)) (bytes .ensures) (closing .result) (closing .ensures) (c .before .before .before .before .before .before .before .before .before .advances-of .result) (c .before .before .before .before .before .before .before .before .credit-after-years .result) (c .before .before .before .before .before .before .before .before .before .advances-of .ensures) (c .before .before .before .before .before .before .before .before .credit-after-years .ensures)
+    year-is b (a .user .0) (a .n) (c .before .before .before .before .before .before .before .before .before .before .before .before .before .activation-of .result + a .n) year (entry .result) (entry .ensures) (now (bytes .result)) (bytes .ensures) (closing .result) (closing .ensures) (c .before .before .before .before .before .before .before .before .before .payments-of .result) (c .before .before .before .before .before .before .before .before .credit-after-years .result) (c .before .before .before .before .before .before .before .before .before .payments-of .ensures) (c .before .before .before .before .before .before .before .before .credit-after-years .ensures)
 
 pub year-of-spec : {M : Type 1} → statement M
 year-of-spec =
@@ -61,7 +61,7 @@ year-of-spec =
     closing-after-requires
     record-requires
     closing-of-requires
-    advances-of-requires
+    payments-of-requires
     add-credit-after-years
     credit-after-years-requires
     returns)

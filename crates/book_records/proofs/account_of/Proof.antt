@@ -39,10 +39,14 @@ read-u32-requires c κs = search needs
 read-u32-requires-2 : tie.Need-read-u32-requires-2
 read-u32-requires-2 c κs = search needs
 
+charge-of-requires : tie.Need-charge-of-requires
+charge-of-requires c κs = search needs
+
 returns : tie.Need-returns
 unfolding accountIn get
 returns c =
-    let half1 = c .before in
+    let half2 = c .before in
+    let half1 = half2 .before in
     let later-advances = half1 .before in
     let advances = later-advances .before in
     let credit = advances .before in
@@ -64,7 +68,8 @@ returns c =
       advances = ticks (advances .read-u642 .ensures i);
       «later_advances» = ticks (later-advances .read-u643 .ensures i);
       half1 = kwh (half1 .read-u32 .ensures i);
-      half2 = kwh (c .read-u322 .ensures i);
+      half2 = kwh (half2 .read-u322 .ensures i);
+      charge = c .charge-of .ensures i;
     }
 
 pub account-of-spec : {M : Type 1} → statement M
@@ -82,4 +87,5 @@ account-of-spec =
     read-u64-requires-3
     read-u32-requires
     read-u32-requires-2
+    charge-of-requires
     returns)

@@ -26,17 +26,22 @@ put-u32-requires-2 c κs = search needs
 put-u16-requires-2 : tie.Need-put-u16-requires-2
 put-u16-requires-2 c κs = search needs
 
+put-u64-requires-2 : tie.Need-put-u64-requires-2
+put-u64-requires-2 c κs = search needs
+
 returns : tie.Need-returns
 unfolding advanceImage written
 returns c =
-    let owner = c .before in
+    let booked = c .before in
+    let owner = booked .before in
     let ticks = owner .before in
     let year = ticks .before in
     let run = year .before in
     let kind = run .before in
     let next = kind .before in
     rw (
-      c .put-u162 .ensures,
+      c .put-u642 .ensures,
+      booked .put-u162 .ensures,
       owner .put-u322 .ensures,
       ticks .put-u64 .ensures,
       year .put-u16 .ensures,
@@ -56,4 +61,5 @@ advance-image-spec =
     put-u64-requires
     put-u32-requires-2
     put-u16-requires-2
+    put-u64-requires-2
     returns)

@@ -23,10 +23,14 @@ owner-of-requires c κs = search needs
 booked-of-requires : tie.Need-booked-of-requires
 booked-of-requires c κs = search needs
 
+read-u64-requires-2 : tie.Need-read-u64-requires-2
+read-u64-requires-2 c κs = search needs
+
 returns : tie.Need-returns
 unfolding advanceIn get
 returns c =
-    let owner = c .before in
+    let booked = c .before in
+    let owner = booked .before in
     let ticks = owner .before in
     let year = ticks .before in
     let run = year .before in
@@ -38,7 +42,8 @@ returns c =
       year = year .year-of .ensures i;
       ticks = record { 0 = ticks .read-u64 .ensures i };
       owner = owner .owner-of .ensures i;
-      booked = c .booked-of .ensures i;
+      booked = booked .booked-of .ensures i;
+      withheld = record { 0 = c .read-u642 .ensures i };
     }
 
 pub advance-of-spec : {M : Type 1} → statement M
@@ -51,4 +56,5 @@ advance-of-spec =
     read-u64-requires
     owner-of-requires
     booked-of-requires
+    read-u64-requires-2
     returns)

@@ -41,10 +41,14 @@ put-u64-requires-7 c κs = search needs
 put-u32-requires-2 : tie.Need-put-u32-requires-2
 put-u32-requires-2 c κs = search needs
 
+put-u64-requires-8 : tie.Need-put-u64-requires-8
+put-u64-requires-8 c κs = search needs
+
 returns : tie.Need-returns
 unfolding closingImage written
 returns c =
-    let balance = c .before in
+    let owner = c .before in
+    let balance = owner .before in
     let lapsed = balance .before in
     let liquidation = lapsed .before in
     let contribution = liquidation .before in
@@ -56,7 +60,8 @@ returns c =
     let kind = option .before in
     let next = kind .before in
     rw (
-      c .put-u322 .ensures,
+      c .put-u648 .ensures,
+      owner .put-u322 .ensures,
       balance .put-u647 .ensures,
       lapsed .put-u646 .ensures,
       liquidation .put-u645 .ensures,
@@ -86,4 +91,5 @@ closing-image-spec =
     put-u64-requires-6
     put-u64-requires-7
     put-u32-requires-2
+    put-u64-requires-8
     returns)

@@ -20,10 +20,14 @@ sums-of-requires c κs = search needs
 owner-of-requires : tie.Need-owner-of-requires
 owner-of-requires c κs = search needs
 
+read-u64-requires : tie.Need-read-u64-requires
+read-u64-requires c κs = search needs
+
 returns : tie.Need-returns
 unfolding closingIn get
 returns c =
-    let sums = c .before in
+    let owner = c .before in
+    let sums = owner .before in
     let year = sums .before in
     let option = year .before in
     let next = option .before in
@@ -33,10 +37,11 @@ returns c =
       option = option .read-u8 .ensures i;
       year = year .year-of .ensures i;
       sums = sums .sums-of .ensures i;
-      owner = c .owner-of .ensures i;
+      owner = owner .owner-of .ensures i;
+      withheld = record { 0 = c .read-u64 .ensures i };
     }
 
 pub closing-of-spec : {M : Type 1} → statement M
 closing-of-spec =
     tie.close
-    (tie.spec next-of-requires read-u8-requires year-of-requires sums-of-requires owner-of-requires returns)
+    (tie.spec next-of-requires read-u8-requires year-of-requires sums-of-requires owner-of-requires read-u64-requires returns)

@@ -62,10 +62,18 @@ put-u8-requires-8 c κs = search needs
 put-u64-requires-3 : tie.Need-put-u64-requires-3
 put-u64-requires-3 c κs = search needs
 
+put-u8-requires-9 : tie.Need-put-u8-requires-9
+put-u8-requires-9 c κs = search needs
+
+put-u64-requires-4 : tie.Need-put-u64-requires-4
+put-u64-requires-4 c κs = search needs
+
 returns : tie.Need-returns
 unfolding userImage written
 returns c =
-    let later-runs = c .before in
+    let charged = c .before in
+    let later-advances = charged .before in
+    let later-runs = later-advances .before in
     let half2 = later-runs .before in
     let half1 = half2 .before in
     let advances = half1 .before in
@@ -84,7 +92,9 @@ returns c =
     let kind = class .before in
     let next = kind .before in
     rw (
-      c .put-u643 .ensures,
+      c .put-u644 .ensures,
+      charged .put-u89 .ensures,
+      later-advances .put-u643 .ensures,
       later-runs .put-u88 .ensures,
       half2 .put-u326 .ensures,
       half1 .put-u325 .ensures,
@@ -128,4 +138,6 @@ user-image-spec =
     put-u32-requires-6
     put-u8-requires-8
     put-u64-requires-3
+    put-u8-requires-9
+    put-u64-requires-4
     returns)

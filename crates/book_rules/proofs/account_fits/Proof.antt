@@ -3,7 +3,7 @@ use mathlib.Core.Path.{_≡_, refl, sym, ap, ap₂, _∙_}
 use mathlib.Core.Bool.{Bool, true, false, not, _&&_, and-false}
 use lib.Dec.{eqb}
 use Rattle.account_steps.specs.declared.Account.{Account}
-use Rattle.book_rules.specs.Book.{detailsFit, openYearFits, runsFit, advancesFit, laterFits, creditFits, halvesFit, accountFits}
+use Rattle.book_rules.specs.Book.{detailsFit, openYearFits, paymentsFit, creditFits, halvesFit, accountFits}
 use Rattle.book_rules.proofs.Guards.{tested-between, untested-between}
 use borrow.Author.Needs.{needs}
 use Rattle.book_rules.proofs.account_fits.Statement.{statement}
@@ -40,20 +40,20 @@ module _ (a : Account) {details opened halves : Bool} (d : details ≡ detailsFi
   known-halves : {t : Bool} → tests ≡ t → (known && halvesFit a) ≡ t
   known-halves e = rw (d, o, h) at e
 
-  all-fit : {credit paid : Bool} → tests ≡ true → credit ≡ creditFits a → credit ≡ true → paid ≡ ((runsFit a && advancesFit a) && laterFits a) → paid ≡ accountFits a
+  all-fit : {credit paid : Bool} → tests ≡ true → credit ≡ creditFits a → credit ≡ true → paid ≡ paymentsFit a → paid ≡ accountFits a
   unfolding accountFits
   all-fit e k fits p = tested-between known (creditFits a && halvesFit a) (moved known (creditFits a) (halvesFit a) ∙ ap₂ _&&_ (sym k ∙ fits) (known-halves e)) p
 
   too-much : {credit : Bool} → tests ≡ true → credit ≡ creditFits a → credit ≡ false → false ≡ accountFits a
   unfolding accountFits
   too-much e k none =
-      untested-between known ((runsFit a && advancesFit a) && laterFits a) (creditFits a && halvesFit a)
+      untested-between known (paymentsFit a) (creditFits a && halvesFit a)
       (moved known (creditFits a) (halvesFit a) ∙ ap₂ _&&_ (sym k ∙ none) (known-halves e))
 
   some-unfit : tests ≡ false → false ≡ accountFits a
   unfolding accountFits
   some-unfit e =
-      untested-between known ((runsFit a && advancesFit a) && laterFits a) (creditFits a && halvesFit a)
+      untested-between known (paymentsFit a) (creditFits a && halvesFit a)
       (moved known (creditFits a) (halvesFit a) ∙ ap (λ (t : Bool). creditFits a && t) (known-halves e) ∙ and-false (creditFits a))
 
 returns : tie.Need-returns

@@ -14,16 +14,16 @@ use Rattle.book_rules.proofs.advance_fits.Tie as tie
 
 module _ (owner : Account) (a : AdvanceRecord) {run : Bool} (is-run : run ≡ isRun (a .run)) where
   abbrev paid : Bool
-  paid = run && leb (a .ticks .0) maxYearTicks
+  paid = (run && leb (a .ticks .0) maxYearTicks) && leb (a .withheld .0) (a .ticks .0)
 
   unpaid : not paid ≡ true → false ≡ advanceFits owner a
   unfolding advanceFits
   unpaid t =
-      let none : (isRun (a .run) && leb (a .ticks .0) maxYearTicks) ≡ false = rw is-run at (not-true paid t) in
+      let none : ((isRun (a .run) && leb (a .ticks .0) maxYearTicks) && leb (a .withheld .0) (a .ticks .0)) ≡ false = rw is-run at (not-true paid t) in
       rw (none, and-false (yearFits owner (levelFrom (a .year) (a .booked)) && bookedFits (a .year) (a .booked)))
 
   module _ (left : not paid ≡ false) where
-    all-paid : (isRun (a .run) && leb (a .ticks .0) maxYearTicks) ≡ true
+    all-paid : ((isRun (a .run) && leb (a .ticks .0) maxYearTicks) && leb (a .withheld .0) (a .ticks .0)) ≡ true
     all-paid = rw is-run at (not-false paid left)
 
     module _ {from to : ℕ} (f : owner .details .year ≡ from) (t : owner .«open_year» ≡ to) where
@@ -50,17 +50,17 @@ booked-fits-requires : tie.Need-booked-fits-requires
 booked-fits-requires c κs = search needs
 
 returns : tie.Need-returns
-returns c owner from to = unpaid owner (c .before .before .before .args .a) (c .before .before .is-run .ensures) (c .if1 .taken)
+returns c owner from to = unpaid owner (c .before .before .before .before .args .a) (c .before .before .before .is-run .ensures) (c .if1 .taken)
 
 returns-2 : tie.Need-returns-2
 returns-2 c owner from to =
     let l = c .before .before .before in
-    unnoted owner (l .before .before .before .args .a) (l .before .before .is-run .ensures) (l .if1 .left) from to (c .before .if2 .taken) (c .year-fits .ensures)
+    unnoted owner (l .before .before .before .before .args .a) (l .before .before .before .is-run .ensures) (l .if1 .left) from to (c .before .if2 .taken) (c .year-fits .ensures)
 
 returns-3 : tie.Need-returns-3
 returns-3 c owner from to =
     let l = c .before .before .before .before in
-    noted owner (l .before .before .before .args .a) (l .before .before .is-run .ensures) (l .if1 .left) from to (c .before .before .if2 .left) (c .before .year-fits2 .ensures)
+    noted owner (l .before .before .before .before .args .a) (l .before .before .before .is-run .ensures) (l .if1 .left) from to (c .before .before .if2 .left) (c .before .year-fits2 .ensures)
     (c .booked-fits .ensures)
 
 pub advance-fits-spec : {M : Type 1} → statement M

@@ -10,6 +10,9 @@ fits-years-requires c κs = search needs
 balance-fits-requires : tie.Need-balance-fits-requires
 balance-fits-requires c κs = search needs
 
+withheld-fits-requires : tie.Need-withheld-fits-requires
+withheld-fits-requires c κs = search needs
+
 year-fits-requires : tie.Need-year-fits-requires
 year-fits-requires c κs = search needs
 
@@ -19,4 +22,4 @@ returns c owner from to = cc
 
 pub closing-fits-spec : {M : Type 1} → statement M
 closing-fits-spec =
-    tie.close (tie.spec fits-years-requires balance-fits-requires year-fits-requires returns)
+    tie.close (tie.spec fits-years-requires balance-fits-requires withheld-fits-requires year-fits-requires returns)

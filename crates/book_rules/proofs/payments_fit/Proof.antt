@@ -1,13 +1,27 @@
--- The rules of both years, by whether a run of either is made.
-use mathlib.Core.Path.{ap₂}
+-- By whether anything is paid or charged, and whether the charge fits.
+use mathlib.Core.Path.{sym, ap₂, _∙_}
 use mathlib.Core.Bool.{_&&_}
-use borrow.Author.Tests.{eqb-true}
-use lib.Dec.{eqb}
-use Rattle.units.proofs.Bools.{and-left, and-right}
-use Rattle.book_rules.proofs.Payments.{unpaid, later-unpaid}
+use borrow.Author.Tests.{not-true, not-false}
+use Rattle.book_rules.specs.Book.{runsFit, advancesFit, laterFits}
+use Rattle.book_rules.proofs.Guards.{tested, untested}
 use borrow.Author.Needs.{needs}
 use Rattle.book_rules.proofs.payments_fit.Statement.{statement}
 use Rattle.book_rules.proofs.payments_fit.Tie as tie
+
+nothing-paid-requires : tie.Need-nothing-paid-requires
+nothing-paid-requires c κs = search needs
+
+returns : tie.Need-returns
+returns c = sym (c .before .nothing-paid .ensures (c .if1 .taken))
+
+charge-fits-requires : tie.Need-charge-fits-requires
+charge-fits-requires c κs = search needs
+
+returns-2 : tie.Need-returns-2
+returns-2 c =
+    let a = c .before .before .before .before .args .a in
+    let charge = c .before .charge-fits in
+    untested ((runsFit a && advancesFit a) && laterFits a) (sym (charge .ensures) ∙ not-true (charge .result) (c .if2 .taken))
 
 paid-fits-requires : tie.Need-paid-fits-requires
 paid-fits-requires c κs = search needs
@@ -15,15 +29,11 @@ paid-fits-requires c κs = search needs
 later-fits-requires : tie.Need-later-fits-requires
 later-fits-requires c κs = search needs
 
-returns : tie.Need-returns
-returns c =
-    let a = c .before .before .before .before .before .args .a in
-    let none = c .before .before .if1 .taken in
-    ap₂ _&&_ (unpaid a (eqb-true (a .runs) 0 (and-left (eqb (a .runs) 0) (eqb (a .«later_runs») 0) none)))
-    (later-unpaid a (eqb-true (a .«later_runs») 0 (and-right (eqb (a .runs) 0) (eqb (a .«later_runs») 0) none)))
-
-returns-2 : tie.Need-returns-2
-returns-2 c = ap₂ _&&_ (c .before .paid-fits .ensures) (c .later-fits .ensures)
+returns-3 : tie.Need-returns-3
+returns-3 c =
+    let charge = c .before .before .before .charge-fits in
+    tested (sym (charge .ensures) ∙ not-false (charge .result) (c .before .before .if2 .left)) (ap₂ _&&_ (c .before .paid-fits .ensures) (c .later-fits .ensures))
 
 pub payments-fit-spec : {M : Type 1} → statement M
-payments-fit-spec = tie.close (tie.spec paid-fits-requires later-fits-requires returns returns-2)
+payments-fit-spec =
+    tie.close (tie.spec nothing-paid-requires returns charge-fits-requires returns-2 paid-fits-requires later-fits-requires returns-3)

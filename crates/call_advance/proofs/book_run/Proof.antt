@@ -4,7 +4,7 @@ use mathlib.Core.Path.{ap, _∙_}
 use native.Mathlib.Omega.{arith}
 use lib.ListN.{length}
 use Rattle.book_records.proofs.Advances.{length-advance-image}
-use Rattle.call_advance.proofs.Runs.{run-booked}
+use Rattle.call_advance.proofs.Runs.{within-rest, run-booked}
 use borrow.Author.Needs.{needs}
 use Rattle.call_advance.proofs.book_run.Statement.{statement}
 use Rattle.call_advance.proofs.book_run.Tie as tie
@@ -23,37 +23,49 @@ advance-image-requires c κs = search needs
 
 advanced-requires : tie.Need-advanced-requires
 advanced-requires c κs =
-    let fits = c .before .before .before .before .before .before .pre in
+    let fits = c .before .before .before .before .before .before .before .pre in
     (omega (arith, fits .runs), omega (arith, fits .advances))
+
+withheld-from-requires : tie.Need-withheld-from-requires
+withheld-from-requires c κs = search needs
+
+withheld-requires : tie.Need-withheld-requires
+withheld-requires c κs =
+    let a = c .before .before .before .before .before .before .before .before .before .args in
+    let next = c .before .advanced in
+    within-rest (a .account) (a .year) (a .run) (a .paid) (c .before .before .before .before .before .before .withheld-from .result) (c .before .before .before .before .before .before .withheld-from .ensures) (next .result) (next .ensures)
 
 write-entry-requires : tie.Need-write-entry-requires
 write-entry-requires c κs =
-    let fits = c .before .before .before .before .before .before .before .pre .entry in
-    (fits .user, (fits .room, (ap length (c .before .before .advance-image .ensures) ∙ length-advance-image _, fits .index)))
+    let fits = c .before .before .before .before .before .before .before .before .before .before .pre .entry in
+    (fits .user, (fits .room, (ap length (c .before .before .before .advance-image .ensures) ∙ length-advance-image _, fits .index)))
 
 same-length : tie.Need-same-length
 same-length c = search needs
 
 returns : tie.Need-returns
 returns c =
-    let written = c .before .before in
-    let joined = written .before in
-    let entry = joined .before .before in
-    let noted = entry .before in
-    let first = noted .before in
-    let a = first .before .before .before .args in
-    run-booked (now (a .book)) (a .user) (a .account) (a .year) (a .run) (a .paid) (first .first-entry-of .result) (first .first-entry-of .ensures) (noted .booked-in .result)
-    (noted .booked-in .ensures) (entry .advance-image .result) (entry .advance-image .ensures) (joined .advanced .result) (joined .advanced .ensures) _ (written .write-entry .ensures)
+    let a = c .before .before .before .before .before .before .before .before .before .before .before .before .before .args in
+    let held = c .before .before .before .before .before .before .before .before .before .before .withheld-from in
+    let first = c .before .before .before .before .before .before .before .before .first-entry-of in
+    let noted = c .before .before .before .before .before .before .before .booked-in in
+    let entry = c .before .before .before .before .before .before .advance-image in
+    let joined = c .before .before .before .before .before .advanced in
+    let last = c .before .before .before .withheld in
+    run-booked (now (a .book)) (a .user) (a .account) (a .year) (a .run) (a .paid) (held .result) (held .ensures) (first .result) (first .ensures) (noted .result) (noted .ensures)
+    (entry .result) (entry .ensures) (joined .result) (joined .ensures) (last .result) (last .ensures) _ (c .before .before .write-entry .ensures)
 
 pub book-run-spec : {M : Type 1} → statement M
 book-run-spec =
     tie.close
     (tie.spec
     cast-named
+    withheld-from-requires
     first-entry-of-requires
     booked-in-requires
     advance-image-requires
     advanced-requires
+    withheld-requires
     write-entry-requires
     same-length
     returns)

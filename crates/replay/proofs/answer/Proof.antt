@@ -61,7 +61,7 @@ returns c =
     let read = asked .before .order-of .ensures in
     record {
       within = search needs;
-      wrong = λ e. let other = rw (read ∙ e) at (asked .match .keys1) in absurd (miss (0 ∷ []) 16 tt other);
+      wrong = λ e. let other = rw (read ∙ e) at (asked .match .keys1) in absurd (miss (0 ∷ []) 17 tt other);
     }
 
 same-length-2 : tie.Need-same-length-2
@@ -73,7 +73,7 @@ returns-2 c =
     let read = asked .before .order-of .ensures in
     record {
       within = search needs;
-      wrong = λ e. let other = rw (read ∙ e) at (asked .match .keys2) in absurd (miss (1 ∷ []) 16 tt other);
+      wrong = λ e. let other = rw (read ∙ e) at (asked .match .keys2) in absurd (miss (1 ∷ []) 17 tt other);
     }
 
 returns-3 : tie.Need-returns-3
@@ -91,7 +91,7 @@ returns-4 c =
     let read = asked .before .order-of .ensures in
     record {
       within = search needs;
-      wrong = λ e. let other = rw (read ∙ e) at (asked .match .keys4) in absurd (miss (2 ∷ 3 ∷ 4 ∷ 5 ∷ 6 ∷ 7 ∷ 8 ∷ 9 ∷ 10 ∷ 11 ∷ 12 ∷ 13 ∷ 14 ∷ 15 ∷ []) 16 tt other);
+      wrong = λ e. let other = rw (read ∙ e) at (asked .match .keys4) in absurd (miss (2 ∷ 3 ∷ 4 ∷ 5 ∷ 6 ∷ 7 ∷ 8 ∷ 9 ∷ 10 ∷ 11 ∷ 12 ∷ 13 ∷ 14 ∷ 15 ∷ 16 ∷ []) 17 tt other);
     }
 
 pub answer-spec : {M : Type 1} → statement M

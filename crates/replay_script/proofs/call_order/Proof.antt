@@ -77,8 +77,8 @@ slice-aggregate-begins-5 c = search needs
 begins-requires-5 : tie.Need-begins-requires-5
 begins-requires-5 c κs = search needs
 
-statement-order-requires : tie.Need-statement-order-requires
-statement-order-requires c κs = search needs
+charge-order-requires : tie.Need-charge-order-requires
+charge-order-requires c κs = search needs
 
 returns-5 : tie.Need-returns-5
 unfolding callOrder
@@ -88,7 +88,7 @@ returns-5 c =
     let three = four .before .before .before in
     let two = three .before .before .before in
     let one = two .before .before .before in
-    rw (sym (one .before .begins .ensures) ∙ one .if1 .left, sym (two .before .begins2 .ensures) ∙ two .if2 .left, sym (three .before .begins3 .ensures) ∙ three .if3 .left, sym (four .before .begins4 .ensures) ∙ four .if4 .left, sym (five .before .begins5 .ensures) ∙ five .if5 .taken) (c .statement-order .ensures)
+    rw (sym (one .before .begins .ensures) ∙ one .if1 .left, sym (two .before .begins2 .ensures) ∙ two .if2 .left, sym (three .before .begins3 .ensures) ∙ three .if3 .left, sym (four .before .begins4 .ensures) ∙ four .if4 .left, sym (five .before .begins5 .ensures) ∙ five .if5 .taken) (c .charge-order .ensures)
 
 asking-order-requires : tie.Need-asking-order-requires
 asking-order-requires c κs = search needs
@@ -125,7 +125,7 @@ call-order-spec =
     returns-4
     slice-aggregate-begins-5
     begins-requires-5
-    statement-order-requires
+    charge-order-requires
     returns-5
     asking-order-requires
     returns-6)

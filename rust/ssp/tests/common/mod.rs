@@ -35,6 +35,7 @@ impl Dice {
 pub enum Call {
     Enrol(Enrolment),
     Elect(u32, u8, Day),
+    Charge(u32),
     Advance(u32, Order),
     Close(Vec<u8>),
     Statement(u32),
@@ -54,6 +55,7 @@ impl Call {
         match self {
             Call::Enrol(user) => book.enrol(*user).map(Answer::Record),
             Call::Elect(number, option, day) => book.elect(*number, *option, *day).map(|()| Answer::Nothing),
+            Call::Charge(number) => book.charge(*number).map(Answer::Record),
             Call::Advance(number, order) => book.advance(*number, *order).map(Answer::Paid),
             Call::Close(sheet) => book.close(sheet).map(Answer::Closed),
             Call::Statement(number) => book.statement(*number).map(Answer::Stated),
@@ -106,8 +108,8 @@ struct User {
 pub struct Clerk {
     pub dice: Dice,
     mistakes: u64,
-    /// Whether runs are ordered for the later open year too (ticket 6).
-    two_years: bool,
+    /// Whether it makes what tickets added: runs of the later open year too, and charges.
+    tickets: bool,
     users: Vec<User>,
 }
 
@@ -116,15 +118,15 @@ impl Clerk {
         Clerk {
             dice: Dice::of(seed),
             mistakes,
-            two_years: false,
+            tickets: false,
             users: Vec::new(),
         }
     }
 
-    /// One who orders runs of both open years.
-    pub fn of_two_years(seed: u64, mistakes: u64) -> Clerk {
+    /// One who orders runs of both open years (ticket 6), and charges (ticket 1).
+    pub fn of_tickets(seed: u64, mistakes: u64) -> Clerk {
         Clerk {
-            two_years: true,
+            tickets: true,
             ..Clerk::new(seed, mistakes)
         }
     }
@@ -149,6 +151,9 @@ impl Clerk {
     }
 
     pub fn next_call(&mut self) -> Call {
+        if self.tickets && self.dice.percent(10) {
+            return Call::Charge(self.somebody().0);
+        }
         match self.dice.below(20) {
             0..=2 => Call::Enrol(self.enrolment()),
             3..=4 => self.election(),
@@ -209,7 +214,7 @@ impl Clerk {
     fn order(&mut self) -> Call {
         let (number, open_year) = self.somebody();
         let mistaken = self.errs();
-        let later = self.two_years && self.dice.percent(40);
+        let later = self.tickets && self.dice.percent(40);
         let dice = &mut self.dice;
         let mut order = Order {
             year: u32::from(open_year) + u32::from(later),
@@ -273,33 +278,34 @@ fn used_records(bytes: &[u8]) -> impl Iterator<Item = &[u8]> {
     bytes.chunks_exact(Book::RECORD).take(used as usize).skip(1)
 }
 
-/// The bytes of a record that ticket 6 gives a meaning: document 01, which `rust/peer` follows, wants zeros there.
-fn later_year_bytes(record: &[u8]) -> Vec<usize> {
+/// The bytes of a record that tickets 1 and 6 give a meaning: document 01, which `rust/peer` follows, wants zeros there.
+fn ticket_bytes(record: &[u8]) -> Vec<usize> {
     match record[4] {
-        1 => [27].into_iter().chain(64..72).collect(),
-        2 => (76..78).collect(),
+        1 => (27..29).chain(56..72).collect(),
+        2 => (68..78).collect(),
+        3 => (68..76).collect(),
         _ => Vec::new(),
     }
 }
 
-/// Whether a book has anything of a later open year.
-pub fn has_later_year(bytes: &[u8]) -> bool {
-    used_records(bytes).any(|record| later_year_bytes(record).into_iter().any(|at| record[at] != 0))
+/// Whether a book has anything of a ticket.
+pub fn has_ticket_bytes(bytes: &[u8]) -> bool {
+    used_records(bytes).any(|record| ticket_bytes(record).into_iter().any(|at| record[at] != 0))
 }
 
 /// Makes a book one of document 01 in this respect.
-pub fn clear_later_year(bytes: &mut [u8]) {
+pub fn clear_ticket_bytes(bytes: &mut [u8]) {
     for record in bytes.chunks_exact_mut(Book::RECORD).skip(1) {
-        for at in later_year_bytes(record) {
+        for at in ticket_bytes(record) {
             record[at] = 0;
         }
     }
 }
 
-/// Whether a call orders a run of the later open year of some user of the book.
-pub fn is_for_later_year(call: &Call, bytes: &[u8]) -> bool {
+/// Whether a call is one of a ticket: a charge, or a run of the later open year of some user of the book.
+pub fn is_of_ticket(call: &Call, bytes: &[u8]) -> bool {
     let Call::Advance(number, order) = call else {
-        return false;
+        return matches!(call, Call::Charge(_));
     };
     used_records(bytes).any(|user| {
         let open_year = u16::from_le_bytes([user[24], user[25]]);

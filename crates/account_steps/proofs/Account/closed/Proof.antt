@@ -14,7 +14,7 @@ add-self : tie.Need-add-self
 add-self c = search needs
 
 returns : tie.Need-returns
-returns c = closed-of-parts _ _ _ _ (c .before .before .before .before .before .settle .ensures) (c .before .before .before .before .credit-after .ensures)
+returns c = closed-of-parts _ _ _ _ (c .before .before .before .before .before .before .before .settle .ensures) (c .before .before .before .before .before .before .credit-after .ensures)
 
 pub closed-spec : {M : Type 1} → statement M
 closed-spec = tie.close (tie.spec settle-requires credit-after-requires add-self returns)

@@ -3,17 +3,17 @@ use native.Mathlib.Omega.{arith}
 use denote.Ref.{now}
 use Rattle.account.proofs.Users.{year-fits}
 use borrow.Author.Needs.{needs}
-use Rattle.account.proofs.say_open_years.Statement.{statement}
-use Rattle.account.proofs.say_open_years.Tie as tie
+use Rattle.account.proofs.say_open_payments.Statement.{statement}
+use Rattle.account.proofs.say_open_payments.Tie as tie
 
 open-year-of-requires : tie.Need-open-year-of-requires
 open-year-of-requires c κs = search needs
 
-advances-of-requires : tie.Need-advances-of-requires
-advances-of-requires c κs = search needs
+payments-of-requires : tie.Need-payments-of-requires
+payments-of-requires c κs = search needs
 
-say-advances-of-requires : tie.Need-say-advances-of-requires
-say-advances-of-requires c κs = search needs
+say-payments-of-requires : tie.Need-say-payments-of-requires
+say-payments-of-requires c κs = search needs
 
 returns : tie.Need-returns
 returns c = search needs
@@ -24,24 +24,24 @@ add-later c =
     let s = o .before .before in
     omega (arith, year-fits (now (s .args .book)) (s .pre .0) (s .args .user .0) (s .pre .1) (o .open-year-of .result) (o .open-year-of .ensures))
 
-advances-of-requires-2 : tie.Need-advances-of-requires-2
-advances-of-requires-2 c κs = search needs
+payments-of-requires-2 : tie.Need-payments-of-requires-2
+payments-of-requires-2 c κs = search needs
 
-say-advances-of-requires-2 : tie.Need-say-advances-of-requires-2
-say-advances-of-requires-2 c κs = search needs
+say-payments-of-requires-2 : tie.Need-say-payments-of-requires-2
+say-payments-of-requires-2 c κs = search needs
 
 returns-2 : tie.Need-returns-2
 returns-2 c = search needs
 
-pub say-open-years-spec : {M : Type 1} → statement M
-say-open-years-spec =
+pub say-open-payments-spec : {M : Type 1} → statement M
+say-open-payments-spec =
     tie.close
     (tie.spec
     open-year-of-requires
-    advances-of-requires
-    say-advances-of-requires
+    payments-of-requires
+    say-payments-of-requires
     returns
     add-later
-    advances-of-requires-2
-    say-advances-of-requires-2
+    payments-of-requires-2
+    say-payments-of-requires-2
     returns-2)

@@ -1,0 +1,23 @@
+-- The rest with the charge.
+use mathlib.Core.Path.{ap}
+use Prim.Native.Nat.{_+_}
+use Rattle.units.specs.declared.Ticks.{Ticks}
+use Rattle.account_steps.specs.Charges.{accountCharged, withCharge, chargeIs}
+use borrow.Author.Needs.{needs}
+use Rattle.account_steps.proofs.Account.charged.Statement.{statement}
+use Rattle.account_steps.proofs.Account.charged.Tie as tie
+
+charge-of-requires : tie.Need-charge-of-requires
+charge-of-requires c κs = search needs
+
+add-t5 : tie.Need-add-t5
+add-t5 c = search needs
+
+returns : tie.Need-returns
+unfolding accountCharged
+returns c =
+    let a = c .before .before .before .args .self in
+    ap (λ (t : Ticks). withCharge (chargeIs 1 (a .charge .rest .0 + t .0)) a) (c .before .before .charge-of .ensures .0)
+
+pub charged-spec : {M : Type 1} → statement M
+charged-spec = tie.close (tie.spec charge-of-requires add-t5 returns)

@@ -1,0 +1,16 @@
+-- The rest less what is withheld.
+use Rattle.account_steps.specs.Charges.{accountWithheld}
+use borrow.Author.Needs.{needs}
+use mathlib.Core.Path.{refl}
+use Rattle.account_steps.proofs.Account.withheld.Statement.{statement}
+use Rattle.account_steps.proofs.Account.withheld.Tie as tie
+
+sub-t6 : tie.Need-sub-t6
+sub-t6 c = search needs
+
+returns : tie.Need-returns
+unfolding accountWithheld
+returns c = refl
+
+pub withheld-spec : {M : Type 1} → statement M
+withheld-spec = tie.close (tie.spec sub-t6 returns)

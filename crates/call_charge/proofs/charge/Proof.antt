@@ -1,0 +1,108 @@
+-- By the look at the book, the user found, then the rule of a charge.
+use denote.Ref.{now}
+use Rattle.book_rules.specs.Find.{findUser}
+use Rattle.call_rules.specs.Calls as calls
+use Rattle.call_answers.proofs.Answers.{damaged}
+use Rattle.call_answers.proofs.Rooms.{found-stands}
+use Rattle.call_charge.proofs.Charging.{charge-absent, charge-refused, rest-room, charge-booked}
+use borrow.Author.Needs.{needs}
+use Rattle.call_charge.proofs.charge.Statement.{statement}
+use Rattle.call_charge.proofs.charge.Tie as tie
+
+look-requires : tie.Need-look-requires
+look-requires c κs = search needs
+
+same-length : tie.Need-same-length
+same-length c = search needs
+
+returns : tie.Need-returns
+returns c =
+    let a = c .before .before .before .before .before .before .args in
+    damaged (now (a .book)) (calls.charge (a .number .0)) (findUser (now (a .book)) (a .number .0)) (c .before .before .before .look .ensures) (c .if1 .taken)
+
+refused-requires : tie.Need-refused-requires
+refused-requires c κs = search needs
+
+same-length-2 : tie.Need-same-length-2
+same-length-2 c = search needs
+
+returns-2 : tie.Need-returns-2
+returns-2 c =
+    let a = c .before .before .before .before .before .before .before .before .before .before .args in
+    let looked = c .before .before .before .before .before .before .before .look .ensures in
+    let none = c .before .before .before .before .if1 .left in
+    charge-absent (now (a .book)) (looked .is-sound none) (a .number .0) _ (looked .found none) (c .before .if2 .taken) (c .refused .result) (c .refused .ensures)
+
+account-at-requires : tie.Need-account-at-requires
+account-at-requires c κs =
+    let a = c .before .before .before .before .before .before .before .before .before .before .args in
+    let looked = c .before .before .before .before .before .before .before .look .ensures in
+    let none = c .before .before .before .before .if1 .left in
+    found-stands (now (a .book)) (looked .is-sound none) (a .number .0) _ (looked .found none)
+
+charge-objection-requires : tie.Need-charge-objection-requires
+charge-objection-requires c κs = search needs
+
+refused-requires-2 : tie.Need-refused-requires-2
+refused-requires-2 c κs = search needs
+
+same-length-3 : tie.Need-same-length-3
+same-length-3 c = search needs
+
+returns-3 : tie.Need-returns-3
+returns-3 c =
+    let a = c .before .before .before .before .before .before .before .before .before .before .before .before .before .before .args in
+    let looked = c .before .before .before .before .before .before .before .before .before .before .before .look .ensures in
+    let none = c .before .before .before .before .before .before .before .before .if1 .left in
+    let read = c .before .before .before .account-at in
+    let judged = c .before .before .charge-objection in
+    charge-refused (now (a .book)) (looked .is-sound none) (a .number .0) _ (looked .found none) (c .before .before .before .before .before .if2 .left) (read .result) (read .ensures) (judged .result) (judged .ensures) (c .before .if3 .taken) (c .refused2 .result) (c .refused2 .ensures)
+
+charged-requires : tie.Need-charged-requires
+charged-requires c κs =
+    let t = c in
+    let a = t .before .before .before .before .before .before .before .before .before .before .before .before .before .args in
+    let looked = t .before .before .before .before .before .before .before .before .before .before .look .ensures in
+    let none = t .before .before .before .before .before .before .before .if1 .left in
+    let read = t .before .before .account-at in
+    let judged = t .before .charge-objection in
+    rest-room (now (a .book)) (looked .is-sound none) (a .number .0) _ (looked .found none) (t .before .before .before .before .if2 .left) (read .result) (read .ensures) (judged .result) (judged .ensures) (t .if3 .left)
+
+write-account-requires : tie.Need-write-account-requires
+write-account-requires c κs =
+    let a = c .before .before .before .before .before .before .before .before .before .before .before .before .before .before .before .args in
+    let looked = c .before .before .before .before .before .before .before .before .before .before .before .before .look .ensures in
+    let none = c .before .before .before .before .before .before .before .before .before .if1 .left in
+    found-stands (now (a .book)) (looked .is-sound none) (a .number .0) _ (looked .found none)
+
+same-length-4 : tie.Need-same-length-4
+same-length-4 c = search needs
+
+returns-4 : tie.Need-returns-4
+returns-4 c =
+    let a = c .before .before .before .before .before .before .before .before .before .before .before .before .before .before .before .before .before .before .args in
+    let looked = c .before .before .before .before .before .before .before .before .before .before .before .before .before .before .before .look .ensures in
+    let none = c .before .before .before .before .before .before .before .before .before .before .before .before .if1 .left in
+    let read = c .before .before .before .before .before .before .before .account-at in
+    let judged = c .before .before .before .before .before .before .charge-objection in
+    charge-booked (now (a .book)) (looked .is-sound none) (a .number .0) _ (looked .found none) (c .before .before .before .before .before .before .before .before .before .if2 .left) (read .result) (read .ensures) (judged .result) (judged .ensures) (c .before .before .before .before .before .if3 .left) (c .before .before .before .before .charged .result) (c .before .before .before .before .charged .ensures) _ (c .before .before .write-account .ensures)
+
+pub charge-spec : {M : Type 1} → statement M
+charge-spec =
+    tie.close
+    (tie.spec
+    look-requires
+    same-length
+    returns
+    refused-requires
+    same-length-2
+    returns-2
+    account-at-requires
+    charge-objection-requires
+    refused-requires-2
+    same-length-3
+    returns-3
+    charged-requires
+    write-account-requires
+    same-length-4
+    returns-4)

@@ -1,0 +1,43 @@
+-- The number of the user that is charged.
+use mathlib.Core.Path.{sym, _∙_}
+use native.Mathlib.Omega.{arith}
+use borrow.Author.Needs.{needs}
+use Rattle.replay_script.specs.Orders.{chargeOrder}
+use Rattle.replay_script.proofs.charge_order.Statement.{statement}
+use Rattle.replay_script.proofs.charge_order.Tie as tie
+
+slice-aggregate-numbers-at : tie.Need-slice-aggregate-numbers-at
+slice-aggregate-numbers-at c = search needs
+
+numbers-at-requires : tie.Need-numbers-at-requires
+numbers-at-requires c κs = search needs
+
+array-read-t11 : tie.Need-array-read-t11
+array-read-t11 c = search needs
+
+cast-t12 : tie.Need-cast-t12
+cast-t12 c =
+    let read = c .before .before .numbers-at .ensures in
+    record { fits = omega (arith, read .within (c .if1 .taken) 0 (omega arith)) }
+
+returns : tie.Need-returns
+unfolding chargeOrder
+returns c =
+    let read = c .before .before .numbers-at .ensures in
+    let same = read .same (c .if1 .taken) in
+    rw (same 0 (omega arith), sym (read .fit) ∙ c .if1 .taken)
+
+returns-2 : tie.Need-returns-2
+unfolding chargeOrder
+returns-2 c = rw (sym (c .before .before .numbers-at .ensures .fit) ∙ c .if1 .left)
+
+pub charge-order-spec : {M : Type 1} → statement M
+charge-order-spec =
+    tie.close
+    (tie.spec
+    slice-aggregate-numbers-at
+    numbers-at-requires
+    array-read-t11
+    cast-t12
+    returns
+    returns-2)
