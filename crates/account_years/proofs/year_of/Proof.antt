@@ -1,4 +1,4 @@
--- Field by field.
+-- `year_of` is held to `yearOf`: field by field.
 use Prim.Native.Nat.{_+_}
 use mathlib.Core.Path.{ap}
 use native.Mathlib.Omega.{arith}

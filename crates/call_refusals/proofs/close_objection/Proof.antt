@@ -1,4 +1,4 @@
--- In the order of the call.
+-- `close_objection` is held to `refusedBy`: in the order of the call.
 use Prim.Native.Nat.{ℕ}
 use mathlib.Core.Path.{_≡_, refl, sym, ap, _∙_}
 use mathlib.Core.Bool.{Bool, true, false, cond}

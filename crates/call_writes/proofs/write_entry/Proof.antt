@@ -1,4 +1,4 @@
--- Record by record, as the definition puts them.
+-- `write_entry` is held to `withEntry`: record by record, as the definition puts them.
 use denote.Ref.{now}
 use Rattle.call_writes.proofs.Written.{entry-written}
 use borrow.Author.Needs.{needs}

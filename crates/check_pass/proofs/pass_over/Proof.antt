@@ -1,4 +1,4 @@
--- From the last record down.
+-- `pass_over` is held to `PassedOver`: from the last record down.
 use Prim.Native.Nat.{ℕ, _+_, _-_, _≤_, _<_}
 use mathlib.Core.Path.{_≡_, sym, ap, _∙_}
 use mathlib.Core.Bool.{true, false, _||_, _&&_, false≢true}

@@ -1,4 +1,4 @@
--- Each answer rests on the tests of the words on the way to it, counted from the first.
+-- `book_order` is held to `bookOrder`: each answer rests on the tests of the words on the way to it, counted from the first.
 use mathlib.Core.Path.{sym, _∙_}
 use borrow.Author.Needs.{needs}
 use Rattle.replay_script.specs.Orders.{bookOrder}

@@ -1,4 +1,4 @@
--- The rows of the sheet, month by month.
+-- `cost` is held to `costOf`: the rows of the sheet, month by month.
 use Prim.Native.Nat.{ℕ}
 use mathlib.Core.Path.{ap, _∙_}
 use mathlib.Core.Bool.{true, false}

@@ -1,4 +1,4 @@
--- The rows are filled month by month.
+-- `energies` is held to `EnergyRows`: the rows are filled month by month.
 use Prim.Native.Nat.{_-_, _≤_}
 use mathlib.Core.Path.{_≡_, refl}
 use mathlib.Core.List.{[]}

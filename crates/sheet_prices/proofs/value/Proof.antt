@@ -1,4 +1,4 @@
--- The rows of the sheet, month by month.
+-- `value` is held to `valueOf`: the rows of the sheet, month by month.
 use Prim.Native.Nat.{ℕ}
 use mathlib.Core.Path.{ap, _∙_}
 use denote.Ref.{now}

@@ -1,4 +1,4 @@
--- A running sum of the months.
+-- `year_value` is held to `sumBelow`: a running sum of the months.
 use Prim.Native.Nat.{ℕ, _-_, _*_, _≤_}
 use mathlib.Core.Path.{_≡_, ap, sym, _∙_}
 use mathlib.Core.List.{[]}

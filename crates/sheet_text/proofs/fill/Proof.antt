@@ -1,4 +1,4 @@
--- Month by month.
+-- `fill` is held to `filled`: month by month.
 use Prim.Native.Nat.{ℕ, _-_, _≤_}
 use mathlib.Core.Path.{_≡_, refl, ap, _∙_}
 use native.Mathlib.Omega.{arith}

@@ -1,4 +1,4 @@
--- A running sum of the months.
+-- `monthly_flat_rate` is held to `sumBelow`: a running sum of the months.
 use Prim.Native.Nat.{ℕ, _+_, _-_, _*_, _≤_, _<_}
 use mathlib.Core.Path.{_≡_, ap, sym, _∙_}
 use native.Mathlib.Omega.{arith}
