@@ -13,7 +13,8 @@ ghost use Rattle.units.specs.Units.{ticks};
 ghost use Rattle.units.specs.Limits.{maxYearTicks, maxFlatRate, maxCharge};
 ghost use Rattle.account_steps.specs.Closing.{contributionOf, balanceOf};
 ghost use Rattle.account_steps.specs.Charges.{chargeOf, withheldFrom, withheldAtClosing, accountCharged, accountWithheld};
-ghost use Rattle.account_steps.specs.Account.{balanceBits, outcomeOf, liquidationIn, lapsedIn, creditIn, settlementOf, accountElected, runsIn, advancesIn, accountAdvanced, closedOf, SumsInRange, InRange};
+ghost use Rattle.account_steps.specs.Account.{balanceBits, outcomeOf, liquidationIn, lapsedIn, creditIn, settlementOf};
+ghost use Rattle.account_steps.specs.Account.{accountElected, runsIn, advancesIn, accountAdvanced, closedOf, SumsInRange, InRange};
 
 // The option that pays a year's surplus out ("Book": 0 credit, 1 liquidation).
 const LIQUIDATION: u8 = 1;

@@ -4,7 +4,10 @@ ghost use mathlib.Core.Bool.{true, _&&_};
 ghost use Prim.Native.Nat.{_-_, _*_, _≤_, _<_};
 ghost use lib.Dec.{leb};
 ghost use Rattle.units.specs.Limits.{maxYearTicks};
-ghost use Rattle.book_rules.specs.Book.{lengthFits, detailsFit, openYearFits, halvesOf, isMade, dueIfMade, runsFit, halvesMade, advancesFit, laterHalf, laterFits, chargeFits, paymentsFit, creditFits, halvesFit, accountFits, isRun, levelFrom, bookedFits, advanceFits, balanceFits, paidBalance, withheldFits, closingFits, entryRanges, unnamedOf, entryKind, levelIn, within};
+ghost use Rattle.book_rules.specs.Book.{lengthFits, detailsFit, openYearFits, halvesOf, isMade, dueIfMade, runsFit, halvesMade};
+ghost use Rattle.book_rules.specs.Book.{advancesFit, laterHalf, laterFits, chargeFits, paymentsFit, creditFits, halvesFit};
+ghost use Rattle.book_rules.specs.Book.{accountFits, isRun, levelFrom, bookedFits, advanceFits, balanceFits, paidBalance};
+ghost use Rattle.book_rules.specs.Book.{withheldFits, closingFits, entryRanges, unnamedOf, entryKind, levelIn, within};
 ghost use Rattle.book_layout.specs.Fields.{recordLength, get, kindField, allZero, unnamedOfUser};
 ghost use lib.ListN.{length};
 ghost use Rattle.book_records.specs.Records.{accountIn};
@@ -340,7 +343,8 @@ pub fn user_record_fits(r: &[u8]) -> bool
 
 pub fn entry_record_fits(r: &[u8], owner: &[u8]) -> bool
     requires { ⌜ length (now r) ≡ recordLength ⌝ }
-    ensures { λ s. ⌜ s ≡ (entryRanges (accountIn (now (owner .entry))) (now (r .entry)) && allZero (unnamedOf (get kindField (now (r .entry)))) (now (r .entry))) ⌝ }
+    ensures { λ s. ⌜ s ≡ (entryRanges (accountIn (now (owner .entry))) (now (r .entry))
+        && allZero (unnamedOf (get kindField (now (r .entry)))) (now (r .entry))) ⌝ }
 {
     let r = book_layout::whole(r);
     let activation = book_layout::activation_year_of(owner);

@@ -67,7 +67,8 @@ uncharged a h = eqb-true (a .charge .made) 0 (and-left (eqb (a .charge .made) 0)
 
 pub sheet-passed : (b s : List ℕ) → refusalOf b (close s) ≡ 0 → Passed s
 unfolding testOf rulesOf lookAt namedBy
-sheet-passed b s h = let accepted = fact b (close s) h in record { past11 = not-true (refused11 s) (accepted 11); past13 = (not-true (refused13 s) (accepted 13), not-true (refused19 s) (accepted 19)) }
+sheet-passed b s h =
+    let accepted = fact b (close s) h in record { past11 = not-true (refused11 s) (accepted 11); past13 = (not-true (refused13 s) (accepted 13), not-true (refused19 s) (accepted 19)) }
 
 module _ (b : List ℕ) (g : Good b) where
   fits-at : (i : ℕ) → isUser b i ≡ true → accountFits (accountAt b i) ≡ true

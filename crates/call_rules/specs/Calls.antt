@@ -1,4 +1,5 @@
--- The five calls of document 01 and the charge of ticket 1: their refusal, their answer and the book after them. "A refusal leaves every byte and
+-- The five calls of document 01 and the charge of ticket 1: their refusal, their answer and the book after them. "A refusal
+-- leaves every byte and
 -- answers zeros beside its number, but for the record in 2."
 use Prim.Native.Nat.{ℕ}
 use mathlib.Core.Bool.{cond, not}
@@ -16,7 +17,8 @@ use Rattle.book_records.specs.Entries.{advanceEntry, closingEntry}
 use Rattle.call_rules.specs.Changes.{Change, nothing, opens, sets, enters, applied, newAccount, bookedIn, runAmount}
 use Rattle.book_rules.specs.Find.{findUser}
 use Rattle.call_rules.specs.Rules.{Rule, _unless_, refusedBy}
-use Rattle.call_rules.specs.Refusals.{Look, lookAt, numberFree, present, dayAndOption, electionOpen, runOpen, orderFits, yearOpen, chargeOpen, userAt}
+use Rattle.call_rules.specs.Refusals.{Look, lookAt, numberFree, present, dayAndOption, electionOpen, runOpen, orderFits, yearOpen}
+use Rattle.call_rules.specs.Refusals.{chargeOpen, userAt}
 
 -- the calls and what they bring
 pub data Call : Type 0 where

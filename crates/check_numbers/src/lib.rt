@@ -30,8 +30,8 @@ fn remix(mixed: u32) -> u32
 // As far along the table as the mixed number is along 2^32. The product fits: no place from 2^32 on is a start.
 fn start_of(places: usize, mixed: u32) -> usize
     requires { ⌜ 0 < places ⌝ }
-    ensures { λ r. ⌜ r ≡ startOf places mixed ⌝ }
-    ensures { λ r. ⌜ r < places ⌝ }
+    ensures start { λ r. ⌜ r ≡ startOf places mixed ⌝ }
+    ensures within { λ r. ⌜ r < places ⌝ }
 {
     let starts = if places < WORD { places } else { WORD };
     mixed as usize * starts / WORD
@@ -40,8 +40,8 @@ fn start_of(places: usize, mixed: u32) -> usize
 // After the last place comes the first.
 fn place_after(places: usize, at: usize) -> usize
     requires { ⌜ at < places ⌝ }
-    ensures { λ r. ⌜ r ≡ (at + 1) % places ⌝ }
-    ensures { λ r. ⌜ r < places ⌝ }
+    ensures next { λ r. ⌜ r ≡ (at + 1) % places ⌝ }
+    ensures within { λ r. ⌜ r < places ⌝ }
 {
     if at + 1 < places { at + 1 } else { 0 }
 }

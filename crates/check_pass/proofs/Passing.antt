@@ -62,7 +62,8 @@ first b n false u {states} {seen} t {below} taken-up {records} {expected} {left}
       chains = λ on. absurd (false≢true on);
     }
 
-module _ (b : List ℕ) {n records places left expected found broken : ℕ} {chained : Bool} {states seen : List ℕ} (s : Passing b n records places left expected found broken chained states seen) (index : ℕ)
+module _ (b : List ℕ) {n records places left expected found broken : ℕ} {chained : Bool} {states seen : List ℕ} (s : Passing b n records places left expected found broken chained states seen)
+    (index : ℕ)
     (l : left ≡ index + 1) (lo : 1 ≤ index) where
   -- the record at the index is in the book, whole, and has its place in the states
   pub inside : index < used b
@@ -167,7 +168,8 @@ module _ (b : List ℕ) {n records places left expected found broken : ℕ} {cha
           }
 
 -- what the pass says in the end
-pub passed : (b : List ℕ) {n records places left expected found broken : ℕ} {chained : Bool} {states seen : List ℕ} → Passing b n records places left expected found broken chained states seen → left ≤ 1
+pub passed : (b : List ℕ) {n records places left expected found broken : ℕ} {chained : Bool} {states seen : List ℕ} → Passing b n records places left expected found broken chained states seen
+    → left ≤ 1
     → usedFits b ≡ true → goodHead b ≡ true → PassedOver b n chained record { broken = recordIndex broken; joined = chained && eqb expected 0; user = recordIndex found }
 unfolding goodHead
 passed b {n} {left} {expected} {found} {broken} {chained} s l u g =

@@ -7,7 +7,8 @@ ghost use lib.ListN.{length};
 ghost use Rattle.units.specs.Units.{recordIndex};
 ghost use Rattle.book_layout.specs.Fields.{get, nextField, kindField};
 ghost use Rattle.book_rules.specs.Book.{lengthFits, used, usedFits, goodHead, levelIn, yearsEnded};
-ghost use Rattle.check_pass.specs.InnerSteps.{years, entryDue, yearDue, UserLeads, EntryLeads, StateAfter, lastMet, apartAt, Tables, Resumed, PassedOver, PassedThrough};
+ghost use Rattle.check_pass.specs.InnerSteps.{years, entryDue, yearDue, UserLeads, EntryLeads, StateAfter, lastMet, apartAt, Tables};
+ghost use Rattle.check_pass.specs.InnerSteps.{Resumed, PassedOver, PassedThrough};
 use book_layout::kind::CLOSING;
 use book_layout::kind::USER;
 use book_layout::whole_record;
@@ -149,7 +150,8 @@ fn pass_over(
     requires { ⌜ Tables (used (now book)) chained (now states) (now seen) ⌝ }
     requires { ⌜ (chained ≡ false → Resumed (now book) below) ⌝ }
     ensures said { λ p. ⌜ PassedOver (now (book .entry)) (wanted .0) chained p ⌝ }
-    ensures sizes { λ _. ⌜ (length (now (states .exit)) ≡ length (now (states .entry))) × (length (now (seen .exit)) ≡ length (now (seen .entry))) ⌝ }
+    ensures sizes { λ _. ⌜ (length (now (states .exit)) ≡ length (now (states .entry)))
+        × (length (now (seen .exit)) ≡ length (now (seen .entry))) ⌝ }
 {
     let records = book_view::used(book);
     let mut broken = records;

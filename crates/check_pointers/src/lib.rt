@@ -15,8 +15,9 @@ use units::RecordIndex;
 fn count(counts: &mut [u16; MOST_RECORDS], pointer: RecordIndex)
     requires { ⌜ length (now counts) ≡ mostRecords ⌝ }
     requires { ⌜ ((m : ℕ) → m < mostRecords → getD (now counts) m 0 < 65535) ⌝ }
-    ensures { λ _. ⌜ length (now (counts .exit)) ≡ mostRecords ⌝ }
-    ensures { λ _. ⌜ ((m : ℕ) → m < mostRecords → getD (now (counts .exit)) m 0 ≡ getD (now (counts .entry)) m 0 + hits (pointer .0) m) ⌝ }
+    ensures size { λ _. ⌜ length (now (counts .exit)) ≡ mostRecords ⌝ }
+    ensures counted { λ _. ⌜ ((m : ℕ) → m < mostRecords
+        → getD (now (counts .exit)) m 0 ≡ getD (now (counts .entry)) m 0 + hits (pointer .0) m) ⌝ }
 {
     let to = pointer.0 as usize;
     if to < MOST_RECORDS {

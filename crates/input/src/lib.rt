@@ -1,4 +1,5 @@
-// Standard input as every program reads it, a line at a time or a whole book, and a file by its name. A read that a signal interrupted is made again,
+// Standard input as every program reads it, a line at a time or a whole book, and a file by its name. A read that a signal
+// interrupted is made again,
 // and one that failed is told from the end of the input.
 use libc::EINTR;
 use libc::STDIN_FILENO;
@@ -7,7 +8,8 @@ ghost use mathlib.Core.Path.{_≡_};
 ghost use lib.ListN.{length};
 ghost use Rattle.libc.specs.Io.{Moved};
 ghost use Rattle.input.specs.Input.{roomForLines, roomForBook, Means, ReadOnce, ReadOn, RestRead};
-ghost use Rattle.input.specs.InnerLines.{LineEnd, RestKept, NoFeed, nothingHeld, lineAt, atEnd, LineHeld, LinePassed, LineRead, LineAfter};
+ghost use Rattle.input.specs.InnerLines.{LineEnd, RestKept, NoFeed, nothingHeld, lineAt, atEnd, LineHeld, LinePassed, LineRead};
+ghost use Rattle.input.specs.InnerLines.{LineAfter};
 
 // What a program holds of its lines at once, more than the longest line that is no error.
 const LINES: usize = 262_144;
@@ -185,8 +187,8 @@ fn line_end(s: &[u8], from: usize) -> usize
 // Moves the bytes between two places to the front, and answers how many they are.
 fn keep_rest(held: &mut [u8], from: usize, to: usize) -> usize
     requires { ⌜ (from ≤ to) × (to ≤ length (now held)) ⌝ }
-    ensures { λ r. ⌜ r ≡ to - from ⌝ }
-    ensures { λ _. ⌜ RestKept (now (held .entry)) from to (now (held .exit)) ⌝ }
+    ensures count { λ r. ⌜ r ≡ to - from ⌝ }
+    ensures kept { λ _. ⌜ RestKept (now (held .entry)) from to (now (held .exit)) ⌝ }
 {
     let count = to - from;
     for k in 0..count {

@@ -32,4 +32,5 @@ pub record SameStatement (b b′ : List ℕ) (n : ℕ) : Type 0 where
 abbrev pub OneQueue : Type 0
 OneQueue =
     (b : List ℕ) → lengthFits b ≡ true → (cs : List Call) → AllTyped cs → (n : ℕ)
-    → SameStatement (bookAfterAll (freshBook (length b)) cs) (bookAfterAll (freshBook (length b)) (callsFor n (notFull (freshBook (length b)) cs))) n
+    → SameStatement (bookAfterAll (freshBook (length b)) cs)
+    (bookAfterAll (freshBook (length b)) (callsFor n (notFull (freshBook (length b)) cs))) n

@@ -115,9 +115,9 @@ fn above(reading: WideKwh) -> bool
 fn raised_month(sheet: &[u8], factor: u32, rests: Rests, month: usize) -> Month
     requires { ⌜ (length (now sheet) ≡ sheetLength) × (month < 12) ⌝ }
     requires { ⌜ (factor ≤ maxFactor) × (rests ≡ restsTo factor (now sheet) month) ⌝ }
-    ensures { λ r. ⌜ r .raised ≡ raisedBands factor (now (sheet .entry)) month ⌝ }
-    ensures { λ r. ⌜ r .above ≡ monthAbove factor (now (sheet .entry)) month ⌝ }
-    ensures { λ r. ⌜ r .rests ≡ restsTo factor (now (sheet .entry)) (month + 1) ⌝ }
+    ensures raised { λ r. ⌜ r .raised ≡ raisedBands factor (now (sheet .entry)) month ⌝ }
+    ensures above { λ r. ⌜ r .above ≡ monthAbove factor (now (sheet .entry)) month ⌝ }
+    ensures rests { λ r. ⌜ r .rests ≡ restsTo factor (now (sheet .entry)) (month + 1) ⌝ }
 {
     let raw1 = sheet::number_at(sheet, month, INJECTED);
     let raw2 = sheet::number_at(sheet, month, INJECTED + 1);
@@ -250,8 +250,8 @@ fn write_year(sheet: &mut [u8], months: [Bands; 12])
 
 // Raises the injected readings of a sheet. A refusal leaves the sheet as it was.
 pub fn raise(sheet: &mut [u8], factor: u32) -> Raised
-    ensures { λ r. ⌜ r ≡ answerOf factor (now (sheet .entry)) ⌝ }
-    ensures { λ _. ⌜ now (sheet .exit) ≡ raisedAfter factor (now (sheet .entry)) ⌝ }
+    ensures answer { λ r. ⌜ r ≡ answerOf factor (now (sheet .entry)) ⌝ }
+    ensures after { λ _. ⌜ now (sheet .exit) ≡ raisedAfter factor (now (sheet .entry)) ⌝ }
 {
     let worked = work(sheet, factor);
     let answer = worked.answer;

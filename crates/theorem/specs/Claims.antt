@@ -26,7 +26,8 @@ pub record Claim (ms : List Made) (b : List ℕ) (number : ℕ) : Type 1 where
   pub ledger : Ledger
   pub fed : ledgerOf number ms none ≡ some ledger
   pub statement : (κs : _) (a : _) (r : _) (s : _) → statement-of.Post κs a r s → now (a .0) ≡ b → a .1 .0 .0 ≡ number
-      → (r .reply .refusal ≡ 0) × (r .reply .«record» .0 ≡ 0) × Accounts ledger (valueOf number (ledger .details) ms) (statementIn (r .sums))
+      → (r .reply .refusal ≡ 0) × (r .reply .«record» .0 ≡ 0) × Accounts ledger (valueOf number (ledger .details) ms)
+      (statementIn (r .sums))
   pub charges : ChargesKept b number ledger
 
 abbrev pub ThirdDemand : Type 1

@@ -20,13 +20,19 @@ use Rattle.theorem_ssp.specs.Exported.{Calls, enrols, elects, advances, 
 
 lift-call : (b : List ℕ) (m : Made) (b′ : List ℕ) → Calls b m b′ → beneath.Calls b m b′
 lift-call b m b′ (enrols κs a r s p) =
-    let brought : UserNumber × (Details × (ℕ × Unit {0})) = (userNumber (a .1 .0), (detailsOf (a .1 .1 .0) (a .1 .1 .1 .0) (a .1 .1 .1 .1 .1 .0) (a .1 .1 .1 .1 .1 .1 .0) (a .1 .1 .1 .1 .1 .1 .1 .0) (a .1 .1 .1 .1 .1 .1 .1 .1 .0), (a .1 .1 .1 .1 .0, tt))) in
+    let brought : UserNumber × (Details × (ℕ × Unit {0})) = (
+      userNumber (a .1 .0),
+      (detailsOf (a .1 .1 .0) (a .1 .1 .1 .0) (a .1 .1 .1 .1 .1 .0) (a .1 .1 .1 .1 .1 .1 .0) (a .1 .1 .1 .1 .1 .1 .1 .0) (a .1 .1 .1 .1 .1 .1 .1 .1 .0), (a .1 .1 .1 .1 .0, tt)),
+    ) in
     beneath.enrols κs (a .0, brought) (replyOf (r .refusal) (r .«record»)) (s .0, brought) p
 lift-call b m b′ (elects κs a r s p) =
     let brought : UserNumber × (ℕ × (ℕ × (ℕ × (ℕ × Unit {0})))) = (userNumber (a .1 .0), (a .1 .1 .0, (a .1 .1 .1 .0, (a .1 .1 .1 .1 .0, (a .1 .1 .1 .1 .1 .0, tt))))) in
     beneath.elects κs (a .0, brought) (replyOf (r .refusal) (r .«record»)) (s .0, brought) p
 lift-call b m b′ (advances κs a r s p) =
-    let brought : UserNumber × (ℕ × (ℕ × (Rate × (WideKwh × (WideKwh × Unit {0}))))) = (userNumber (a .1 .0), (a .1 .1 .0, (a .1 .1 .1 .0, (rate (a .1 .1 .1 .1 .0), (wideKwh (a .1 .1 .1 .1 .1 .0), (wideKwh (a .1 .1 .1 .1 .1 .1 .0), tt)))))) in
+    let brought : UserNumber × (ℕ × (ℕ × (Rate × (WideKwh × (WideKwh × Unit {0}))))) = (
+      userNumber (a .1 .0),
+      (a .1 .1 .0, (a .1 .1 .1 .0, (rate (a .1 .1 .1 .1 .0), (wideKwh (a .1 .1 .1 .1 .1 .0), (wideKwh (a .1 .1 .1 .1 .1 .1 .0), tt))))),
+    ) in
     let answer : Advanced = record { reply = replyOf (r .refusal) (r .«record»); ticks = ticks (r .ticks) } in
     beneath.advances κs (a .0, brought) answer (s .0, brought) (p .0, ap ticks (p .1))
 lift-call b m b′ (closes κs a r s p) =

@@ -24,7 +24,8 @@ flat-call b m b′ (beneath.advances κs a r s p) =
     let answer : Advanced = record { refusal = r .reply .refusal; «record» = r .reply .«record» .0; ticks = r .ticks .0 } in
     advances κs (a .0, brought) answer (s .0, brought) (p .0, ap (λ t. t .0) (p .1))
 flat-call b m b′ (beneath.closes κs a r s p) =
-    closes κs a (flatClosed (r .reply .refusal) (r .reply .«record» .0) (r .position) (r .sums)) s (p .0, (p .1 .0, ap (flatClosed (r .reply .refusal) (r .reply .«record» .0) (r .position)) (p .1 .1)))
+    closes κs a (flatClosed (r .reply .refusal) (r .reply .«record» .0) (r .position) (r .sums)) s
+    (p .0, (p .1 .0, ap (flatClosed (r .reply .refusal) (r .reply .«record» .0) (r .position)) (p .1 .1)))
 flat-call b m b′ (beneath.charges κs a r s p) =
     let brought : ℕ × Unit {0} = (a .1 .0 .0, tt) in
     charges κs (a .0, brought) (record { refusal = r .refusal; «record» = r .«record» .0 }) (s .0, brought) p

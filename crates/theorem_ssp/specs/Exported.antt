@@ -25,12 +25,22 @@ use Rattle.ssp.proofs.ssp_statement.Reads as statement-of
 
 -- one call of an exported function: the book before it, what was called and answered, the book after it
 pub data Calls : List ℕ → Made → List ℕ → Type 1 where
-  enrols : (κs : _) (a : _) (r : _) (s : _) → enrol-of.Post κs a r s → Calls (now (a .0)) (made (enrol (a .1 .0) (detailsOf (a .1 .1 .0) (a .1 .1 .1 .0) (a .1 .1 .1 .1 .1 .0) (a .1 .1 .1 .1 .1 .1 .0) (a .1 .1 .1 .1 .1 .1 .1 .0) (a .1 .1 .1 .1 .1 .1 .1 .1 .0)) (a .1 .1 .1 .1 .0)) (r .refusal)) (now (s .0))
-  elects : (κs : _) (a : _) (r : _) (s : _) → elect-of.Post κs a r s → Calls (now (a .0)) (made (elect (a .1 .0) (a .1 .1 .0) (a .1 .1 .1 .0) (a .1 .1 .1 .1 .0) (a .1 .1 .1 .1 .1 .0)) (r .refusal)) (now (s .0))
-  advances : (κs : _) (a : _) (r : _) (s : _) → advance-of.Post κs a r s → Calls (now (a .0)) (made (advance (a .1 .0) (a .1 .1 .0) (a .1 .1 .1 .0) (a .1 .1 .1 .1 .0) (a .1 .1 .1 .1 .1 .0) (a .1 .1 .1 .1 .1 .1 .0)) (r .refusal)) (now (s .0))
-  closes : (κs : _) (a : _) (r : _) (s : _) → close-of.Post κs a r s → Calls (now (a .0)) (made (close (now (a .1 .0))) (r .refusal)) (now (s .0))
-  charges : (κs : _) (a : _) (r : _) (s : _) → charge-of.Post κs a r s → Calls (now (a .0)) (made (charge (a .1 .0)) (r .refusal)) (now (s .0))
-  states : (κs : _) (a : _) (r : _) (s : _) → statement-of.Post κs a r s → Calls (now (a .0)) (made (statement (a .1 .0)) (r .refusal)) (now (a .0))
+  enrols : (κs : _) (a : _) (r : _) (s : _) → enrol-of.Post κs a r s
+      → Calls (now (a .0)) (made (enrol (a .1 .0)
+      (detailsOf (a .1 .1 .0) (a .1 .1 .1 .0) (a .1 .1 .1 .1 .1 .0) (a .1 .1 .1 .1 .1 .1 .0) (a .1 .1 .1 .1 .1 .1 .1 .0)
+      (a .1 .1 .1 .1 .1 .1 .1 .1 .0)) (a .1 .1 .1 .1 .0)) (r .refusal)) (now (s .0))
+  elects : (κs : _) (a : _) (r : _) (s : _) → elect-of.Post κs a r s
+      → Calls (now (a .0)) (made (elect (a .1 .0) (a .1 .1 .0) (a .1 .1 .1 .0) (a .1 .1 .1 .1 .0) (a .1 .1 .1 .1 .1 .0)) (r .refusal))
+      (now (s .0))
+  advances : (κs : _) (a : _) (r : _) (s : _) → advance-of.Post κs a r s
+      → Calls (now (a .0)) (made (advance (a .1 .0) (a .1 .1 .0) (a .1 .1 .1 .0) (a .1 .1 .1 .1 .0) (a .1 .1 .1 .1 .1 .0)
+      (a .1 .1 .1 .1 .1 .1 .0)) (r .refusal)) (now (s .0))
+  closes : (κs : _) (a : _) (r : _) (s : _) → close-of.Post κs a r s
+      → Calls (now (a .0)) (made (close (now (a .1 .0))) (r .refusal)) (now (s .0))
+  charges : (κs : _) (a : _) (r : _) (s : _) → charge-of.Post κs a r s
+      → Calls (now (a .0)) (made (charge (a .1 .0)) (r .refusal)) (now (s .0))
+  states : (κs : _) (a : _) (r : _) (s : _) → statement-of.Post κs a r s
+      → Calls (now (a .0)) (made (statement (a .1 .0)) (r .refusal)) (now (a .0))
 
 -- the statement that an exported answer's fields are
 unfoldable pub statementIn : Sums → Statement

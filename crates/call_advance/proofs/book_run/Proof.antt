@@ -33,7 +33,8 @@ withheld-requires : tie.Need-withheld-requires
 withheld-requires c κs =
     let a = c .before .before .before .before .before .before .before .before .before .args in
     let next = c .before .advanced in
-    within-rest (a .account) (a .year) (a .run) (a .paid) (c .before .before .before .before .before .before .withheld-from .result) (c .before .before .before .before .before .before .withheld-from .ensures) (next .result) (next .ensures)
+    within-rest (a .account) (a .year) (a .run) (a .paid) (c .before .before .before .before .before .before .withheld-from .result)
+    (c .before .before .before .before .before .before .withheld-from .ensures) (next .result) (next .ensures)
 
 write-entry-requires : tie.Need-write-entry-requires
 write-entry-requires c κs =

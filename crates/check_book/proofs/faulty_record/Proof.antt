@@ -17,7 +17,8 @@ use Rattle.book_rules.proofs.Faults.{used-counted}
 use Rattle.book_rules.proofs.RecordKinds.{entry-no-user}
 use Rattle.check_owners.specs.InnerOwners.{NextOwned}
 use Rattle.check_numbers.specs.InnerHeld.{places}
-use Rattle.check_book.proofs.Homes.{home-user, home-other, Homes, homes-sooner, homes-next, Bad, bad-first, bad-here, EntriesMet, entries-none, entry-here, entry-place, entries-next, entries-left, entries-ended, entry-after, ahead, ahead-less, stray-bad, judged}
+use Rattle.check_book.proofs.Homes.{home-user, home-other, Homes, homes-sooner, homes-next, Bad, bad-first, bad-here, EntriesMet, entries-none, entry-here, entry-place, entries-next}
+use Rattle.check_book.proofs.Homes.{entries-left, entries-ended, entry-after, ahead, ahead-less, stray-bad, judged}
 use Rattle.check_book.proofs.SeenNumbers.{Seen, has-number, seen-none, seen-other, seen-new, seen-next}
 use Rattle.check_book.proofs.faulty_record.Statement.{statement}
 use Rattle.check_book.proofs.faulty_record.Tie as tie
@@ -56,7 +57,8 @@ users-holds c =
     ((search needs, (p .from, omega arith)), (bad-first b (s .args .broken) p, ((refl, λ _. seen-none b _), λ j q h. let z : ⊥ = omega arith in absurd z)))
 
 -- the record whose turn it is has its places in the book and in the arrays
-place : (c : tie.In-users Inv-entries μ-entries Inv-users μ-users) → (c .before .users .i < used (now (c .before .before .before .before .before .before .args .book))) × (c .before .users .i < mostRecords)
+place : (c : tie.In-users Inv-entries μ-entries Inv-users μ-users)
+    → (c .before .users .i < used (now (c .before .before .before .before .before .before .args .book))) × (c .before .users .i < mostRecords)
 place c =
     let a = c .before in
     let s = a .before .before .before .before .before in
@@ -137,7 +139,9 @@ e-some e bad t = (eqb-false e 0 (not-true _ (and-left (not (eqb e 0)) (ltb e bad
 
 -- so has the entry that is met
 entry-there : (c : tie.In-entries Inv-entries μ-entries Inv-users μ-users)
-    → ((1 ≤ c .before .entries .e) × (c .before .entries .e < used (now (c .before .before .before .before .before .before .before .before .before .before .before .before .before .before .before .before .before .before .before .args .book)))) × (c .before .entries .e < mostRecords)
+    → ((1 ≤ c .before .entries .e) × (c .before .entries .e < used
+    (now (c .before .before .before .before .before .before .before .before .before .before .before .before .before .before .before .before .before .before .before .args .book)))) ×
+    (c .before .entries .e < mostRecords)
 entry-there c =
     let l = c .before in
     let a = c .before .before .before .before .before .before .before .before .before .before .before .before .before .before in
@@ -180,12 +184,16 @@ element-copy-out-e-2 : tie.Need-element-copy-out-e-2 Inv-entries μ-entries Inv-
 element-copy-out-e-2 c = entry-there (c .before .before) .1
 
 -- the next one is that after it of the same user
-entry-next : (c : tie.In-entries Inv-entries μ-entries Inv-users μ-users) → NextOwned (now (c .before .before .before .before .before .before .before .before .before .before .before .before .before .before .before .before .before .before .before .args .book)) (c .before .before .before .before .before .before .before .before .before .before .before .before .before .before .users .i) (c .before .entries .e + 1) (getD (c .before .before .before .before .before .before .before .before .before .before .before .before .before .before .before .before .by-owner .result .later) (c .before .entries .e) 0)
+entry-next : (c : tie.In-entries Inv-entries μ-entries Inv-users μ-users)
+    → NextOwned (now (c .before .before .before .before .before .before .before .before .before .before .before .before .before .before .before .before .before .before .before .args .book))
+    (c .before .before .before .before .before .before .before .before .before .before .before .before .before .before .users .i) (c .before .entries .e + 1)
+    (getD (c .before .before .before .before .before .before .before .before .before .before .before .before .before .before .before .before .by-owner .result .later) (c .before .entries .e) 0)
 entry-next c =
     let a = c .before .before .before .before .before .before .before .before .before .before .before .before .before .before in
     let l = c .before in
     let some = e-some (l .entries .e) (l .entries .bad) (c .entries-test .taken) .0 in
-    a .before .before .by-owner .ensures .later (a .users .i) (l .entries .e) (place (c .before .before .before .before .before .before .before .before .before .before .before .before .before) .0) (l .entries .inv .1 .here some)
+    a .before .before .by-owner .ensures .later (a .users .i) (l .entries .e) (place (c .before .before .before .before .before .before .before .before .before .before .before .before .before) .0)
+    (l .entries .inv .1 .here some)
 
 entries-less : tie.Need-entries-less Inv-entries μ-entries Inv-users μ-users
 entries-less c =
@@ -258,7 +266,14 @@ users-again c =
     (λ w.
     rw (w .3, w .4, w .5) (
       (search needs, (omega (arith, below), to)),
-      (is, ((before .0, λ all. seen-other b i (user ∙ w .0 .left) (before .1 all)), homes-next b bad i homes (home-other b bad i (user ∙ w .0 .left) (sym (w .1 .ensures) ∙ not-false _ (w .2 .left))))),
+      (
+        is,
+        (
+          (before .0, λ all. seen-other b i (user ∙ w .0 .left) (before .1 all)),
+          homes-next b bad i homes
+              (home-other b bad i (user ∙ w .0 .left) (sym (w .1 .ensures) ∙ not-false _ (w .2 .left))),
+        ),
+      ),
     )))
     (c .if2 .came)
 
@@ -269,7 +284,8 @@ returns c =
     let inv = a .users .inv in
     let records = a .before .used .ensures in
     let to = inv .1 .0 .to in
-    judged (now (a .before .before .before .before .before .args .book)) (a .users .bad) (a .users .i) (omega (arith, inv .0 .1 .0, to)) (omega (arith, to, records, c .users-test .left)) (inv .1 .0) (inv .1 .1 .1)
+    judged (now (a .before .before .before .before .before .args .book)) (a .users .bad) (a .users .i) (omega (arith, inv .0 .1 .0, to)) (omega (arith, to, records, c .users-test .left)) (inv .1 .0)
+    (inv .1 .1 .1)
 
 returns-2 : tie.Need-returns-2 Inv-entries μ-entries Inv-users μ-users
 returns-2 c =

@@ -30,8 +30,16 @@ returns c =
     record { broken = said .ended (λ _. c .if1 .taken ∙ c .before .before .before .before .before .before .before .before .before .before .used .ensures); whole = said .whole }
 
 -- it was left before the last record of the book
-before-the-end : (c : tie.Else1) → c .before .before .before .before .before .before .before .pass-over .result .broken .0 < used (now (c .before .before .before .before .before .before .before .before .before .before .before .before .before .before .args .book))
-before-the-end c = let some = c .if1 .left in omega (arith, c .before .before .before .before .before .before .before .pass-over .ensures .0 .to, c .before .before .before .before .before .before .before .before .before .before .used .ensures, some)
+before-the-end : (c : tie.Else1)
+    → c .before .before .before .before .before .before .before .pass-over .result .broken .0 < used
+    (now (c .before .before .before .before .before .before .before .before .before .before .before .before .before .before .args .book))
+before-the-end c =
+    let some = c .if1 .left in omega (
+      arith,
+      c .before .before .before .before .before .before .before .pass-over .ensures .0 .to,
+      c .before .before .before .before .before .before .before .before .before .before .used .ensures,
+      some,
+    )
 
 add-pass-over : tie.Need-add-pass-over
 add-pass-over c =

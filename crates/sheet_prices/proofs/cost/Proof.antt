@@ -30,7 +30,8 @@ year-value-requires : tie.Need-year-value-requires
 year-value-requires c κs =
     let start = c .before .before .before .before in
     let a = start .args in
-    rows-fit (now (a .s)) (start .pre) 0 (lit≤ tt) (eqb (c .before .before .withdrawn-reading .result) 1) true false (c .before .energies .result) (c .prices .result) (c .before .energies .ensures) (c .prices .ensures)
+    rows-fit (now (a .s)) (start .pre) 0 (lit≤ tt) (eqb (c .before .before .withdrawn-reading .result) 1) true false (c .before .energies .result) (c .prices .result) (c .before .energies .ensures)
+    (c .prices .ensures)
 
 returns : tie.Need-returns
 returns c =

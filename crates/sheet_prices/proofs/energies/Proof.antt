@@ -40,8 +40,14 @@ loop-less c = search needs
 loop-again : tie.Need-loop-again Inv-loop μ-loop
 loop-again c =
     let l = c .before .before .loop in
-    let a = c .before .before .before .before .args in
-    (search needs, (simp length-set (l .inv .1 .0), filled-next [] (energyRow (now (a .s)) (a .place)) (l .month) (l .rows) (c .energy-row .result) (omega arith) (c .energy-row .ensures) (l .inv .1 .1)))
+    let a = c .before .before .before .before .args in (
+      search needs,
+      (
+        simp length-set (l .inv .1 .0),
+        filled-next [] (energyRow (now (a .s)) (a .place)) (l .month) (l .rows) (c .energy-row .result) (omega arith) (c .energy-row .ensures)
+            (l .inv .1 .1),
+      ),
+    )
 
 returns : tie.Need-returns Inv-loop μ-loop
 returns c =

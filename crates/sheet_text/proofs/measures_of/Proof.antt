@@ -8,7 +8,8 @@ use denote.Ref.{now}
 use lib.ListN.{drop}
 use Rattle.sheet_text.specs.Lines.{months, fromLine, kwhIn}
 use Rattle.sheet_text.specs.Reading.{aboveIn}
-use Rattle.sheet_text.proofs.Reading.{NoneRefused, none-refused, line-first, Numbers, wrong-refused, above-refused, line-taken, end-taken, taken, line-judged, line-number, line-place, line-rest, end-judged, numbers-more, number-within, refused-told}
+use Rattle.sheet_text.proofs.Reading.{NoneRefused, none-refused, line-first, Numbers, wrong-refused, above-refused, line-taken, end-taken, taken, line-judged, line-number, line-place}
+use Rattle.sheet_text.proofs.Reading.{line-rest, end-judged, numbers-more, number-within, refused-told}
 use Rattle.sheet_text.proofs.Above.{found-place, none-found}
 use Rattle.sheet_text.proofs.measures_of.Statement.{statement}
 use Rattle.sheet_text.proofs.measures_of.Tie as tie

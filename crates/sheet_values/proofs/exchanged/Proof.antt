@@ -51,8 +51,14 @@ loop-less c = search needs
 loop-again : tie.Need-loop-again Inv-loop μ-loop
 loop-again c =
     let l = c .before .before .before .before .loop in
-    let a = c .before .before .before .before .before .args in
-    (search needs, (simp length-set (l .inv .1 .0), filled-next (kwh 0) (λ m. kwh (min (energyAt m (a .t1)) (energyAt m (a .t2)))) (l .month) (l .months) (c .smaller .result) (omega arith) (ap kwh (c .smaller .ensures)) (l .inv .1 .1)))
+    let a = c .before .before .before .before .before .args in (
+      search needs,
+      (
+        simp length-set (l .inv .1 .0),
+        filled-next (kwh 0) (λ m. kwh (min (energyAt m (a .t1)) (energyAt m (a .t2)))) (l .month) (l .months) (c .smaller .result) (omega arith)
+            (ap kwh (c .smaller .ensures)) (l .inv .1 .1),
+      ),
+    )
 
 returns : tie.Need-returns Inv-loop μ-loop
 returns c =

@@ -85,8 +85,14 @@ loop-again c =
     let s = now (a .s) in
     let months = start .pre .1 .1 .0 in
     let part = c .before .month-flat-rate .ensures in
-    let small = within c in
-    (search needs, (omega arith, sum-next (l .i) (λ j. monthFlatRate s (a .plant) (a .power) (a .from + j)) (l .inv .1 .1) (month-flat s (a .t4) (a .t5) (a .plant) (a .power) m (c .before .month-flat-rate .result .0) inside (months .0) (months .1) (part .0))))
+    let small = within c in (
+      search needs,
+      (
+        omega arith,
+        sum-next (l .i) (λ j. monthFlatRate s (a .plant) (a .power) (a .from + j)) (l .inv .1 .1)
+            (month-flat s (a .t4) (a .t5) (a .plant) (a .power) m (c .before .month-flat-rate .result .0) inside (months .0) (months .1) (part .0)),
+      ),
+    )
 
 returns : tie.Need-returns Inv-loop μ-loop
 returns c =

@@ -66,8 +66,14 @@ loop-again c =
     let value = c .before .value .given .0 .0 in
     let after = c .before .value .given .0 .1 .0 in
     let read = sym (field .ensures .0) ∙ c .before .value .given .1 in
-    let place = l .inv .1 .0 .1 in
-    ((search needs, simp length-set (l .inv .0 .1)), ((λ h. rw (c .before .value .given .1) at (field .ensures .1), field-more s (a .at) (l .k) (l .next) value after place read), each-more s (a .at) (l .k) (l .next) value after place read (l .values) (search needs) (l .inv .1 .1)))
+    let place = l .inv .1 .0 .1 in (
+      (search needs, simp length-set (l .inv .0 .1)),
+      (
+        (λ h. rw (c .before .value .given .1) at (field .ensures .1), field-more s (a .at) (l .k) (l .next) value after place read),
+        each-more s (a .at)
+            (l .k) (l .next) value after place read (l .values) (search needs) (l .inv .1 .1),
+      ),
+    )
 
 returns-2 : tie.Need-returns-2 Inv-loop μ-loop
 returns-2 c =

@@ -77,8 +77,14 @@ loop-again c =
     let a = c .before .before .before .before .before .before .before .before .args in
     let turn = hex-turn (drop (a .at) (now (a .s))) (length (now (a .out))) (l .inv .0 .1 .0) (now (a .s)) (a .at) (l .k) refl (omega arith) in
     let byte = c .hex-byte .ensures ∙ hex-byte-at (now (a .s)) (a .at) (2 * l .k) in
-    let bytes = hexByte (drop (a .at) (now (a .s))) in
-    (((search needs, simp length-set (l .inv .0 .0 .1)), l .inv .0 .1), (filled-next 0 (λ i. bytes (2 * i)) (l .k) (l .out) (c .hex-byte .result) (omega (arith, turn .0 .1, l .inv .0 .0 .1)) byte (l .inv .1 .0), λ i m. getD-set-other (l .out) (l .k) i (c .hex-byte .result) 0 (λ e. omega arith) ∙ l .inv .1 .1 i (omega arith)))
+    let bytes = hexByte (drop (a .at) (now (a .s))) in (
+      ((search needs, simp length-set (l .inv .0 .0 .1)), l .inv .0 .1),
+      (
+        filled-next 0 (λ i. bytes (2 * i)) (l .k) (l .out) (c .hex-byte .result) (omega (arith, turn .0 .1, l .inv .0 .0 .1)) byte (l .inv .1 .0),
+        λ i m. getD-set-other (l .out) (l .k) i
+            (c .hex-byte .result) 0 (λ e. omega arith) ∙ l .inv .1 .1 i (omega arith),
+      ),
+    )
 
 same-length : tie.Need-same-length Inv-loop μ-loop
 same-length c = c .before .loop .inv .0 .0 .1
