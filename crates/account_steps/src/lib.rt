@@ -3,6 +3,7 @@
 use sheet_values::Details;
 use sheet_values::YearValues;
 use units::Kwh;
+use units::MAX_CHARGE;
 use units::Ticks;
 use units::UserNumber;
 ghost use mathlib.Core.Path.{_≡_};
@@ -184,7 +185,7 @@ pub fn charge_of(power: u32) -> Ticks
     if power <= MIDDLE_POWER {
         Ticks(3_000_000)
     } else {
-        Ticks(4_500_000)
+        Ticks(MAX_CHARGE)
     }
 }
 

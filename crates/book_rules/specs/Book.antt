@@ -5,7 +5,8 @@ use mathlib.Core.Bool.{Bool, false, cond, not, _&&_, _||_}
 use mathlib.Core.List.{List, [], _∷_}
 use lib.Dec.{leb, ltb, eqb}
 use lib.ListN.{length, replicate}
-use Rattle.units.specs.Limits.{maxYearTicks, maxFlatRate, maxContribution, maxCharge, maxHalfTicks, maxHalfKwh, maxPower, firstActivation}
+use Rattle.units.specs.Limits.{recordLength, maxYearTicks, maxFlatRate, maxContribution, maxCharge, maxHalfTicks, maxHalfKwh, maxPower}
+use Rattle.units.specs.Limits.{firstActivation}
 use Rattle.units.specs.Limits.{lastActivation, lastOpenYear}
 use Rattle.units.specs.Folds.{sumBelow, anyBelow, firstBelow}
 use Rattle.calendar.specs.declared.Halves.{Halves}
@@ -13,7 +14,7 @@ use Rattle.calendar.specs.ElectionAndAdvances.{june, october, january, halvesPa
 use Rattle.sheet_values.specs.declared.Details.{Details}
 use Rattle.account_steps.specs.declared.Account.{Account}
 use Rattle.book_layout.specs.Fields.{Field, get, allZero, unnamedOfHead, unnamedOfUser, unnamedOfAdvance, unnamedOfClosing, recordAt}
-use Rattle.book_layout.specs.Fields.{capacity, recordLength, usedField, firstUserField, nextField, kindField, userKind, numberField}
+use Rattle.book_layout.specs.Fields.{capacity, usedField, firstUserField, nextField, kindField, userKind, numberField}
 use Rattle.book_layout.specs.Fields.{firstEntryField, activationYearField, openYearField, advanceKind, closingKind, yearField, bookedField}
 use Rattle.book_layout.specs.Fields.{ownerField}
 use Rattle.book_records.specs.declared.AdvanceRecord.{AdvanceRecord}

@@ -15,13 +15,14 @@ ghost use Rattle.units.specs.Limits.{lastActivation};
 ghost use lib.Dec.{leb};
 ghost use Rattle.call_rules.specs.Calls.{enrol, elect, advance, charge, sheetRules, rulesOf};
 use account_steps::Account;
-use book_rules::LAST_ACTIVATION;
-use book_rules::LAST_OPEN_YEAR;
-use book_rules::MAX_HALF_KWH;
 use calendar::Halves;
 use sheet::Objection;
 use sheet_values::Details;
+use units::LAST_ACTIVATION;
+use units::LAST_OPEN_YEAR;
+use units::MAX_HALF_KWH;
 use units::MAX_PRICE;
+use units::RECORD_LENGTH;
 use units::Rate;
 use units::RecordIndex;
 use units::UserNumber;
@@ -41,7 +42,7 @@ fn refuse(fits: bool, number: u32, later: u32) -> u32
 pub fn has_room(book: &[u8]) -> bool
     ensures { λ r. ⌜ r ≡ hasRoom (now (book .entry)) ⌝ }
 {
-    !(book_view::used(book) as usize == book.len() / 80)
+    !(book_view::used(book) as usize == book.len() / RECORD_LENGTH)
 }
 
 fn day_and_option(option: u8, year: u32, month: u32, day: u32) -> bool

@@ -1,6 +1,5 @@
 -- The five calls of document 01 and the charge of ticket 1: their refusal, their answer and the book after them. "A refusal
--- leaves every byte and
--- answers zeros beside its number, but for the record in 2."
+-- leaves every byte and answers zeros beside its number, but for the record in 2."
 use Prim.Native.Nat.{ℕ}
 use mathlib.Core.Bool.{cond, not}
 use mathlib.Core.List.{List, [], _∷_}

@@ -9,9 +9,10 @@ use native.Mathlib.Omega.{arith}
 use borrow.Author.Tests.{eqb-true}
 use lib.Dec.{eqb}
 use lib.ListN.{length, getD, set, length-set}
+use Rattle.units.specs.Limits.{recordLength}
 use Rattle.units.specs.Units.{recordIndex}
 use Rattle.units.proofs.Bools.{and-left, and-right}
-use Rattle.book_layout.specs.Fields.{recordLength, get, allZero, unnamedOfHead, recordAt, kindField, numberField, nextField, ownerField, userKind}
+use Rattle.book_layout.specs.Fields.{get, allZero, unnamedOfHead, recordAt, kindField, numberField, nextField, ownerField, userKind}
 use Rattle.book_layout.proofs.Places.{length-record}
 use Rattle.book_rules.specs.Book.{used, usedFits, firstUser, isUser, ownRulesFit, goodRecord, goodHead}
 use Rattle.book_rules.proofs.Faults.{used-within, used-whole}

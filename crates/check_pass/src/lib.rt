@@ -12,8 +12,8 @@ ghost use Rattle.check_pass.specs.InnerSteps.{Resumed, PassedOver, Passe
 use book_layout::kind::CLOSING;
 use book_layout::kind::USER;
 use book_layout::whole_record;
-use book_rules::MOST_RECORDS;
 use check_numbers::PLACES;
+use units::MOST_RECORDS;
 use units::RecordIndex;
 use units::UserNumber;
 

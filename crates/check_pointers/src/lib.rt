@@ -8,7 +8,7 @@ ghost use lib.ListN.{getD, length};
 ghost use Rattle.units.specs.Limits.{mostRecords};
 ghost use Rattle.book_rules.specs.Book.{hits, pointersTo, used, usedFits};
 use book_layout::kind::USER;
-use book_rules::MOST_RECORDS;
+use units::MOST_RECORDS;
 use units::RecordIndex;
 
 // Counts a pointer at the record that it leads to. One that leads past the records of any book is not counted.

@@ -1,6 +1,6 @@
 // Standard input as every program reads it, a line at a time or a whole book, and a file by its name. A read that a signal
-// interrupted is made again,
-// and one that failed is told from the end of the input.
+// interrupted is made again, and one that failed is told from the end of the input.
+use book_rules::LONGEST;
 use libc::EINTR;
 use libc::STDIN_FILENO;
 ghost use Prim.Native.Nat.{_-_, _≤_, _<_};
@@ -16,7 +16,7 @@ const LINES: usize = 262_144;
 
 // A byte more than the longest book has: input that fills it is longer than any book, and has a length that is refused
 // with 1.
-const BOOK: usize = 64_001;
+pub const BOOK: usize = LONGEST + 1;
 
 // What the answer of one read means.
 enum Got {

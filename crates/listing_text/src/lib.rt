@@ -10,8 +10,8 @@ ghost use Rattle.listing_text.specs.Listing.{lines, refused, listing};
 ghost use Rattle.listing_text.specs.InnerWritten.{longestField, longestLine, longestRefusal, longestText, field, accountLine};
 ghost use Rattle.listing_text.specs.InnerWritten.{ListingAnswered};
 use account_steps::Account;
-use book_rules::MOST_RECORDS;
 use check_book::Verdict;
+use units::MOST_RECORDS;
 
 // The longest listing: of each user three numbers of at most twenty digits, each with a byte after it.
 const MOST_USERS: usize = MOST_RECORDS - 1;

@@ -7,7 +7,7 @@ ghost use lib.IntN.{_+ℤ_};
 ghost use lib.Signed.{mag};
 ghost use mir.Syntax.{w64};
 ghost use mir.Val.{toZ};
-ghost use Rattle.book_layout.specs.Fields.{recordLength};
+ghost use Rattle.units.specs.Limits.{recordLength};
 ghost use Rattle.account_steps.specs.Account.{balanceBits};
 ghost use Rattle.book_rules.specs.Book.{lengthFits, sound, isUser, isEntry, kindAt};
 ghost use Rattle.chains.specs.Statements.{statementAt};
