@@ -20,8 +20,7 @@ use Rattle.book_rules.specs.Find.{findUser}
 use Rattle.call_rules.specs.Rules.{testOf}
 use Rattle.call_rules.specs.Refusals.{lookAt, userAt, dayAndOption, yearOpen, chargeOpen}
 use Rattle.call_rules.specs.Changes.{newAccount}
-use Rattle.call_rules.specs.Calls.{Call, enrol, elect, advance, close, statement, charge, namedBy, rulesOf, refusalOf, changeOf}
-use Rattle.call_rules.specs.Typed.{Typed}
+use Rattle.call_rules.specs.Calls.{Call, enrol, elect, advance, close, statement, charge, namedBy, rulesOf, refusalOf, changeOf, Typed}
 use Rattle.call_rules.proofs.Orders.{fact}
 use Rattle.call_keeps.proofs.Good.{Good, room}
 use Rattle.call_keeps.proofs.Numbers.{Found, found, none-found}

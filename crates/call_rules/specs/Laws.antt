@@ -6,8 +6,7 @@ use mathlib.Core.Bool.{true}
 use mathlib.Core.List.{List}
 use lib.ListN.{getD}
 use Rattle.book_rules.specs.Book.{sound}
-use Rattle.call_rules.specs.Calls.{Call, refusalOf, bookAfter}
-use Rattle.call_rules.specs.Typed.{Typed}
+use Rattle.call_rules.specs.Calls.{Call, refusalOf, bookAfter, Typed}
 
 abbrev pub KeepsSound : Type 0
 KeepsSound =

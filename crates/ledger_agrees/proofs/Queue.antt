@@ -18,8 +18,7 @@ use Rattle.book_rules.specs.Book.{freshBook, used, detailsFit, accountAt}
 use Rattle.book_rules.specs.Find.{findUser}
 use Rattle.call_rules.specs.Rules.{refusedBy, testOf}
 use Rattle.call_rules.specs.Refusals.{Look, lookAt, hasRoom, dayAndOption, electionOpen, runOpen, orderFits, yearOpen, chargeOpen}
-use Rattle.call_rules.specs.Calls.{Call, enrol, elect, advance, close, statement, charge, namedBy, rulesOf, refusalOf, bookAfter}
-use Rattle.call_rules.specs.Typed.{Typed, AllTyped}
+use Rattle.call_rules.specs.Calls.{Call, enrol, elect, advance, close, statement, charge, namedBy, rulesOf, refusalOf, bookAfter, Typed, AllTyped}
 use Rattle.call_rules.proofs.Orders.{fact}
 use Rattle.call_keeps.proofs.Good.{Good, good-sound, sizes, room}
 use Rattle.call_keeps.proofs.CallsFit.{named-user}

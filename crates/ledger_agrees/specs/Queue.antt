@@ -10,8 +10,7 @@ use lib.ListN.{length}
 use Rattle.book_rules.specs.Book.{lengthFits, freshBook}
 use Rattle.book_rules.specs.Find.{findUser}
 use Rattle.chains.specs.Statements.{statementAt}
-use Rattle.call_rules.specs.Calls.{Call, statement, namedBy, refusalOf, bookAfter}
-use Rattle.call_rules.specs.Typed.{AllTyped}
+use Rattle.call_rules.specs.Calls.{Call, statement, namedBy, refusalOf, bookAfter, AllTyped}
 use Rattle.ledger_agrees.specs.Lists.{bookAfterAll}
 
 -- the calls of one number, in their order

@@ -30,7 +30,7 @@ use Rattle.book_rules.specs.Book.{entryKind, entryRanges, unnamedOf, levelIn}
 use Rattle.call_rules.specs.Changes.{newAccount, enrolledAs, withAccount, withEntry, applied, bookedIn, runAmount}
 use Rattle.book_records.specs.Entries.{entryImage}
 use Rattle.book_rules.specs.Find.{findBelow, findUser}
-use Rattle.call_rules.specs.Calls.{Call, enrol, elect, advance, close, charge, namedBy, rulesOf, refusalOf, changeOf, booked, bookAfter}
+use Rattle.call_rules.specs.Calls.{Call, enrol, elect, advance, close, charge, namedBy, rulesOf, refusalOf, changeOf, booked, bookAfter, Typed, AllTyped}
 use Rattle.call_rules.specs.Rules.{refusedBy}
 use Rattle.call_rules.specs.Refusals.{lookAt, hasRoom, dayAndOption, electionOpen, chargeOpen, isOpen, runOpen, orderFits, yearOpen}
 use Rattle.sheet_values.specs.declared.Details.{Details}
@@ -38,11 +38,10 @@ use Rattle.check_book.specs.Verdicts.{freshAnswer, freshAfter}
 use Rattle.book_layout.proofs.ByteRanges.{Bytes}
 use Rattle.ledger_agrees.specs.Lists.{Made, made, Runs, madeOf, bookAfterAll}
 use Rattle.ledger_agrees.specs.Fed.{here}
-use Rattle.call_rules.specs.Typed.{Typed, AllTyped}
 use Rattle.theorem.specs.Runs.{Calls}
 use Rattle.theorem.specs.Claims.{Claim}
 use Rattle.theorem.proofs.Theorem.{third-demand}
-use Rattle.theorem.proofs.Possible.{possible, lent}
+use Rattle.theorem.proofs.Steps.{possible, lent}
 
 abbrev pub details : Details
 details = record { class = 1; plant = 1; power = 3000; year = 2013; month = 1; island = 0 }

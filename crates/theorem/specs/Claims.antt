@@ -11,8 +11,7 @@ use denote.Ref.{now}
 use Rattle.ledger.specs.Ledger.{Ledger}
 use Rattle.ledger.specs.Accounting.{Accounts}
 use Rattle.statements.specs.InnerWalk.{statementIn}
-use Rattle.call_rules.specs.Calls.{Call}
-use Rattle.call_rules.specs.Typed.{AllTyped}
+use Rattle.call_rules.specs.Calls.{Call, AllTyped}
 use Rattle.call_statement.proofs.statement.Reads as statement-of
 use Rattle.check_book.proofs.fresh.Reads as fresh-of
 use Rattle.ledger_agrees.specs.Lists.{Made, callsOf, Runs}

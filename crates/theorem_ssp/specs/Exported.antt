@@ -8,8 +8,7 @@ use mathlib.Core.Option.{none, some}
 use denote.Ref.{now}
 use Rattle.ledger.specs.Ledger.{Ledger, Statement}
 use Rattle.ledger.specs.Accounting.{Accounts}
-use Rattle.call_rules.specs.Calls.{Call, enrol, elect, advance, close, statement, charge}
-use Rattle.call_rules.specs.Typed.{AllTyped}
+use Rattle.call_rules.specs.Calls.{Call, enrol, elect, advance, close, statement, charge, AllTyped}
 use Rattle.ledger_agrees.specs.Lists.{Made, made, callsOf, Runs}
 use Rattle.ledger_agrees.specs.Charged.{ChargesKept}
 use Rattle.ledger_agrees.specs.Fed.{ledgerOf, valueOf, Enrols, NoneDamaged}
