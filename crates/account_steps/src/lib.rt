@@ -172,17 +172,17 @@ pub fn credit_after(outcome: Outcome) -> Ticks
 }
 
 // "15 € up to 3 kW, 30 € up to 20 kW and 45 € above", in watts and ticks.
-const SMALL_POWER: u32 = 3_000;
+const LOW_CHARGE_POWER: u32 = 3_000;
 
-const MIDDLE_POWER: u32 = 20_000;
+const MIDDLE_CHARGE_POWER: u32 = 20_000;
 
 pub fn charge_of(power: u32) -> Ticks
     ensures { λ r. ⌜ (r ≡ ticks (chargeOf power)) × (r .0 ≤ maxCharge) ⌝ }
 {
-    if power <= SMALL_POWER {
+    if power <= LOW_CHARGE_POWER {
         return Ticks(1_500_000);
     }
-    if power <= MIDDLE_POWER {
+    if power <= MIDDLE_CHARGE_POWER {
         Ticks(3_000_000)
     } else {
         Ticks(MAX_CHARGE)

@@ -18,7 +18,7 @@ use units::RecordIndex;
 use units::Ticks;
 
 // The last year that the bytes of an entry can name.
-pub const LAST_YEAR: u16 = 65_535;
+pub const LAST_NAMED_YEAR: u16 = 65_535;
 
 // What entries pay: the advances among them, what was withheld from all of them, and what was paid out.
 pub struct Payments {
@@ -196,7 +196,7 @@ pub fn charges_of(book: &[u8], user: RecordIndex) -> Charges
     ensures { λ r. ⌜ r ≡ chargesOf (now (book .entry)) (user .0) ⌝ }
 {
     let account = book_view::account_at(book, user);
-    let payments = payments_of(book, user, 0, LAST_YEAR);
+    let payments = payments_of(book, user, 0, LAST_NAMED_YEAR);
     let withheld = payments.withheld;
     let charge = account.charge;
     let rest = charge.rest;
