@@ -115,7 +115,7 @@ is-new-requires c κs =
     let a = c .before .before .before .before .before .before .before .before in
     let b = now (a .before .before .before .before .before .args .book) in
     let number = ap (λ (n : UserNumber). n .0) (c .before .before .before .number-of .ensures) in
-    seen-new b (a .users .i) (a .users .all-seen) (c .before .insert .result) (a .users .inv .seen) number (c .before .insert .ensures .1)
+    seen-new b (a .users .i) (a .users .all-seen) (c .before .insert .result) (a .users .inv .seen) number (c .before .insert .ensures .inserted)
 
 cast-good-record : tie.Need-cast-good-record Inv-entries μ-entries Inv-users μ-users
 cast-good-record c = search needs
@@ -261,8 +261,8 @@ users-again c =
       before = omega (arith, below);
       most = to;
       is = is;
-      long = w .3 .ensures .0 ∙ a .users .inv .long;
-      seen = seen-next b i (a .users .all-seen) (w .3 .result) (a .users .inv .seen) number (w .3 .ensures .1);
+      long = w .3 .ensures .size ∙ a .users .inv .long;
+      seen = seen-next b i (a .users .all-seen) (w .3 .result) (a .users .inv .seen) number (w .3 .ensures .inserted);
       homes = homes-next b bad i homes here;
     }))
     (⊎-elim
@@ -280,8 +280,8 @@ users-again c =
       before = omega (arith, behind);
       most = omega (arith, to, test .1);
       is = bad-here b e (inside .0) (inside .1) (sym (w .11 .ensures) ∙ not-true _ (w .12 .taken));
-      long = w .3 .ensures .0 ∙ a .users .inv .long;
-      seen = seen-next b i (a .users .all-seen) (w .3 .result) (a .users .inv .seen) number (w .3 .ensures .1);
+      long = w .3 .ensures .size ∙ a .users .inv .long;
+      seen = seen-next b i (a .users .all-seen) (w .3 .result) (a .users .inv .seen) number (w .3 .ensures .inserted);
       homes = homes-next b e i (homes-sooner b bad e i (omega (arith, test .1)) homes) here;
     }))
     (λ w.

@@ -44,8 +44,8 @@ loop-holds c =
     let b = now (s .args .book) in record {
       from = omega arith;
       within = omega (arith, used-within b (s .pre .1) .0, u .used .ensures);
-      long = c .count .ensures .0;
-      counted = λ m h. counted-head b m (c .before .first-user .ensures) (getD-replicate mostRecords m 0 0 h) (c .count .ensures .1 m h);
+      long = c .count .ensures .size;
+      counted = λ m h. counted-head b m (c .before .first-user .ensures) (getD-replicate mostRecords m 0 0 h) (c .count .ensures .counted m h);
     }
 
 cast-whole-record : tie.Need-cast-whole-record Inv-loop μ-loop
@@ -84,7 +84,7 @@ count-requires-3 c κs =
     let n = c .before .before in
     let t = n .before .before .before .before .before .before in
     let e = n .count2 .ensures in
-    (e .0, λ m h. omega (arith, e .1 m h, hits-at-most (n .before .next-of .result .0) m, room t m h))
+    (e .size, λ m h. omega (arith, e .counted m h, hits-at-most (n .before .next-of .result .0) m, room t m h))
 
 is-entry-kind-requires : tie.Need-is-entry-kind-requires Inv-loop μ-loop
 is-entry-kind-requires c κs = search needs
@@ -118,16 +118,16 @@ loop-again c =
     rw (w .7) (record {
       from = search needs;
       within = search needs;
-      long = w .6 .ensures .0;
-      counted = λ m h. counted-user b m j (inv .from) whole kind (inv .counted m h) (w .0 .taken) (w .2 .ensures) (w .5 .ensures) (w .3 .ensures .1 m h) (w .6 .ensures .1 m h);
+      long = w .6 .ensures .size;
+      counted = λ m h. counted-user b m j (inv .from) whole kind (inv .counted m h) (w .0 .taken) (w .2 .ensures) (w .5 .ensures) (w .3 .ensures .counted m h) (w .6 .ensures .counted m h);
     }))
     (⊎-elim
     (λ w.
     rw (w .6) (record {
       from = search needs;
       within = search needs;
-      long = w .5 .ensures .0;
-      counted = λ m h. counted-entry b m j (inv .from) whole kind (inv .counted m h) (w .0 .left) (w .1 .ensures) (w .2 .taken) (w .4 .ensures) (w .5 .ensures .1 m h);
+      long = w .5 .ensures .size;
+      counted = λ m h. counted-entry b m j (inv .from) whole kind (inv .counted m h) (w .0 .left) (w .1 .ensures) (w .2 .taken) (w .4 .ensures) (w .5 .ensures .counted m h);
     }))
     (λ w.
     rw (w .3) (record {
