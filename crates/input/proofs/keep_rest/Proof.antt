@@ -66,7 +66,7 @@ returns : tie.Need-returns Inv-loop μ-loop
 returns c =
     let l = c .before .loop in
     let a = c .before .before .args in
-    (refl, record { same = l .inv .same; front = λ i m. l .inv .front i (omega arith) })
+    record { count = refl; kept = record { same = l .inv .same; front = λ i m. l .inv .front i (omega arith) } }
 
 pub keep-rest-spec : {M : Type 1} → statement M
 keep-rest-spec =
