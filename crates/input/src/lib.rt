@@ -8,8 +8,8 @@ ghost use mathlib.Core.Path.{_≡_};
 ghost use lib.ListN.{length};
 ghost use Rattle.libc.specs.Io.{Moved};
 ghost use Rattle.input.specs.Input.{roomForLines, roomForBook, Means, ReadOnce, ReadOn, RestRead};
-ghost use Rattle.input.specs.InnerLines.{LineEnd, RestKept, NoFeed, nothingHeld, lineAt, atEnd, LineHeld, LinePassed, LineRead};
-ghost use Rattle.input.specs.InnerLines.{LineAfter};
+ghost use Rattle.input.specs.InnerLines.{LineEnd, NoFeed, nothingHeld, lineAt, atEnd, LineHeld, LinePassed, LineRead};
+ghost use Rattle.input.specs.InnerLines.{LineAfter, RestMoved};
 
 // What a program holds of its lines at once, more than the longest line that is no error.
 const LINES: usize = 262_144;
@@ -187,8 +187,7 @@ fn line_end(s: &[u8], from: usize) -> usize
 // Moves the bytes between two places to the front, and answers how many they are.
 fn keep_rest(held: &mut [u8], from: usize, to: usize) -> usize
     requires { ⌜ (from ≤ to) × (to ≤ length (now held)) ⌝ }
-    ensures count { λ r. ⌜ r ≡ to - from ⌝ }
-    ensures kept { λ _. ⌜ RestKept (now (held .entry)) from to (now (held .exit)) ⌝ }
+    ensures { λ r. ⌜ RestMoved (now (held .entry)) from to (now (held .exit)) r ⌝ }
 {
     let count = to - from;
     for k in 0..count {

@@ -66,12 +66,6 @@ stated c =
     let s = c .before .before .before .before .before .before .before .before in
     counted (now (s .args .book)) (c .before .loop .inv) (c .before .loop .left - 1) (at c .0) (at c .1) (s .pre .1 .1 .1 .0 .room)
 
--- the tables keep their sizes
-kept : (c : tie.In-loop Inv-loop μ-loop)
-    → (length (c .before .loop .states) ≡ length (now (c .before .before .before .before .before .before .before .before .args .states)))
-    × (length (c .before .loop .seen) ≡ length (now (c .before .before .before .before .before .before .before .before .args .seen)))
-kept c = (c .before .loop .inv .states-size, c .before .loop .inv .seen-size)
-
 sub-last : tie.Need-sub-last Inv-loop μ-loop
 sub-last c = search needs
 
@@ -132,16 +126,17 @@ same-length c = c .before .before .before .before .before .before .before .befor
 
 same-length-2 : tie.Need-same-length-2 Inv-loop μ-loop
 same-length-2 c =
-    c .before .before .before .before .before .insert .ensures .0
+    c .before .before .before .before .before .insert .ensures .size
     ∙ c .before .before .before .before .before .before .before .before .before .before .before .before .before .before .before .before .loop .inv .seen-size
 
 returns : tie.Need-returns Inv-loop μ-loop
 returns c =
-    let t = c .before .before .before .before .before .before .before .before .before .before .before .before .before .before .before in (
-      parted (now (t .before .before .before .before .before .before .before .before .args .book)) (t .before .loop .inv) (t .before .loop .left - 1) (at t .0) (at t .1) (c .before .if4 .taken)
-          (c .apart .ensures),
-      (t .before .loop .inv .states-size, c .before .before .before .before .before .insert .ensures .0 ∙ t .before .loop .inv .seen-size),
-    )
+    let t = c .before .before .before .before .before .before .before .before .before .before .before .before .before .before .before in record {
+      said = parted (now (t .before .before .before .before .before .before .before .before .args .book)) (t .before .loop .inv) (t .before .loop .left - 1) (at t .0) (at t .1) (c .before .if4 .taken)
+          (c .apart .ensures);
+      states-size = t .before .loop .inv .states-size;
+      seen-size = c .before .before .before .before .before .insert .ensures .size ∙ t .before .loop .inv .seen-size;
+    }
 
 last-met-requires : tie.Need-last-met-requires Inv-loop μ-loop
 last-met-requires c κs = search needs
@@ -160,11 +155,12 @@ same-length-4 c = c .before .before .before .before .before .before .before .bef
 
 returns-2 : tie.Need-returns-2 Inv-loop μ-loop
 returns-2 c =
-    let t = c .before .before .before .before .before .before .before in (
-      parted (now (t .before .before .before .before .before .before .before .before .args .book)) (t .before .loop .inv) (t .before .loop .left - 1) (at t .0) (at t .1) (c .before .if5 .taken)
-          (c .apart2 .ensures),
-      kept t,
-    )
+    let t = c .before .before .before .before .before .before .before in record {
+      said = parted (now (t .before .before .before .before .before .before .before .before .args .book)) (t .before .loop .inv) (t .before .loop .left - 1) (at t .0) (at t .1) (c .before .if5 .taken)
+          (c .apart2 .ensures);
+      states-size = t .before .loop .inv .states-size;
+      seen-size = t .before .loop .inv .seen-size;
+    }
 
 owner-of-requires : tie.Need-owner-of-requires Inv-loop μ-loop
 owner-of-requires c κs = search needs
@@ -180,11 +176,12 @@ same-length-6 c = c .before .before .before .before .before .before .before .bef
 
 returns-3 : tie.Need-returns-3 Inv-loop μ-loop
 returns-3 c =
-    let t = c .before .before .before .before .before .before .before .before .before in (
-      parted (now (t .before .before .before .before .before .before .before .before .args .book)) (t .before .loop .inv) (t .before .loop .left - 1) (at t .0) (at t .1) (c .before .if7 .taken)
-          (c .apart3 .ensures),
-      kept t,
-    )
+    let t = c .before .before .before .before .before .before .before .before .before in record {
+      said = parted (now (t .before .before .before .before .before .before .before .before .args .book)) (t .before .loop .inv) (t .before .loop .left - 1) (at t .0) (at t .1) (c .before .if7 .taken)
+          (c .apart3 .ensures);
+      states-size = t .before .loop .inv .states-size;
+      seen-size = t .before .loop .inv .seen-size;
+    }
 
 cast-whole-record-2 : tie.Need-cast-whole-record-2 Inv-loop μ-loop
 cast-whole-record-2 c = search needs
@@ -267,11 +264,12 @@ same-length-8 c = c .before .before .before .before .before .before .before .bef
 
 returns-4 : tie.Need-returns-4 Inv-loop μ-loop
 returns-4 c =
-    let t = c .before .before .before .before .before .before .before .before .before .before .before .before .before .before .before .before .before in (
-      parted (now (t .before .before .before .before .before .before .before .before .args .book)) (t .before .loop .inv) (t .before .loop .left - 1) (at t .0) (at t .1) (c .before .if10 .taken)
-          (c .apart4 .ensures),
-      kept t,
-    )
+    let t = c .before .before .before .before .before .before .before .before .before .before .before .before .before .before .before .before .before in record {
+      said = parted (now (t .before .before .before .before .before .before .before .before .args .book)) (t .before .loop .inv) (t .before .loop .left - 1) (at t .0) (at t .1)
+          (c .before .if10 .taken) (c .apart4 .ensures);
+      states-size = t .before .loop .inv .states-size;
+      seen-size = t .before .loop .inv .seen-size;
+    }
 
 apart-requires-5 : tie.Need-apart-requires-5 Inv-loop μ-loop
 apart-requires-5 c κs = search needs
@@ -284,11 +282,12 @@ same-length-10 c = c .before .before .before .before .before .before .before .be
 
 returns-5 : tie.Need-returns-5 Inv-loop μ-loop
 returns-5 c =
-    let t = c .before .before .before .before .before .before .before .before .before .before .before .before .before in (
-      parted (now (t .before .before .before .before .before .before .before .before .args .book)) (t .before .loop .inv) (t .before .loop .left - 1) (at t .0) (at t .1) (c .before .if11 .taken)
-          (c .apart5 .ensures),
-      kept t,
-    )
+    let t = c .before .before .before .before .before .before .before .before .before .before .before .before .before in record {
+      said = parted (now (t .before .before .before .before .before .before .before .before .args .book)) (t .before .loop .inv) (t .before .loop .left - 1) (at t .0) (at t .1)
+          (c .before .if11 .taken) (c .apart5 .ensures);
+      states-size = t .before .loop .inv .states-size;
+      seen-size = t .before .loop .inv .seen-size;
+    }
 
 loop-less : tie.Need-loop-less Inv-loop μ-loop
 loop-less c = search needs
@@ -311,7 +310,7 @@ loop-again c =
     (user-passed (now (s .args .book)) (t .before .loop .inv) (t .before .loop .left - 1) (at t .0) (at t .1) own (now (r .result)) (r .ensures)
     (c .before .before .before .before .before .before .before .before .before .before .before .before .before .kind-of .ensures)
     (c .before .before .before .before .before .before .before .before .before .before .before .before .if1 .taken)
-    (ap (λ (k : UserNumber). k .0) (c .before .before .before .before .before .before .before .number-of .ensures)) (ins .ensures .0 ∙ t .before .loop .inv .seen-size) (ins .ensures .1)
+    (ap (λ (k : UserNumber). k .0) (c .before .before .before .before .before .before .before .number-of .ensures)) (ins .ensures .size ∙ t .before .loop .inv .seen-size) (ins .ensures .inserted)
     (leads .ensures) led (ap (λ (k : RecordIndex). k .0) (c .next-of .ensures)))
 
 loop-less-2 : tie.Need-loop-less-2 Inv-loop μ-loop
@@ -383,7 +382,11 @@ same-length-12 c = c .before .loop .inv .seen-size
 returns-6 : tie.Need-returns-6 Inv-loop μ-loop
 returns-6 c =
     let s = c .before .before .before .before .before .before .before .before in
-    (passed (now (s .args .book)) (c .before .loop .inv) (omega arith) (s .pre .1 .0) (s .pre .1 .1 .0), (c .before .loop .inv .states-size, c .before .loop .inv .seen-size))
+    record {
+      said = passed (now (s .args .book)) (c .before .loop .inv) (omega arith) (s .pre .1 .0) (s .pre .1 .1 .0);
+      states-size = c .before .loop .inv .states-size;
+      seen-size = c .before .loop .inv .seen-size;
+    }
 
 pub pass-over-spec : {M : Type 1} → statement M
 pass-over-spec =
