@@ -259,7 +259,7 @@ fn say_charges(book: &[u8], user: RecordIndex) -> bool
     if !say_open_payments(book, user, charges.open) {
         return false;
     }
-    let payments = account_years::payments_of(book, user, 0, account_years::LAST_YEAR);
+    let payments = account_years::payments_of(book, user, 0, account_years::LAST_NAMED_YEAR);
     let row = output::put_text(output::no_text(), b"all             ");
     let made = charges.made;
     if !say_payments(row, OfEach::Charged(made), payments) {

@@ -8,7 +8,8 @@ use Rattle.statements.specs.declared.Sums.{Sums}
 
 unfoldable pub conservedIn : Sums → ℤ
 conservedIn s =
-    ((((pos (s .«closed_advances» .0) +ℤ toZ w64 (s .balance .0)) -ℤ pos (s .«flat_rate» .0)) +ℤ pos (s .liquidation .0)) +ℤ pos (s .lapsed .0))
+    ((((pos (s .«closed_advances» .0) +ℤ toZ w64 (s .balance .0)) -ℤ pos (s .«flat_rate» .0)) +ℤ pos (s .liquidation .0))
+    +ℤ pos (s .lapsed .0))
     +ℤ pos (s .credit .0)
 
 -- sums that make it fit 64 bits

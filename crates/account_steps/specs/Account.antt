@@ -130,7 +130,9 @@ settled a v =
       contribution = ticks (contributionOf (a .option) (a .credit .0) (v .value .0) (v .cost .0) (v .«flat_rate» .0));
       liquidation = ticks (liquidationOf (a .option) (v .value .0) (v .cost .0));
       lapsed = ticks (lapsedOf (a .option) (a .credit .0));
-      balance = balanceBits (balanceOf (contributionOf (a .option) (a .credit .0) (v .value .0) (v .cost .0) (v .«flat_rate» .0)) (a .advances .0));
+      balance =
+          balanceBits (balanceOf (contributionOf (a .option) (a .credit .0) (v .value .0) (v .cost .0) (v .«flat_rate» .0))
+          (a .advances .0));
     }
 
 -- the ranges of "Book" in which every sum of a closing fits, k the credit before it, ..

@@ -3,6 +3,7 @@
 use sheet_values::Details;
 use sheet_values::YearValues;
 use units::Kwh;
+use units::MAX_CHARGE;
 use units::Ticks;
 use units::UserNumber;
 ghost use mathlib.Core.Path.{_≡_};
@@ -13,7 +14,8 @@ ghost use Rattle.units.specs.Units.{ticks};
 ghost use Rattle.units.specs.Limits.{maxYearTicks, maxFlatRate, maxCharge};
 ghost use Rattle.account_steps.specs.Closing.{contributionOf, balanceOf};
 ghost use Rattle.account_steps.specs.Charges.{chargeOf, withheldFrom, withheldAtClosing, accountCharged, accountWithheld};
-ghost use Rattle.account_steps.specs.Account.{balanceBits, outcomeOf, liquidationIn, lapsedIn, creditIn, settlementOf, accountElected, runsIn, advancesIn, accountAdvanced, closedOf, SumsInRange, InRange};
+ghost use Rattle.account_steps.specs.Account.{balanceBits, outcomeOf, liquidationIn, lapsedIn, creditIn, settlementOf};
+ghost use Rattle.account_steps.specs.Account.{accountElected, runsIn, advancesIn, accountAdvanced, closedOf, SumsInRange, InRange};
 
 // The option that pays a year's surplus out ("Book": 0 credit, 1 liquidation).
 const LIQUIDATION: u8 = 1;
@@ -170,20 +172,20 @@ pub fn credit_after(outcome: Outcome) -> Ticks
 }
 
 // "15 € up to 3 kW, 30 € up to 20 kW and 45 € above", in watts and ticks.
-const SMALL_POWER: u32 = 3_000;
+const LOW_CHARGE_POWER: u32 = 3_000;
 
-const MIDDLE_POWER: u32 = 20_000;
+const MIDDLE_CHARGE_POWER: u32 = 20_000;
 
 pub fn charge_of(power: u32) -> Ticks
     ensures { λ r. ⌜ (r ≡ ticks (chargeOf power)) × (r .0 ≤ maxCharge) ⌝ }
 {
-    if power <= SMALL_POWER {
+    if power <= LOW_CHARGE_POWER {
         return Ticks(1_500_000);
     }
-    if power <= MIDDLE_POWER {
+    if power <= MIDDLE_CHARGE_POWER {
         Ticks(3_000_000)
     } else {
-        Ticks(4_500_000)
+        Ticks(MAX_CHARGE)
     }
 }
 

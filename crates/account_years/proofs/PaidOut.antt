@@ -15,7 +15,8 @@ use Rattle.book_layout.specs.Fields.{recordAt}
 use Rattle.book_records.specs.declared.AdvanceRecord.{AdvanceRecord}
 use Rattle.book_records.specs.declared.ClosingRecord.{ClosingRecord}
 use Rattle.book_records.specs.Records.{advanceIn, closingIn}
-use Rattle.book_rules.specs.Book.{lengthFits, sound, within, spanOf, isUser, isAdvance, isClosing, nextOf, firstEntryOf, ownerOf, accountAt, yearFits, levelFrom, bookedFits, isRun, advanceFits, balanceFits, paidBalance, withheldFits, closingFits}
+use Rattle.book_rules.specs.Book.{lengthFits, sound, within, spanOf, isUser, isAdvance, isClosing, nextOf, firstEntryOf, ownerOf, accountAt, yearFits, levelFrom, bookedFits, isRun, advanceFits}
+use Rattle.book_rules.specs.Book.{balanceFits, paidBalance, withheldFits, closingFits}
 use Rattle.book_rules.specs.Chains.{entriesOf}
 use Rattle.book_rules.proofs.Faultless.{Faultless, sound-faultless}
 use Rattle.book_rules.proofs.Faultless as book
@@ -68,7 +69,8 @@ module _ (b : List ℕ) (f : Faultless b) where
       let far = leb (c .sums .liquidation .0) maxYearTicks && leb (c .sums .lapsed .0) (maxYearTicks * spanOf owner (c .year)) in
       let money = balanceFits (c .sums .balance .0) && withheldFits c in
       leb-true (c .withheld .0) (paidBalance (c .sums .balance .0) + c .sums .liquidation .0)
-      (and-right (balanceFits (c .sums .balance .0)) (withheldFits c) (and-right far money (and-right near (far && money) (and-right dated (near && (far && money)) (book.closing-ranges b e (f .entry e (closing-entry b e is) .own) is)))))
+      (and-right (balanceFits (c .sums .balance .0)) (withheldFits c)
+      (and-right far money (and-right near (far && money) (and-right dated (near && (far && money)) (book.closing-ranges b e (f .entry e (closing-entry b e is) .own) is)))))
 
   by-advance-few : (e : ℕ) → isAdvance b e ≡ true → Few (byAdvance (advanceIn (recordAt b e)))
   unfolding byAdvance

@@ -51,7 +51,8 @@ paymentsBy b first last e =
 unfoldable pub paymentsOf : List ℕ → ℕ → ℕ → ℕ → Payments
 paymentsOf b i first last =
     paymentsAre (sumOver (λ e. paymentsBy b first last e .advances .0) (entriesOf b i))
-    (sumOver (λ e. paymentsBy b first last e .withheld .0) (entriesOf b i)) (sumOver (λ e. paymentsBy b first last e .paid .0) (entriesOf b i))
+    (sumOver (λ e. paymentsBy b first last e .withheld .0) (entriesOf b i))
+    (sumOver (λ e. paymentsBy b first last e .paid .0) (entriesOf b i))
 
 -- WHAT IS CHARGED: "A user's charges made equal those withheld plus the rest" (ticket 1), and byte 28 tells whether the open year is
 -- charged. Which closed years were is not kept: where none or all of them were, each was charged nothing or the yearly charge.
@@ -60,7 +61,8 @@ chargeOfOpen made yearly = cond (eqb made 0) 0 yearly
 
 unfoldable pub chargeOfEach : ℕ → ℕ → ℕ → ℕ → OfEach
 chargeOfEach made ofOpen yearly closed =
-    cond (eqb made ofOpen) (OfEach.Charged (ticks 0)) (cond (eqb made (ofOpen + yearly * closed)) (OfEach.Charged (ticks yearly)) OfEach.NotKept)
+    cond (eqb made ofOpen) (OfEach.Charged (ticks 0))
+    (cond (eqb made (ofOpen + yearly * closed)) (OfEach.Charged (ticks yearly)) OfEach.NotKept)
 
 unfoldable pub chargesFrom : Ticks → Ticks → ℕ → ℕ → ℕ → Charges
 chargesFrom withheld rest made yearly closed =
@@ -75,7 +77,8 @@ chargesFrom withheld rest made yearly closed =
 -- over the entries of every year that their two bytes can name
 unfoldable pub chargesOf : List ℕ → ℕ → Charges
 chargesOf b i =
-    chargesFrom (paymentsOf b i 0 65535 .withheld) (accountAt b i .charge .rest) (accountAt b i .charge .made) (chargeOf (accountAt b i .details .power))
+    chargesFrom (paymentsOf b i 0 65535 .withheld) (accountAt b i .charge .rest) (accountAt b i .charge .made)
+    (chargeOf (accountAt b i .details .power))
     (accountAt b i .«open_year» - accountAt b i .details .year)
 
 -- the entry of the year n years after the activation
@@ -89,7 +92,8 @@ creditOver c k = creditAfter (c .option) k (c .sums .value .0) (c .sums .cost .0
 unfoldable pub creditAfterYears : List ℕ → ℕ → ℕ → ℕ
 creditAfterYears b i zero = 0
 creditAfterYears b i (suc n) =
-    cond (eqb (closingAfter b i n) 0) (creditAfterYears b i n) (creditOver (closingIn (recordAt b (closingAfter b i n))) (creditAfterYears b i n))
+    cond (eqb (closingAfter b i n) 0) (creditAfterYears b i n)
+    (creditOver (closingIn (recordAt b (closingAfter b i n))) (creditAfterYears b i n))
 
 -- the year n years after the activation
 unfoldable pub yearOf : List ℕ → ℕ → ℕ → Year

@@ -9,7 +9,8 @@ ghost use Rattle.units.specs.Limits.{maxYearTicks, maxCharge, mostYears};
 ghost use Rattle.book_layout.specs.Fields.{recordAt};
 ghost use Rattle.book_records.specs.Records.{closingIn};
 ghost use Rattle.book_rules.specs.Book.{lengthFits, sound, isUser, isClosing};
-ghost use Rattle.account_years.specs.History.{isClosingOf, closingOf, closingAfter, byAdvance, byClosing, paymentsBy, paymentsOf, chargeOfOpen, chargeOfEach, chargesOf, creditOver, creditAfterYears, yearOf};
+ghost use Rattle.account_years.specs.History.{isClosingOf, closingOf, closingAfter, byAdvance, byClosing, paymentsBy, paymentsOf};
+ghost use Rattle.account_years.specs.History.{chargeOfOpen, chargeOfEach, chargesOf, creditOver, creditAfterYears, yearOf};
 use account_steps::Balance;
 use book_records::AdvanceRecord;
 use book_records::ClosingRecord;
@@ -17,7 +18,7 @@ use units::RecordIndex;
 use units::Ticks;
 
 // The last year that the bytes of an entry can name.
-pub const LAST_YEAR: u16 = 65_535;
+pub const LAST_NAMED_YEAR: u16 = 65_535;
 
 // What entries pay: the advances among them, what was withheld from all of them, and what was paid out.
 pub struct Payments {
@@ -195,7 +196,7 @@ pub fn charges_of(book: &[u8], user: RecordIndex) -> Charges
     ensures { λ r. ⌜ r ≡ chargesOf (now (book .entry)) (user .0) ⌝ }
 {
     let account = book_view::account_at(book, user);
-    let payments = payments_of(book, user, 0, LAST_YEAR);
+    let payments = payments_of(book, user, 0, LAST_NAMED_YEAR);
     let withheld = payments.withheld;
     let charge = account.charge;
     let rest = charge.rest;
@@ -227,7 +228,8 @@ fn credit_over(book: &[u8], entry: RecordIndex, credit: Ticks) -> Ticks
     requires { ⌜ lengthFits (now book) ≡ true ⌝ }
     requires { ⌜ sound (now book) ≡ true ⌝ }
     requires { ⌜ (isClosing (now book) (entry .0) ≡ true) × (credit .0 ≤ maxYearTicks * mostYears) ⌝ }
-    ensures { λ r. ⌜ (r .0 ≡ creditOver (closingIn (recordAt (now (book .entry)) (entry .0))) (credit .0)) × (r .0 ≤ credit .0 + maxYearTicks) ⌝ }
+    ensures { λ r. ⌜ (r .0 ≡ creditOver (closingIn (recordAt (now (book .entry)) (entry .0))) (credit .0))
+        × (r .0 ≤ credit .0 + maxYearTicks) ⌝ }
 {
     let closing = book_records::closing_of(book_layout::record(book, entry));
     let sums = closing.sums;
@@ -240,7 +242,8 @@ fn next_credit(book: &[u8], entry: RecordIndex, credit: Ticks) -> Ticks
     requires { ⌜ lengthFits (now book) ≡ true ⌝ }
     requires { ⌜ sound (now book) ≡ true ⌝ }
     requires { ⌜ ((entry .0 ≡ 0 → ⊥) → isClosing (now book) (entry .0) ≡ true) × (credit .0 ≤ maxYearTicks * mostYears) ⌝ }
-    ensures { λ r. ⌜ (r .0 ≡ cond (eqb (entry .0) 0) (credit .0) (creditOver (closingIn (recordAt (now (book .entry)) (entry .0))) (credit .0))) × (r .0 ≤ credit .0 + maxYearTicks) ⌝ }
+    ensures { λ r. ⌜ (r .0 ≡ cond (eqb (entry .0) 0) (credit .0)
+        (creditOver (closingIn (recordAt (now (book .entry)) (entry .0))) (credit .0))) × (r .0 ≤ credit .0 + maxYearTicks) ⌝ }
 {
     if entry.0 == 0 {
         credit

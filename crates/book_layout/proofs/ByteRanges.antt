@@ -2,10 +2,11 @@
 use Prim.Native.Nat.{ℕ, _*_, _^_, _<_}
 use mathlib.Core.List.{List, [], _∷_}
 use lib.ListN.{replicate}
+use Rattle.units.specs.Limits.{recordLength}
 use Rattle.codec.specs.Bytes.{bytesOf, stored}
 pub use Rattle.codec.proofs.ByteRanges.{Bytes}
 use Rattle.codec.proofs.ByteRanges.{of-number, of-zeros, of-part, of-stored, number-below}
-use Rattle.book_layout.specs.Fields.{recordLength, Field, get, recordAt, putRecord, Cell, written, image}
+use Rattle.book_layout.specs.Fields.{Field, get, recordAt, putRecord, Cell, written, image}
 
 pub bytes-put : (i : ℕ) (r b : List ℕ) → Bytes r → Bytes b → Bytes (putRecord i r b)
 unfolding putRecord

@@ -8,13 +8,14 @@ use native.Mathlib.Omega.{arith}
 use borrow.Author.Tests.{leb-true, eq-eqb}
 use lib.Dec.{leb, eqb}
 use lib.ListN.{length, getD, replicate, length-replicate}
+use Rattle.units.specs.Limits.{recordLength}
 use Rattle.units.proofs.Bools.{and-left, and-right, and-both}
 use Rattle.units.proofs.Folds.{all-of}
 use Rattle.codec.specs.Bytes.{littleEndian, bytesOf, part, number, stored, zeros}
 use Rattle.codec.proofs.Numbers.{length-bytes}
 use Rattle.codec.proofs.Stores.{length-stored, part-before, part-after, number-stored}
 use Rattle.book_layout.proofs.Places.{part-byte}
-use Rattle.book_layout.specs.Fields.{recordLength, Field, bytes, get, allZero, Cell, _holds_, written, image}
+use Rattle.book_layout.specs.Fields.{Field, bytes, get, allZero, Cell, _holds_, written, image}
 
 -- a field ends within a record; two fields share no byte
 abbrev pub within : Field → Bool

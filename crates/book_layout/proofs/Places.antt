@@ -7,10 +7,11 @@ use native.Mathlib.Decide.{decLe, decLt}
 use native.Mathlib.Omega.{arith}
 use lib.ListN.{length, getD, take, drop, length-take, length-drop, drop-of-length-le}
 use lib.Seq.{take-all, getD-take, getD-drop}
+use Rattle.units.specs.Limits.{recordLength}
 use Rattle.codec.specs.Bytes.{part, number, stored}
 use Rattle.codec.proofs.Numbers.{number-part}
 use Rattle.codec.proofs.Stores.{length-stored, part-stored, part-before, part-after}
-use Rattle.book_layout.specs.Fields.{recordLength, Field, get, recordAt, putRecord}
+use Rattle.book_layout.specs.Fields.{Field, get, recordAt, putRecord}
 
 -- a part that is cut at the end of the string
 drop-clipped : (at : ℕ) (s : List ℕ) → drop (min at (length s)) s ≡ drop at s

@@ -4,12 +4,9 @@ use mathlib.Core.Bool.{Bool, true, cond, _&&_}
 use mathlib.Core.List.{List, [], _∷_}
 use lib.Dec.{leb, ltb, eqb}
 use lib.ListN.{length, replicate}
+use Rattle.units.specs.Limits.{recordLength}
 use Rattle.units.specs.Folds.{allBelow}
 use Rattle.codec.specs.Bytes.{bytesOf, part, number, stored, zeros}
-
--- "Records of 80 bytes"
-abbrev pub recordLength : ℕ
-recordLength = 80
 
 -- `size` bytes from `from` on
 pub record Field : Type 0 where

@@ -4,18 +4,19 @@ ghost use mathlib.Core.Path.{_≡_};
 ghost use Prim.Native.Nat.{_+_, _*_, _≤_, min};
 ghost use lib.Dec.{leb};
 ghost use lib.ListN.{length};
+ghost use Rattle.units.specs.Limits.{recordLength};
 ghost use Rattle.units.specs.Units.{userNumber, recordIndex};
 ghost use Rattle.codec.specs.Bytes.{number, stored, bytesOf};
-ghost use Rattle.book_layout.specs.Fields.{recordLength, recordAt, putRecord, get, usedField, firstUserField, nextField, kindField, numberField, firstEntryField, activationYearField, openYearField, yearField, bookedField, ownerField};
+ghost use Rattle.book_layout.specs.Fields.{recordAt, putRecord, get, usedField, firstUserField, nextField, kindField};
+ghost use Rattle.book_layout.specs.Fields.{numberField, firstEntryField, activationYearField, openYearField, yearField, bookedField};
+ghost use Rattle.book_layout.specs.Fields.{ownerField};
 ghost use Rattle.book_layout.specs.Fields.{allZero, unnamedOfHead, unnamedOfUser, unnamedOfAdvance, unnamedOfClosing};
+use units::RECORD_LENGTH;
 use units::RecordIndex;
 use units::UserNumber;
 
 pub mod kind;
 pub mod place;
-
-// "Records of 80 bytes"
-pub const RECORD_LENGTH: usize = 80;
 
 fn smaller(a: usize, b: usize) -> usize
     ensures { λ r. ⌜ r ≡ min a b ⌝ }
@@ -64,7 +65,7 @@ pub fn whole<'a>(r: &'a [u8]) -> &'a [u8]
 }
 
 // The image goes to its record's place.
-pub fn store(book: &mut [u8], index: RecordIndex, image: [u8; 80])
+pub fn store(book: &mut [u8], index: RecordIndex, image: [u8; RECORD_LENGTH])
     requires { ⌜ recordLength * index .0 + recordLength ≤ length (now book) ⌝ }
     ensures { λ _. ⌜ now (book .exit) ≡ putRecord (index .0) image (now (book .entry)) ⌝ }
 {
@@ -75,28 +76,28 @@ pub fn store(book: &mut [u8], index: RecordIndex, image: [u8; 80])
 }
 
 // The image with a number of one, two, four or eight bytes from a place on.
-pub fn put_u8(image: [u8; 80], at: usize, n: u8) -> [u8; 80]
+pub fn put_u8(image: [u8; RECORD_LENGTH], at: usize, n: u8) -> [u8; RECORD_LENGTH]
     requires { ⌜ at + 1 ≤ recordLength ⌝ }
     ensures { λ r. ⌜ r ≡ stored at (bytesOf 1 n) image ⌝ }
 {
     codec::write(image, at, 1, n as u64)
 }
 
-pub fn put_u16(image: [u8; 80], at: usize, n: u16) -> [u8; 80]
+pub fn put_u16(image: [u8; RECORD_LENGTH], at: usize, n: u16) -> [u8; RECORD_LENGTH]
     requires { ⌜ at + 2 ≤ recordLength ⌝ }
     ensures { λ r. ⌜ r ≡ stored at (bytesOf 2 n) image ⌝ }
 {
     codec::write(image, at, 2, n as u64)
 }
 
-pub fn put_u32(image: [u8; 80], at: usize, n: u32) -> [u8; 80]
+pub fn put_u32(image: [u8; RECORD_LENGTH], at: usize, n: u32) -> [u8; RECORD_LENGTH]
     requires { ⌜ at + 4 ≤ recordLength ⌝ }
     ensures { λ r. ⌜ r ≡ stored at (bytesOf 4 n) image ⌝ }
 {
     codec::write(image, at, 4, n as u64)
 }
 
-pub fn put_u64(image: [u8; 80], at: usize, n: u64) -> [u8; 80]
+pub fn put_u64(image: [u8; RECORD_LENGTH], at: usize, n: u64) -> [u8; RECORD_LENGTH]
     requires { ⌜ at + 8 ≤ recordLength ⌝ }
     ensures { λ r. ⌜ r ≡ stored at (bytesOf 8 n) image ⌝ }
 {

@@ -6,8 +6,10 @@ use mathlib.Core.Bool.{true}
 use mathlib.Core.List.{List}
 use lib.Dec.{lit<}
 use lib.ListN.{length}
+use Rattle.units.specs.Limits.{recordLength}
 use Rattle.units.specs.Units.{ticks, recordIndex}
-use Rattle.book_layout.specs.Fields.{recordLength, get, allZero, unnamedOfClosing, image, closingKind, balanceField, closingOptionField, contributionField, costField, flatRateField, kindField, lapsedField, liquidationField, nextField, ownerField, withheldField, valueField, yearField}
+use Rattle.book_layout.specs.Fields.{get, allZero, unnamedOfClosing, image, closingKind, balanceField, closingOptionField, contributionField, costField, flatRateField, kindField}
+use Rattle.book_layout.specs.Fields.{lapsedField, liquidationField, nextField, ownerField, withheldField, valueField, yearField}
 use Rattle.book_layout.proofs.Cells.{cellAt, length-image, read-image, unnamed-image}
 use Rattle.book_layout.proofs.ByteRanges.{Bytes, bytes-image}
 use Rattle.book_records.specs.declared.ClosingRecord.{ClosingRecord}

@@ -3,7 +3,8 @@ use Prim.Native.Nat.{ℕ, _^_, _<_}
 use mathlib.Core.Path.{_≡_, refl}
 use mathlib.Core.Bool.{true}
 use lib.ListN.{length}
-use Rattle.book_layout.specs.Fields.{recordLength, get, allZero, unnamedOfHead, usedField, firstUserField}
+use Rattle.units.specs.Limits.{recordLength}
+use Rattle.book_layout.specs.Fields.{get, allZero, unnamedOfHead, usedField, firstUserField}
 use Rattle.book_layout.proofs.Cells.{length-image, read-image, unnamed-image}
 use Rattle.book_layout.proofs.ByteRanges.{Bytes, bytes-image}
 use Rattle.book_records.specs.Records.{headCells, headImage}

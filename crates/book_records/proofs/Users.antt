@@ -6,8 +6,11 @@ use mathlib.Core.Bool.{true}
 use mathlib.Core.List.{List}
 use lib.Dec.{lit<}
 use lib.ListN.{length}
+use Rattle.units.specs.Limits.{recordLength}
 use Rattle.units.specs.Units.{kwh, ticks, userNumber, recordIndex}
-use Rattle.book_layout.specs.Fields.{recordLength, get, allZero, unnamedOfUser, image, userKind, activationMonthField, activationYearField, advancesField, classField, creditField, firstEntryField, half1Field, half2Field, islandField, kindField, laterAdvancesField, laterRunsField, chargedField, restField, nextField, numberField, openYearField, optionField, plantField, powerField, runsField}
+use Rattle.book_layout.specs.Fields.{get, allZero, unnamedOfUser, image, userKind, activationMonthField, activationYearField, advancesField, classField, creditField, firstEntryField}
+use Rattle.book_layout.specs.Fields.{half1Field, half2Field, islandField, kindField, laterAdvancesField, laterRunsField, chargedField, restField, nextField, numberField, openYearField, optionField}
+use Rattle.book_layout.specs.Fields.{plantField, powerField, runsField}
 use Rattle.book_layout.proofs.Cells.{cellAt, length-image, read-image, unnamed-image}
 use Rattle.book_layout.proofs.ByteRanges.{Bytes, bytes-image}
 use Rattle.book_records.specs.declared.UserRecord.{UserRecord}

@@ -30,7 +30,15 @@ entryIn r = cond (eqb (get kindField r) closingKind) (ofClosing (closingIn r)) (
 -- an entry at its place: in front of the entry `next`, of the user at the index `owner`
 abbrev pub advanceRecord : ℕ → ℕ → ℕ → ℕ → ℕ → Ticks → Ticks → AdvanceRecord
 advanceRecord next owner year booked run paid withheld =
-    record { next = recordIndex next; run = run; year = year; ticks = paid; owner = recordIndex owner; booked = booked; withheld = withheld }
+    record {
+      next = recordIndex next;
+      run = run;
+      year = year;
+      ticks = paid;
+      owner = recordIndex owner;
+      booked = booked;
+      withheld = withheld;
+    }
 
 abbrev pub closingRecord : ℕ → ℕ → ℕ → ℕ → ClosingSums → Ticks → ClosingRecord
 closingRecord next owner year option s withheld =

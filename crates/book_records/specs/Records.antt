@@ -6,7 +6,13 @@ use Rattle.account_steps.specs.declared.Account.{Account}
 use Rattle.book_records.specs.declared.UserRecord.{UserRecord}
 use Rattle.book_records.specs.declared.AdvanceRecord.{AdvanceRecord}
 use Rattle.book_records.specs.declared.ClosingRecord.{ClosingRecord}
-use Rattle.book_layout.specs.Fields.{Cell, _holds_, image, get, usedField, firstUserField, nextField, kindField, userKind, classField, plantField, optionField, numberField, firstEntryField, powerField, activationYearField, activationMonthField, islandField, openYearField, runsField, laterRunsField, creditField, advancesField, laterAdvancesField, half1Field, half2Field, chargedField, restField, advanceKind, closingKind, yearField, ownerField, runField, ticksField, bookedField, withheldField, closingOptionField, valueField, costField, flatRateField, contributionField, liquidationField, lapsedField, balanceField}
+use Rattle.book_layout.specs.Fields.{Cell, _holds_, image, get, usedField, firstUserField, nextField, kindField, userKind, classField}
+use Rattle.book_layout.specs.Fields.{plantField, optionField, numberField, firstEntryField, powerField, activationYearField}
+use Rattle.book_layout.specs.Fields.{activationMonthField, islandField, openYearField, runsField, laterRunsField, creditField}
+use Rattle.book_layout.specs.Fields.{advancesField, laterAdvancesField, half1Field, half2Field, chargedField, restField, advanceKind}
+use Rattle.book_layout.specs.Fields.{closingKind, yearField, ownerField, runField, ticksField, bookedField, withheldField}
+use Rattle.book_layout.specs.Fields.{closingOptionField, valueField, costField, flatRateField, contributionField, liquidationField}
+use Rattle.book_layout.specs.Fields.{lapsedField, balanceField}
 
 abbrev pub headCells : ℕ → ℕ → List Cell
 headCells used first = (usedField holds used) ∷ (firstUserField holds first) ∷ []

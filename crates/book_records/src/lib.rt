@@ -1,7 +1,7 @@
 // The records of the book by value: read from a record's bytes, and written as a whole image (document 01, "Book").
 ghost use mathlib.Core.Path.{_≡_};
 ghost use lib.ListN.{length};
-ghost use Rattle.book_layout.specs.Fields.{recordLength};
+ghost use Rattle.units.specs.Limits.{recordLength};
 ghost use Rattle.book_records.specs.Records.{headImage, userImage, advanceImage, closingImage, accountIn, advanceIn, closingIn};
 use account_steps::Account;
 use account_steps::Balance;
@@ -15,6 +15,7 @@ use book_layout::put_u32;
 use book_layout::put_u64;
 use sheet_values::Details;
 use units::Kwh;
+use units::RECORD_LENGTH;
 use units::RecordIndex;
 use units::Ticks;
 
@@ -156,21 +157,21 @@ pub fn read_closing(r: &[u8]) -> ClosingRecord
 
 // IMAGES
 
-pub fn head_image(used: u32, first: RecordIndex) -> [u8; 80]
+pub fn head_image(used: u32, first: RecordIndex) -> [u8; RECORD_LENGTH]
     ensures { λ r. ⌜ r ≡ headImage used (first .0) ⌝ }
 {
-    let image = [0; 80];
+    let image = [0; RECORD_LENGTH];
     let image = put_u32(image, place::USED, used);
     put_u32(image, place::FIRST_USER, first.0)
 }
 
-pub fn user_image(user: UserRecord) -> [u8; 80]
+pub fn user_image(user: UserRecord) -> [u8; RECORD_LENGTH]
     ensures { λ r. ⌜ r ≡ userImage user ⌝ }
 {
     let account = user.account;
     let details = account.details;
     let charge = account.charge;
-    let image = [0; 80];
+    let image = [0; RECORD_LENGTH];
     let image = put_u32(image, place::NEXT, user.next.0);
     let image = put_u8(image, place::KIND, kind::USER);
     let image = put_u8(image, place::CLASS, details.class);
@@ -194,10 +195,10 @@ pub fn user_image(user: UserRecord) -> [u8; 80]
     put_u64(image, place::REST, charge.rest.0)
 }
 
-pub fn advance_image(advance: AdvanceRecord) -> [u8; 80]
+pub fn advance_image(advance: AdvanceRecord) -> [u8; RECORD_LENGTH]
     ensures { λ r. ⌜ r ≡ advanceImage advance ⌝ }
 {
-    let image = [0; 80];
+    let image = [0; RECORD_LENGTH];
     let image = put_u32(image, place::NEXT, advance.next.0);
     let image = put_u8(image, place::KIND, kind::ADVANCE);
     let image = put_u8(image, place::RUN, advance.run);
@@ -208,11 +209,11 @@ pub fn advance_image(advance: AdvanceRecord) -> [u8; 80]
     put_u64(image, place::WITHHELD, advance.withheld.0)
 }
 
-pub fn closing_image(closing: ClosingRecord) -> [u8; 80]
+pub fn closing_image(closing: ClosingRecord) -> [u8; RECORD_LENGTH]
     ensures { λ r. ⌜ r ≡ closingImage closing ⌝ }
 {
     let sums = closing.sums;
-    let image = [0; 80];
+    let image = [0; RECORD_LENGTH];
     let image = put_u32(image, place::NEXT, closing.next.0);
     let image = put_u8(image, place::KIND, kind::CLOSING);
     let image = put_u8(image, place::CLOSING_OPTION, closing.option);

@@ -10,7 +10,9 @@ use Rattle.units.proofs.Bools.{and-left, and-right}
 use Rattle.book_layout.specs.Fields.{get, kindField, allZero, unnamedOfUser, recordAt, capacity, userKind, advanceKind, closingKind}
 use Rattle.account_steps.specs.declared.Account.{Account}
 use Rattle.book_records.specs.Records.{advanceIn, closingIn}
-use Rattle.book_rules.specs.Book.{lengthFits, used, usedFits, kindAt, hasKind, isUser, isAdvance, isClosing, entryKind, isEntry, accountAt, ownerOf, accountFits, advanceFits, closingFits, entryRanges, rangesFit, unnamedOf, zeroBytesFit, userNextFits, numberIsNew, firstEntryFits, firstInOrder, ownerFits, entryNextFits, nextInOrder, pointedOnce, linksFit, goodRecord, goodHead, sound}
+use Rattle.book_rules.specs.Book.{lengthFits, used, usedFits, kindAt, hasKind, isUser, isAdvance, isClosing, entryKind, isEntry, accountAt, ownerOf, accountFits, advanceFits, closingFits}
+use Rattle.book_rules.specs.Book.{entryRanges, rangesFit, unnamedOf, zeroBytesFit, userNextFits, numberIsNew, firstEntryFits, firstInOrder, ownerFits, entryNextFits, nextInOrder, pointedOnce}
+use Rattle.book_rules.specs.Book.{linksFit, goodRecord, goodHead, sound}
 use Rattle.book_rules.proofs.RecordKinds.{kind-index, kind-is, entry-index, entry-no-user}
 use Rattle.book_rules.proofs.Lengths.{capacity-least}
 use Rattle.book_rules.proofs.Faults.{used-within}

@@ -8,10 +8,10 @@ use native.Mathlib.Omega.{arith}
 use borrow.Author.Tests.{leb-true, lt-ltb, le-ltb, ne-eqb, eqb-true, not-true}
 use lib.Dec.{leb, eqb}
 use lib.ListN.{length}
-use Rattle.units.specs.Limits.{mostRecords}
+use Rattle.units.specs.Limits.{recordLength, mostRecords}
 use Rattle.units.proofs.Bools.{and-left, and-right}
 use Rattle.units.proofs.Folds.{none-at, none-of, any-of, first-is}
-use Rattle.book_layout.specs.Fields.{recordLength, capacity, userKind}
+use Rattle.book_layout.specs.Fields.{capacity, userKind}
 use Rattle.book_rules.specs.Book.{lengthFits, used, usedFits, kindAt, ownerFits, ownRulesFit, linksFit, goodRecord, goodHead, faulty, sound, smallestFaulty}
 use Rattle.book_rules.proofs.Lengths.{capacity-least, capacity-most}
 

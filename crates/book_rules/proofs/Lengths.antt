@@ -7,9 +7,9 @@ use native.Mathlib.Omega.{arith}
 use borrow.Author.Tests.{leb-true, eqb-true}
 use lib.Dec.{leb, eqb}
 use lib.ListN.{length}
-use Rattle.units.specs.Limits.{mostRecords}
+use Rattle.units.specs.Limits.{recordLength, mostRecords}
 use Rattle.units.proofs.Bools.{and-left, and-right}
-use Rattle.book_layout.specs.Fields.{recordLength, capacity}
+use Rattle.book_layout.specs.Fields.{capacity}
 use Rattle.book_rules.specs.Book.{lengthFits}
 
 module _ (b : List ℕ) (fits : lengthFits b ≡ true) where

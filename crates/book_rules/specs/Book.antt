@@ -5,13 +5,18 @@ use mathlib.Core.Bool.{Bool, false, cond, not, _&&_, _||_}
 use mathlib.Core.List.{List, [], _∷_}
 use lib.Dec.{leb, ltb, eqb}
 use lib.ListN.{length, replicate}
-use Rattle.units.specs.Limits.{maxYearTicks, maxFlatRate, maxContribution, maxCharge, maxHalfTicks, maxHalfKwh, maxPower, firstActivation, lastActivation, lastOpenYear}
+use Rattle.units.specs.Limits.{recordLength, maxYearTicks, maxFlatRate, maxContribution, maxCharge, maxHalfTicks, maxHalfKwh, maxPower}
+use Rattle.units.specs.Limits.{firstActivation}
+use Rattle.units.specs.Limits.{lastActivation, lastOpenYear}
 use Rattle.units.specs.Folds.{sumBelow, anyBelow, firstBelow}
 use Rattle.calendar.specs.declared.Halves.{Halves}
 use Rattle.calendar.specs.ElectionAndAdvances.{june, october, january, halvesPaid, due, halvesCount}
 use Rattle.sheet_values.specs.declared.Details.{Details}
 use Rattle.account_steps.specs.declared.Account.{Account}
-use Rattle.book_layout.specs.Fields.{Field, get, allZero, unnamedOfHead, unnamedOfUser, unnamedOfAdvance, unnamedOfClosing, recordAt, capacity, recordLength, usedField, firstUserField, nextField, kindField, userKind, numberField, firstEntryField, activationYearField, openYearField, advanceKind, closingKind, yearField, bookedField, ownerField}
+use Rattle.book_layout.specs.Fields.{Field, get, allZero, unnamedOfHead, unnamedOfUser, unnamedOfAdvance, unnamedOfClosing, recordAt}
+use Rattle.book_layout.specs.Fields.{capacity, usedField, firstUserField, nextField, kindField, userKind, numberField}
+use Rattle.book_layout.specs.Fields.{firstEntryField, activationYearField, openYearField, advanceKind, closingKind, yearField, bookedField}
+use Rattle.book_layout.specs.Fields.{ownerField}
 use Rattle.book_records.specs.declared.AdvanceRecord.{AdvanceRecord}
 use Rattle.book_records.specs.declared.ClosingRecord.{ClosingRecord}
 use Rattle.book_records.specs.Records.{accountIn, advanceIn, closingIn}
@@ -166,8 +171,10 @@ withheldFits c = leb (c .withheld .0) (paidBalance (c .sums .balance .0) + c .su
 unfoldable pub closingFits : Account → ClosingRecord → Bool
 closingFits owner c =
     (yearFits owner (c .year) && leb (c .option) 1)
-    && (((leb (c .sums .value .0) maxYearTicks && leb (c .sums .cost .0) maxYearTicks) && (leb (c .sums .«flat_rate» .0) maxFlatRate && leb (c .sums .contribution .0) maxContribution))
-    && ((leb (c .sums .liquidation .0) maxYearTicks && leb (c .sums .lapsed .0) (maxYearTicks * spanOf owner (c .year))) && (balanceFits (c .sums .balance .0) && withheldFits c)))
+    && (((leb (c .sums .value .0) maxYearTicks && leb (c .sums .cost .0) maxYearTicks)
+    && (leb (c .sums .«flat_rate» .0) maxFlatRate && leb (c .sums .contribution .0) maxContribution))
+    && ((leb (c .sums .liquidation .0) maxYearTicks && leb (c .sums .lapsed .0) (maxYearTicks * spanOf owner (c .year)))
+    && (balanceFits (c .sums .balance .0) && withheldFits c)))
 
 -- WHAT DIFFERS BY KIND: the ranges of a record, those of an entry by its owner's account; and "Unnamed bytes are zero in
 -- records below u." No range of a kind that is not known fits.

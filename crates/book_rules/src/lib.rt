@@ -3,14 +3,16 @@ ghost use mathlib.Core.Path.{_≡_};
 ghost use mathlib.Core.Bool.{true, _&&_};
 ghost use Prim.Native.Nat.{_-_, _*_, _≤_, _<_};
 ghost use lib.Dec.{leb};
-ghost use Rattle.units.specs.Limits.{maxYearTicks};
-ghost use Rattle.book_rules.specs.Book.{lengthFits, detailsFit, openYearFits, halvesOf, isMade, dueIfMade, runsFit, halvesMade, advancesFit, laterHalf, laterFits, chargeFits, paymentsFit, creditFits, halvesFit, accountFits, isRun, levelFrom, bookedFits, advanceFits, balanceFits, paidBalance, withheldFits, closingFits, entryRanges, unnamedOf, entryKind, levelIn, within};
-ghost use Rattle.book_layout.specs.Fields.{recordLength, get, kindField, allZero, unnamedOfUser};
+ghost use Rattle.units.specs.Limits.{recordLength, maxYearTicks};
+ghost use Rattle.book_rules.specs.Book.{lengthFits, detailsFit, openYearFits, halvesOf, isMade, dueIfMade, runsFit, halvesMade};
+ghost use Rattle.book_rules.specs.Book.{advancesFit, laterHalf, laterFits, chargeFits, paymentsFit, creditFits, halvesFit};
+ghost use Rattle.book_rules.specs.Book.{accountFits, isRun, levelFrom, bookedFits, advanceFits, balanceFits, paidBalance};
+ghost use Rattle.book_rules.specs.Book.{withheldFits, closingFits, entryRanges, unnamedOf, entryKind, levelIn, within};
+ghost use Rattle.book_layout.specs.Fields.{get, kindField, allZero, unnamedOfUser};
 ghost use lib.ListN.{length};
 ghost use Rattle.book_records.specs.Records.{accountIn};
 use account_steps::Account;
 use account_steps::Balance;
-use book_layout::RECORD_LENGTH;
 use book_layout::kind::ADVANCE;
 use book_layout::kind::CLOSING;
 use book_records::AdvanceRecord;
@@ -20,38 +22,28 @@ use calendar::JANUARY;
 use calendar::JUNE;
 use calendar::OCTOBER;
 use sheet_values::Details;
+use units::FIRST_ACTIVATION;
+use units::LAST_ACTIVATION;
+use units::LAST_OPEN_YEAR;
+use units::LEAST_RECORDS;
+use units::MAX_CHARGE;
+use units::MAX_CONTRIBUTION;
+use units::MAX_FLAT_RATE;
+use units::MAX_HALF;
+use units::MAX_HALF_KWH;
+use units::MAX_POWER;
+use units::MAX_YEAR;
+use units::MOST_RECORDS;
+use units::RECORD_LENGTH;
 use units::Ticks;
 
-const SHORTEST: usize = 160;
-
-const LONGEST: usize = 64_000;
-
 // "Records of 80 bytes, 2 to 800 of them"
-pub const MOST_RECORDS: usize = 800;
+const SHORTEST: usize = LEAST_RECORDS * RECORD_LENGTH;
 
-const MAX_POWER: u32 = 200_000;
+pub const LONGEST: usize = MOST_RECORDS * RECORD_LENGTH;
 
-const FIRST_ACTIVATION: u16 = 2013;
-
-pub const LAST_ACTIVATION: u16 = 2099;
-
-pub const LAST_OPEN_YEAR: u16 = 2100;
-
-// In ticks: C, O, a liquidation, an advance; F; a contribution; the advances of a half.
-const MAX_YEAR: u64 = 360_000_000_000_000;
-
-const MAX_FLAT_RATE: u64 = 720_000_000_000_000;
-
-const MAX_CONTRIBUTION: u64 = 1_080_000_000_000_000;
-
-const MAX_HALF: u64 = 180_000_000_000_000;
-
-// A year's charge: 45 €.
-const MAX_CHARGE: u64 = 4_500_000;
 // The least balance, in two's complement.
-const LEAST_BALANCE: u64 = 18_446_384_073_709_551_616;
-// In kWh.
-pub const MAX_HALF_KWH: u32 = 360_000_000;
+const LEAST_BALANCE: u64 = u64::MAX - MAX_YEAR + 1;
 
 // Refusal 1 looks at this.
 pub fn length_fits(book: &[u8]) -> bool
@@ -340,7 +332,8 @@ pub fn user_record_fits(r: &[u8]) -> bool
 
 pub fn entry_record_fits(r: &[u8], owner: &[u8]) -> bool
     requires { ⌜ length (now r) ≡ recordLength ⌝ }
-    ensures { λ s. ⌜ s ≡ (entryRanges (accountIn (now (owner .entry))) (now (r .entry)) && allZero (unnamedOf (get kindField (now (r .entry)))) (now (r .entry))) ⌝ }
+    ensures { λ s. ⌜ s ≡ (entryRanges (accountIn (now (owner .entry))) (now (r .entry))
+        && allZero (unnamedOf (get kindField (now (r .entry)))) (now (r .entry))) ⌝ }
 {
     let r = book_layout::whole(r);
     let activation = book_layout::activation_year_of(owner);

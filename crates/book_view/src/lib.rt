@@ -3,16 +3,17 @@
 ghost use mathlib.Core.Path.{_≡_};
 ghost use Prim.Native.Nat.{_+_, _*_, _≤_};
 ghost use lib.ListN.{length};
+ghost use Rattle.units.specs.Limits.{recordLength};
 ghost use Rattle.units.specs.Units.{userNumber, recordIndex};
-ghost use Rattle.book_layout.specs.Fields.{recordLength};
-ghost use Rattle.book_rules.specs.Book.{firstUser, usedFits, kindAt, hasKind, isUser, isAdvance, isClosing, isEntry, ownerOf, accountAt, nextOf, firstEntryOf, numberOf, levelOf, activationOf, openYearOf};
+ghost use Rattle.book_rules.specs.Book.{firstUser, usedFits, kindAt, hasKind, isUser, isAdvance, isClosing, isEntry, ownerOf, accountAt};
+ghost use Rattle.book_rules.specs.Book.{nextOf, firstEntryOf, numberOf, levelOf, activationOf, openYearOf};
 ghost use Rattle.book_rules.specs.Book.{used as usedIn};
 use account_steps::Account;
-use book_layout::RECORD_LENGTH;
 use book_layout::kind::ADVANCE;
 use book_layout::kind::CLOSING;
 use book_layout::kind::USER;
 use book_layout::record;
+use units::RECORD_LENGTH;
 use units::RecordIndex;
 use units::UserNumber;
 

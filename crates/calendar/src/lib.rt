@@ -135,8 +135,8 @@ pub fn paid_of(amount: Ticks) -> Ticks
 // A half's share of a run.
 fn share(paid: bool, energy: WideKwh, price: Rate) -> Ticks
     requires { ⌜ (energy .0 ≤ maxHalfKwh) × (price .0 ≤ maxPrice) ⌝ }
-    ensures { λ r. ⌜ r .0 ≡ cond paid (energy .0 * price .0) 0 ⌝ }
-    ensures { λ r. ⌜ (r .0 ≤ maxHalfTicks) × (r .0 ≤ maxHalfTicks * cond paid 1 0) ⌝ }
+    ensures amount { λ r. ⌜ r .0 ≡ cond paid (energy .0 * price .0) 0 ⌝ }
+    ensures most { λ r. ⌜ (r .0 ≤ maxHalfTicks) × (r .0 ≤ maxHalfTicks * cond paid 1 0) ⌝ }
 {
     if paid {
         units::priced_half(energy, price)
@@ -150,8 +150,8 @@ fn share(paid: bool, energy: WideKwh, price: Rate) -> Ticks
 pub fn amount_of(h: Halves, price: Rate, first: WideKwh, second: WideKwh) -> Ticks
     requires { ⌜ price .0 ≤ maxPrice ⌝ }
     requires { ⌜ (first .0 ≤ maxHalfKwh) × (second .0 ≤ maxHalfKwh) ⌝ }
-    ensures { λ r. ⌜ r ≡ ticks (amountOf h (price .0) (first .0) (second .0)) ⌝ }
-    ensures { λ r. ⌜ r .0 ≤ maxHalfTicks * halvesCount h ⌝ }
+    ensures amount { λ r. ⌜ r ≡ ticks (amountOf h (price .0) (first .0) (second .0)) ⌝ }
+    ensures most { λ r. ⌜ r .0 ≤ maxHalfTicks * halvesCount h ⌝ }
 {
     let a = share(h.first, first, price);
     let b = share(h.second, second, price);

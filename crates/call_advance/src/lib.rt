@@ -100,8 +100,10 @@ pub fn advance(
     estimate1: WideKwh,
     estimate2: WideKwh,
 ) -> Advanced
-    ensures { λ r. ⌜ Answered (now (book .entry)) (advance (number .0) year run (price .0) (estimate1 .0) (estimate2 .0)) 0 (r .reply .refusal) (r .reply .record .0) (now (book .exit)) ⌝ }
-    ensures { λ r. ⌜ r .ticks ≡ ticksAnswered (now (book .entry)) (number .0) year run (price .0) (estimate1 .0) (estimate2 .0) (r .reply .refusal) ⌝ }
+    ensures reply { λ r. ⌜ Answered (now (book .entry)) (advance (number .0) year run (price .0) (estimate1 .0) (estimate2 .0)) 0
+        (r .reply .refusal) (r .reply .record .0) (now (book .exit)) ⌝ }
+    ensures ticks { λ r. ⌜ r .ticks ≡ ticksAnswered (now (book .entry)) (number .0) year run (price .0) (estimate1 .0) (estimate2 .0)
+        (r .reply .refusal) ⌝ }
 {
     let looked = call_answers::look(book, number);
     let reply = looked.reply;

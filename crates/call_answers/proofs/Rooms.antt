@@ -5,7 +5,8 @@ use mathlib.Core.Bool.{true}
 use mathlib.Core.List.{List}
 use native.Mathlib.Omega.{arith}
 use lib.ListN.{length}
-use Rattle.book_layout.specs.Fields.{recordLength, userKind}
+use Rattle.units.specs.Limits.{recordLength}
+use Rattle.book_layout.specs.Fields.{userKind}
 use Rattle.units.specs.declared.RecordIndex.{RecordIndex}
 use Rattle.units.specs.Units.{recordIndex}
 use Rattle.account_steps.specs.declared.Account.{Account}

@@ -3,8 +3,8 @@ use Prim.Native.Nat.{ℕ, _+_, _*_, _^_, _≤_, _<_}
 use mathlib.Core.Path.{_≡_}
 use mathlib.Core.List.{List}
 use lib.ListN.{length}
+use Rattle.units.specs.Limits.{recordLength}
 use Rattle.account_steps.specs.declared.Account.{Account}
-use Rattle.book_layout.specs.Fields.{recordLength}
 use Rattle.book_rules.specs.Book.{used, accountAt}
 
 -- the user i has the account a, and one more entry fits into the book

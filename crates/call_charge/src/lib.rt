@@ -7,7 +7,8 @@ use units::UserNumber;
 
 // It adds no record: the answer names the user's.
 pub fn charge(book: &mut [u8], number: UserNumber) -> Reply
-    ensures { λ r. ⌜ Answered (now (book .entry)) (charge (number .0)) (findUser (now (book .entry)) (number .0)) (r .refusal) (r .record .0) (now (book .exit)) ⌝ }
+    ensures { λ r. ⌜ Answered (now (book .entry)) (charge (number .0)) (findUser (now (book .entry)) (number .0)) (r .refusal)
+        (r .record .0) (now (book .exit)) ⌝ }
 {
     let looked = call_answers::look(book, number);
     let reply = looked.reply;

@@ -70,7 +70,8 @@ module _ (b s : List ℕ) where
   leaves reply p some said told r e = rw e (said, (told, rw (ne-eqb (reply .refusal) 0 some)))
 
   -- nor, before the sheet's numbers are looked at, a position
-  pub leaves-early : (n : ℕ) → n ≤ 12 → (n ≡ 0 → ⊥) → (reply : Reply) → reply ≡ refusedWith n → Answered b (close s) 0 (reply .refusal) (reply .«record» .0) b → (r : Closed) → r ≡ refusedClosing reply nowhere → Said r b
+  pub leaves-early : (n : ℕ) → n ≤ 12 → (n ≡ 0 → ⊥) → (reply : Reply) → reply ≡ refusedWith n → Answered b (close s) 0 (reply .refusal) (reply .«record» .0) b → (r : Closed)
+      → r ≡ refusedClosing reply nowhere → Said r b
   leaves-early n l some reply e said = leaves reply nowhere (refuses n reply e some) said (rw e (untold-before s n l))
 
   abbrev n : ℕ

@@ -71,8 +71,8 @@ fn book_year(
     values: YearValues,
 ) -> ClosingSums
     requires { ⌜ YearFits (now book) (user .0) account values ⌝ }
-    ensures { λ _. ⌜ now (book .exit) ≡ applied (user .0) (yearBooked account values) (now (book .entry)) ⌝ }
-    ensures { λ r. ⌜ r ≡ settled account values ⌝ }
+    ensures after { λ _. ⌜ now (book .exit) ≡ applied (user .0) (yearBooked account values) (now (book .entry)) ⌝ }
+    ensures sums { λ r. ⌜ r ≡ settled account values ⌝ }
 {
     let first = book_view::first_entry_of(book, user);
     let after = account.closed(values);
@@ -111,9 +111,10 @@ fn without_sums(reply: Reply, position: Position) -> Closed
 }
 
 pub fn close(book: &mut [u8], s: &[u8]) -> Closed
-    ensures { λ r. ⌜ Answered (now (book .entry)) (close (now (s .entry))) 0 (r .reply .refusal) (r .reply .record .0) (now (book .exit)) ⌝ }
-    ensures { λ r. ⌜ Tells (now (s .entry)) (r .reply .refusal) (r .position) ⌝ }
-    ensures { λ r. ⌜ r .sums ≡ sumsAnswered (now (book .entry)) (now (s .entry)) (r .reply .refusal) ⌝ }
+    ensures reply { λ r. ⌜ Answered (now (book .entry)) (close (now (s .entry))) 0 (r .reply .refusal) (r .reply .record .0)
+        (now (book .exit)) ⌝ }
+    ensures position { λ r. ⌜ Tells (now (s .entry)) (r .reply .refusal) (r .position) ⌝ }
+    ensures sums { λ r. ⌜ r .sums ≡ sumsAnswered (now (book .entry)) (now (s .entry)) (r .reply .refusal) ⌝ }
 {
     let looked = call_answers::look(book, sheet::user(s));
     let reply = looked.reply;

@@ -13,7 +13,8 @@ pub fn elect(
     month: u32,
     day: u32,
 ) -> Reply
-    ensures { λ r. ⌜ Answered (now (book .entry)) (elect (number .0) option year month day) 0 (r .refusal) (r .record .0) (now (book .exit)) ⌝ }
+    ensures { λ r. ⌜ Answered (now (book .entry)) (elect (number .0) option year month day) 0 (r .refusal)
+        (r .record .0) (now (book .exit)) ⌝ }
 {
     let looked = call_answers::look(book, number);
     let reply = looked.reply;

@@ -4,11 +4,11 @@ use mathlib.Core.Path.{_≡_, ap, sym, _∙_}
 use mathlib.Core.Bool.{Bool}
 use mathlib.Core.List.{List}
 use lib.ListN.{length}
+use Rattle.units.specs.Limits.{recordLength}
 use Rattle.units.specs.declared.RecordIndex.{RecordIndex}
 use Rattle.units.specs.Units.{recordIndex}
 use Rattle.sheet_values.specs.declared.Details.{Details}
 use Rattle.account_steps.specs.declared.Account.{Account}
-use Rattle.book_layout.specs.Fields.{recordLength}
 use Rattle.book_rules.specs.Book.{used, accountAt}
 use Rattle.check_book.specs.Verdicts.{Accepted}
 use Rattle.call_rules.specs.Changes.{newAccount, enrolledAs, applied}

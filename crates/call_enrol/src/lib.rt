@@ -38,7 +38,8 @@ fn new_account(number: UserNumber, details: Details, option: u8) -> Account
 
 // The answer names the new record.
 pub fn enrol(book: &mut [u8], number: UserNumber, details: Details, option: u8) -> Reply
-    ensures { λ r. ⌜ Answered (now (book .entry)) (enrol (number .0) details option) (used (now (book .entry))) (r .refusal) (r .record .0) (now (book .exit)) ⌝ }
+    ensures { λ r. ⌜ Answered (now (book .entry)) (enrol (number .0) details option) (used (now (book .entry))) (r .refusal) (r .record .0)
+        (now (book .exit)) ⌝ }
 {
     let looked = call_answers::look(book, number);
     let reply = looked.reply;

@@ -19,7 +19,8 @@ use Rattle.account_steps.specs.Closing.{creditAfter}
 use Rattle.account_steps.specs.Charges.{chargeOf, accountCharged, accountWithheld}
 use Rattle.account_steps.proofs.Closing.{credit-capped}
 use Rattle.account_steps.proofs.TwoYears.{joined, joinedLater, runs-open, advanced-open, runs-later, advanced-later}
-use Rattle.book_rules.specs.Book.{detailsFit, openYearFits, halvesOf, isMade, runMade, dueIfMade, runsFit, halvesMade, advancesFit, laterHalf, laterFits, chargeFits, creditFits, halvesFit, accountFits, isRun}
+use Rattle.book_rules.specs.Book.{detailsFit, openYearFits, halvesOf, isMade, runMade, dueIfMade, runsFit, halvesMade, advancesFit, laterHalf, laterFits, chargeFits, creditFits, halvesFit}
+use Rattle.book_rules.specs.Book.{accountFits, isRun}
 use Rattle.call_rules.specs.Changes.{newAccount}
 use Rattle.call_keeps.proofs.Ranges.{conjuncts, account-good, account-fits, details-within}
 use Rattle.call_keeps.proofs.Widths.{AccountWithin, account-within}
@@ -277,7 +278,8 @@ module _ (a : Account) (v : YearValues) (h : accountFits a ≡ true) (last : a .
   unfolding runsFit dueIfMade halvesOf accountClosed due
   runs-closed =
       and-both (lt-ltb (a .«later_runs») 8 (omega (arith, account-within a h .«later_runs»)))
-      (rw (pays-then june, pays-then october, pays-then january, no-january) (and-both (and-both (or-second (not (isMade (a .«later_runs») june)) refl) (or-second (not (isMade (a .«later_runs») october)) refl)) refl))
+      (rw (pays-then june, pays-then october, pays-then january, no-january)
+      (and-both (and-both (or-second (not (isMade (a .«later_runs») june)) refl) (or-second (not (isMade (a .«later_runs») october)) refl)) refl))
 
   advances-closed : advancesFit (accountClosed v a) ≡ true
   unfolding advancesFit halvesMade halvesOf accountClosed halvesCount laterFits laterHalf

@@ -20,8 +20,7 @@ use Rattle.book_rules.specs.Find.{findUser}
 use Rattle.call_rules.specs.Rules.{testOf}
 use Rattle.call_rules.specs.Refusals.{lookAt, userAt, dayAndOption, yearOpen, chargeOpen}
 use Rattle.call_rules.specs.Changes.{newAccount}
-use Rattle.call_rules.specs.Calls.{Call, enrol, elect, advance, close, statement, charge, namedBy, rulesOf, refusalOf, changeOf}
-use Rattle.call_rules.specs.Typed.{Typed}
+use Rattle.call_rules.specs.Calls.{Call, enrol, elect, advance, close, statement, charge, namedBy, rulesOf, refusalOf, changeOf, Typed}
 use Rattle.call_rules.proofs.Orders.{fact}
 use Rattle.call_keeps.proofs.Good.{Good, room}
 use Rattle.call_keeps.proofs.Numbers.{Found, found, none-found}
@@ -67,7 +66,8 @@ uncharged a h = eqb-true (a .charge .made) 0 (and-left (eqb (a .charge .made) 0)
 
 pub sheet-passed : (b s : List ℕ) → refusalOf b (close s) ≡ 0 → Passed s
 unfolding testOf rulesOf lookAt namedBy
-sheet-passed b s h = let accepted = fact b (close s) h in record { past11 = not-true (refused11 s) (accepted 11); past13 = (not-true (refused13 s) (accepted 13), not-true (refused19 s) (accepted 19)) }
+sheet-passed b s h =
+    let accepted = fact b (close s) h in record { past11 = not-true (refused11 s) (accepted 11); past13 = (not-true (refused13 s) (accepted 13), not-true (refused19 s) (accepted 19)) }
 
 module _ (b : List ℕ) (g : Good b) where
   fits-at : (i : ℕ) → isUser b i ≡ true → accountFits (accountAt b i) ≡ true

@@ -10,7 +10,8 @@ use lib.Dec.{eqb, ltb}
 use Rattle.units.proofs.Bools.{and-left, and-right, and-both}
 use Rattle.account_steps.specs.declared.Account.{Account}
 use Rattle.book_layout.specs.Fields.{capacity, userKind}
-use Rattle.book_rules.specs.Book.{used, firstUser, accountFits, accountAt, isUser, isEntry, firstEntryOf, ownerOf, activationOf, openYearOf, firstEntryFits, firstInOrder, inOrder, nextInOrder, ownerFits, entryNextFits, hits, pointersFrom}
+use Rattle.book_rules.specs.Book.{used, firstUser, accountFits, accountAt, isUser, isEntry, firstEntryOf, ownerOf, activationOf, openYearOf, firstEntryFits, firstInOrder, inOrder, nextInOrder}
+use Rattle.book_rules.specs.Book.{ownerFits, entryNextFits, hits, pointersFrom}
 use Rattle.book_rules.proofs.RecordKinds.{kind-index, entry-index}
 use Rattle.book_rules.proofs.Faultless.{UserGood, EntryLinks}
 use Rattle.call_keeps.proofs.Bools.{or-stays, or-second}

@@ -7,8 +7,7 @@ use borrow.Author.Tests.{eq-eqb, eqb-true}
 use lib.Dec.{eqb}
 use Rattle.book_rules.specs.Find.{findUser}
 use Rattle.call_rules.specs.Refusals.{userAt}
-use Rattle.call_rules.specs.Calls.{Call, namedBy, refusalOf, changeOf, booked, bookAfter}
-use Rattle.call_rules.specs.Typed.{Typed}
+use Rattle.call_rules.specs.Calls.{Call, namedBy, refusalOf, changeOf, booked, bookAfter, Typed}
 use Rattle.call_rules.specs.Laws.{KeepsSound}
 use Rattle.call_rules.proofs.Orders.{length-fact}
 use Rattle.call_keeps.proofs.Good.{Good, sound-good, good-sound}

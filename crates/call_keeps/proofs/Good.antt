@@ -7,7 +7,8 @@ use native.Mathlib.Omega.{arith}
 use borrow.Author.Tests.{eqb-false, not-true}
 use lib.Dec.{eqb}
 use lib.ListN.{length}
-use Rattle.book_layout.specs.Fields.{recordLength, capacity}
+use Rattle.units.specs.Limits.{recordLength}
+use Rattle.book_layout.specs.Fields.{capacity}
 use Rattle.book_layout.proofs.ByteRanges.{Bytes}
 use Rattle.book_rules.specs.Book.{lengthFits, used, usedFits, sound}
 use Rattle.book_rules.proofs.Lengths.{length-least, length-most, length-whole}

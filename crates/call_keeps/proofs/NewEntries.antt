@@ -14,7 +14,8 @@ use Rattle.book_layout.proofs.ByteRanges.{field-below}
 use Rattle.book_records.specs.declared.AdvanceRecord.{AdvanceRecord}
 use Rattle.book_records.specs.declared.ClosingRecord.{ClosingRecord}
 use Rattle.book_records.specs.Records.{advanceImage, closingImage}
-use Rattle.book_rules.specs.Book.{used, firstUser, accountFits, advanceFits, closingFits, accountAt, isUser, isAdvance, isClosing, firstEntryOf, levelFrom, levelOf, openYearOf, activationOf, inOrder, kindAt, entryRanges, zeroBytesFit, unnamedOf, isEntry}
+use Rattle.book_rules.specs.Book.{used, firstUser, accountFits, advanceFits, closingFits, accountAt, isUser, isAdvance, isClosing, firstEntryOf, levelFrom, levelOf, openYearOf, activationOf, inOrder}
+use Rattle.book_rules.specs.Book.{kindAt, entryRanges, zeroBytesFit, unnamedOf, isEntry}
 use Rattle.book_rules.proofs.RecordKinds.{kind-index, advance-entry, closing-entry}
 use Rattle.book_rules.proofs.Faultless.{EntryGood, entry-ranges}
 use Rattle.call_keeps.proofs.Bools.{or-first, or-second}
@@ -94,7 +95,8 @@ module _ (b b′ : List ℕ) (i : ℕ) (a : Account) (g : Good b) (h : isUser b 
         }
 
     pub advance-entered : Entered b b′ i a × ((isEntry b′ (used b) ≡ true) × AdvanceAt b′ (used b) x)
-    advance-entered = (entered b b′ i a (advanceImage x) g h same fits e new-advance room (an-entry (advance-entry b′ (used b) is-advance) advance-good), (advance-entry b′ (used b) is-advance, advance))
+    advance-entered =
+        (entered b b′ i a (advanceImage x) g h same fits e new-advance room (an-entry (advance-entry b′ (used b) is-advance) advance-good), (advance-entry b′ (used b) is-advance, advance))
 
   -- a closing of the open year, which the next follows
   module _ (x : ClosingRecord) (front : InFront b i (x .next .0) (x .owner .0) (x .year)) (ranges : closingFits a x ≡ true) (balance : x .sums .balance .0 < 2 ^ 64)
@@ -131,4 +133,5 @@ module _ (b b′ : List ℕ) (i : ℕ) (a : Account) (g : Good b) (h : isUser b 
         }
 
     pub closing-entered : Entered b b′ i a × ((isEntry b′ (used b) ≡ true) × ClosingAt b′ (used b) x)
-    closing-entered = (entered b b′ i a (closingImage x) g h same fits e new-closing room (an-entry (closing-entry b′ (used b) is-closing) closing-good), (closing-entry b′ (used b) is-closing, closing))
+    closing-entered =
+        (entered b b′ i a (closingImage x) g h same fits e new-closing room (an-entry (closing-entry b′ (used b) is-closing) closing-good), (closing-entry b′ (used b) is-closing, closing))

@@ -30,7 +30,8 @@ account-good a h = search conjuncts
 
 pub account-fits : (a : Account) → AccountGood a → accountFits a ≡ true
 unfolding accountFits
-account-fits a g = and-both (and-both (g .number) (and-both (g .details) (g .openYear))) (and-both (and-both (and-both (and-both (g .runs) (g .advances)) (g .later)) (g .charge)) (and-both (g .credit) (g .halves)))
+account-fits a g =
+    and-both (and-both (g .number) (and-both (g .details) (g .openYear))) (and-both (and-both (and-both (and-both (g .runs) (g .advances)) (g .later)) (g .charge)) (and-both (g .credit) (g .halves)))
 
 -- the ranges of the details and the option
 pub record DetailsWithin (d : Details) (elected : ℕ) : Type 0 where

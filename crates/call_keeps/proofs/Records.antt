@@ -3,7 +3,8 @@ use Prim.Native.Nat.{ℕ}
 use mathlib.Core.Path.{_≡_, ap, _∙_}
 use mathlib.Core.Bool.{true}
 use mathlib.Core.List.{List}
-use Rattle.book_layout.specs.Fields.{get, allZero, unnamedOfUser, unnamedOfAdvance, unnamedOfClosing, recordAt, userKind, advanceKind, closingKind, nextField, kindField, numberField, firstEntryField, activationYearField, openYearField, ownerField}
+use Rattle.book_layout.specs.Fields.{get, allZero, unnamedOfUser, unnamedOfAdvance, unnamedOfClosing, recordAt, userKind, advanceKind, closingKind, nextField, kindField, numberField, firstEntryField}
+use Rattle.book_layout.specs.Fields.{activationYearField, openYearField, ownerField}
 use Rattle.book_records.specs.declared.UserRecord.{UserRecord}
 use Rattle.book_records.specs.declared.AdvanceRecord.{AdvanceRecord}
 use Rattle.book_records.specs.declared.ClosingRecord.{ClosingRecord}

@@ -14,7 +14,9 @@ use Rattle.book_layout.specs.Fields.{get, kindField, recordAt, userKind, advanc
 use Rattle.book_records.specs.declared.AdvanceRecord.{AdvanceRecord}
 use Rattle.book_records.specs.declared.ClosingRecord.{ClosingRecord}
 use Rattle.book_records.specs.Records.{accountIn, advanceIn, closingIn}
-use Rattle.book_rules.specs.Book.{isUser, isAdvance, isClosing, isEntry, nextOf, firstEntryOf, ownerOf, accountAt, activationOf, openYearOf, levelOf, yearFits, isRun, levelFrom, bookedFits, advanceFits, balanceFits, withheldFits, closingFits, entryRanges, userNextFits, numberIsNew, firstEntryFits, entryNextFits, ownerFits, inOrder, firstInOrder, nextInOrder}
+use Rattle.book_rules.specs.Book.{isUser, isAdvance, isClosing, isEntry, nextOf, firstEntryOf, ownerOf, accountAt, activationOf, openYearOf, levelOf, yearFits, isRun, levelFrom, bookedFits}
+use Rattle.book_rules.specs.Book.{advanceFits, balanceFits, withheldFits, closingFits, entryRanges, userNextFits, numberIsNew, firstEntryFits, entryNextFits, ownerFits, inOrder, firstInOrder}
+use Rattle.book_rules.specs.Book.{nextInOrder}
 use Rattle.book_rules.proofs.RecordKinds.{kind-index, user-index, advance-entry, closing-entry, entry-index}
 use Rattle.book_rules.proofs.Faultless.{owner-before}
 use Rattle.call_keeps.proofs.Bools.{or-stays, and-stays, cond-stays}

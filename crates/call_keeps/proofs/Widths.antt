@@ -15,7 +15,8 @@ use Rattle.book_records.proofs.Users.{UserFits}
 use Rattle.book_records.proofs.Advances.{AdvanceFits}
 use Rattle.book_records.proofs.Closings.{ClosingFits}
 use Rattle.calendar.specs.ElectionAndAdvances.{june, october, january}
-use Rattle.book_rules.specs.Book.{openYearFits, runsFit, advancesFit, laterHalf, laterFits, chargeFits, isMade, creditFits, halvesFit, accountFits, halvesMade, yearFits, isRun, levelFrom, bookedFits, advanceFits, paidBalance, withheldFits, closingFits}
+use Rattle.book_rules.specs.Book.{openYearFits, runsFit, advancesFit, laterHalf, laterFits, chargeFits, isMade, creditFits, halvesFit, accountFits, halvesMade, yearFits, isRun, levelFrom, bookedFits}
+use Rattle.book_rules.specs.Book.{advanceFits, paidBalance, withheldFits, closingFits}
 use Rattle.call_keeps.proofs.Ranges.{conjuncts, account-good, DetailsWithin, details-within}
 use Rattle.call_keeps.proofs.Runs.{made-two-halves, is-run, Run, June, October, January}
 

@@ -5,9 +5,10 @@ use mathlib.Core.Bool.{true}
 use mathlib.Core.List.{List}
 use native.Mathlib.Omega.{arith}
 use lib.ListN.{length}
+use Rattle.units.specs.Limits.{recordLength}
 use Rattle.units.specs.Units.{recordIndex}
 use Rattle.account_steps.specs.declared.Account.{Account}
-use Rattle.book_layout.specs.Fields.{recordLength, get, allZero, unnamedOfHead, recordAt, putRecord, capacity, usedField, firstUserField, userKind}
+use Rattle.book_layout.specs.Fields.{get, allZero, unnamedOfHead, recordAt, putRecord, capacity, usedField, firstUserField, userKind}
 use Rattle.book_layout.proofs.Places.{length-put, record-put-same, record-put-other}
 use Rattle.book_layout.proofs.ByteRanges.{Bytes, bytes-put, field-below}
 use Rattle.book_records.specs.declared.UserRecord.{UserRecord}

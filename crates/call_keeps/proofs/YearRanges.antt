@@ -20,7 +20,8 @@ use Rattle.sheet.proofs.Limits.{passed-energy, passed-price}
 use Rattle.sheet_prices.specs.ValueAndCost.{bandPrice, singlePrice, costIn, costOf, valueIn, valueOf}
 use Rattle.sheet_prices.proofs.SheetRows.{band-price-fits, single-price-fits}
 use Rattle.sheet_values.specs.declared.Details.{Details}
-use Rattle.sheet_values.specs.YearsValues.{monthExchanged, monthRate, annualRate, monthFlatRate, annualFlatRate, flatRateOver, withdrawnOver, exchangedOver, someMonthAbove, halfOf, yearValues, onIsland, isPhotovoltaic, ValuesFit}
+use Rattle.sheet_values.specs.YearsValues.{monthExchanged, monthRate, annualRate, monthFlatRate, annualFlatRate, flatRateOver, withdrawnOver, exchangedOver, someMonthAbove, halfOf, yearValues}
+use Rattle.sheet_values.specs.YearsValues.{onIsland, isPhotovoltaic, ValuesFit}
 use Rattle.sheet_values.proofs.SheetRates.{month-rate-capped, annual-rate-capped}
 use Rattle.sheet_values.proofs.Bounds.{sheets-bounded}
 use Rattle.sheet_values.proofs.SheetEnergies.{exchanged-within, exchanged-capped}

@@ -32,8 +32,8 @@ fn has_field(s: &[u8], month: u32, band: u32) -> bool
 // 13 19 23, of a sheet whose header is right.
 fn field_objection(s: &[u8], month: u32, band: u32) -> Objection
     requires { ⌜ length (now s) ≡ sheetLength ⌝ }
-    ensures { λ r. ⌜ r .refusal ≡ refusedBy (fieldRules (now (s .entry)) month band) ⌝ }
-    ensures { λ r. ⌜ Tells (now (s .entry)) (r .refusal) (r .position) ⌝ }
+    ensures refusal { λ r. ⌜ r .refusal ≡ refusedBy (fieldRules (now (s .entry)) month band) ⌝ }
+    ensures position { λ r. ⌜ Tells (now (s .entry)) (r .refusal) (r .position) ⌝ }
 {
     let fault = call_refusals::sheet_fault(s);
     if has_field(s, month, band) {
@@ -57,9 +57,10 @@ fn nothing_added(reply: Reply, position: Position) -> MoreSun
 }
 
 pub fn more_sun(book: &[u8], s: &[u8], month: u32, band: u32) -> MoreSun
-    ensures { λ r. ⌜ AnsweredBy (now (book .entry)) (moreSunOrder (now (book .entry)) (now (s .entry)) month band) 0 (r .reply .refusal) (r .reply .record .0) ⌝ }
-    ensures { λ r. ⌜ Tells (now (s .entry)) (r .reply .refusal) (r .position) ⌝ }
-    ensures { λ r. ⌜ r .addition ≡ additionAnswered (now (book .entry)) (now (s .entry)) month band (r .reply .refusal) ⌝ }
+    ensures reply { λ r. ⌜ AnsweredBy (now (book .entry)) (moreSunOrder (now (book .entry)) (now (s .entry)) month band) 0
+        (r .reply .refusal) (r .reply .record .0) ⌝ }
+    ensures position { λ r. ⌜ Tells (now (s .entry)) (r .reply .refusal) (r .position) ⌝ }
+    ensures addition { λ r. ⌜ r .addition ≡ additionAnswered (now (book .entry)) (now (s .entry)) month band (r .reply .refusal) ⌝ }
 {
     let looked = call_answers::look(book, sheet::user(s));
     let reply = looked.reply;

@@ -15,13 +15,14 @@ ghost use Rattle.units.specs.Limits.{lastActivation};
 ghost use lib.Dec.{leb};
 ghost use Rattle.call_rules.specs.Calls.{enrol, elect, advance, charge, sheetRules, rulesOf};
 use account_steps::Account;
-use book_rules::LAST_ACTIVATION;
-use book_rules::LAST_OPEN_YEAR;
-use book_rules::MAX_HALF_KWH;
 use calendar::Halves;
 use sheet::Objection;
 use sheet_values::Details;
+use units::LAST_ACTIVATION;
+use units::LAST_OPEN_YEAR;
+use units::MAX_HALF_KWH;
 use units::MAX_PRICE;
+use units::RECORD_LENGTH;
 use units::Rate;
 use units::RecordIndex;
 use units::UserNumber;
@@ -41,7 +42,7 @@ fn refuse(fits: bool, number: u32, later: u32) -> u32
 pub fn has_room(book: &[u8]) -> bool
     ensures { λ r. ⌜ r ≡ hasRoom (now (book .entry)) ⌝ }
 {
-    !(book_view::used(book) as usize == book.len() / 80)
+    !(book_view::used(book) as usize == book.len() / RECORD_LENGTH)
 }
 
 fn day_and_option(option: u8, year: u32, month: u32, day: u32) -> bool
@@ -142,7 +143,8 @@ pub fn enrol_objection(
 
 // 7 8: no call reads an account before 6 is past, so each of these holds of any user that is present.
 pub fn elect_objection(a: Account, option: u8, year: u32, month: u32, day: u32) -> u32
-    ensures { λ r. ⌜ ((number user : ℕ) (room : Bool) → (user ≡ 0 → ⊥) → r ≡ refusedBy (rulesOf (lookOf user a room) (elect number option year month day))) ⌝ }
+    ensures { λ r. ⌜ ((number user : ℕ) (room : Bool) → (user ≡ 0 → ⊥)
+        → r ≡ refusedBy (rulesOf (lookOf user a room) (elect number option year month day))) ⌝ }
 {
     let window = refuse(election_open(a, year, month, day), 8, 0);
     refuse(day_and_option(option, year, month, day), 7, window)
@@ -171,7 +173,8 @@ pub fn advance_objection(
     estimate2: WideKwh,
     room: bool,
 ) -> u32
-    ensures { λ r. ⌜ ((number user : ℕ) → (user ≡ 0 → ⊥) → r ≡ refusedBy (rulesOf (lookOf user a room) (advance number year run (price .0) (estimate1 .0) (estimate2 .0)))) ⌝ }
+    ensures { λ r. ⌜ ((number user : ℕ) → (user ≡ 0 → ⊥)
+        → r ≡ refusedBy (rulesOf (lookOf user a room) (advance number year run (price .0) (estimate1 .0) (estimate2 .0)))) ⌝ }
 {
     let order = refuse(
         order_fits(price, estimate1, estimate2),
@@ -193,8 +196,8 @@ pub fn sheet_fault(s: &[u8]) -> Objection
 // 12 13 19 14 3, of a sheet whose header is right. What 14 adds up is known to have passed 13.
 pub fn close_objection(s: &[u8], a: Account, room: bool) -> Objection
     requires { ⌜ length (now s) ≡ sheetLength ⌝ }
-    ensures { λ r. ⌜ ((user : ℕ) → (user ≡ 0 → ⊥) → r .refusal ≡ refusedBy (sheetRules (lookOf user a room) (now (s .entry)))) ⌝ }
-    ensures { λ r. ⌜ Tells (now (s .entry)) (r .refusal) (r .position) ⌝ }
+    ensures refusal { λ r. ⌜ ((user : ℕ) → (user ≡ 0 → ⊥) → r .refusal ≡ refusedBy (sheetRules (lookOf user a room) (now (s .entry)))) ⌝ }
+    ensures position { λ r. ⌜ Tells (now (s .entry)) (r .refusal) (r .position) ⌝ }
 {
     if !year_open(a, sheet::year(s)) {
         return sheet::unplaced(12);

@@ -1,6 +1,6 @@
--- The five calls of document 01 and the charge of ticket 1: their refusal, their answer and the book after them. "A refusal leaves every byte and
--- answers zeros beside its number, but for the record in 2."
-use Prim.Native.Nat.{ℕ}
+-- The five calls of document 01 and the charge of ticket 1: their refusal, their answer and the book after them. "A refusal
+-- leaves every byte and answers zeros beside its number, but for the record in 2."
+use Prim.Native.Nat.{ℕ, _^_, _<_}
 use mathlib.Core.Bool.{cond, not}
 use mathlib.Core.List.{List, [], _∷_}
 use lib.Dec.{eqb}
@@ -16,7 +16,9 @@ use Rattle.book_records.specs.Entries.{advanceEntry, closingEntry}
 use Rattle.call_rules.specs.Changes.{Change, nothing, opens, sets, enters, applied, newAccount, bookedIn, runAmount}
 use Rattle.book_rules.specs.Find.{findUser}
 use Rattle.call_rules.specs.Rules.{Rule, _unless_, refusedBy}
-use Rattle.call_rules.specs.Refusals.{Look, lookAt, numberFree, present, dayAndOption, electionOpen, runOpen, orderFits, yearOpen, chargeOpen, userAt}
+use Rattle.call_rules.specs.Refusals.{Look, lookAt, numberFree, present, dayAndOption, electionOpen, runOpen, orderFits, yearOpen}
+use Rattle.call_rules.specs.Refusals.{chargeOpen, userAt}
+use lib.ListN.{getD}
 
 -- the calls and what they bring
 pub data Call : Type 0 where
@@ -88,3 +90,19 @@ bookAfter b c = cond (eqb (refusalOf b c) 0) (booked b c) b
 -- answers, or 0 beside another refusal
 unfoldable pub recordNamed : List ℕ → (refusal answered : ℕ) → ℕ
 recordNamed b refusal answered = cond (eqb refusal 2) (smallestFaulty b) (cond (eqb refusal 0) answered 0)
+
+-- ARGUMENTS AS THE INTERFACE'S TYPES HOLD THEM
+
+unfoldable pub Typed : Call → Type 0
+Typed (enrol n d o) =
+    (n < 2 ^ 32) × (o < 2 ^ 8) × (d .class < 2 ^ 8) × (d .plant < 2 ^ 8) × (d .power < 2 ^ 32) × (d .year < 2 ^ 16) × (d .month < 2 ^ 8)
+    × (d .island < 2 ^ 8)
+Typed (elect n o y m d) = (n < 2 ^ 32) × (o < 2 ^ 8) × (y < 2 ^ 32) × (m < 2 ^ 32) × (d < 2 ^ 32)
+Typed (advance n y r p e₁ e₂) = (n < 2 ^ 32) × (y < 2 ^ 32) × (r < 2 ^ 8) × (p < 2 ^ 64) × (e₁ < 2 ^ 64) × (e₂ < 2 ^ 64)
+Typed (close s) = (k : ℕ) → getD s k 0 < 256
+Typed (statement n) = n < 2 ^ 32
+Typed (charge n) = n < 2 ^ 32
+
+unfoldable pub AllTyped : List Call → Type 0
+AllTyped [] = Unit {0}
+AllTyped (c ∷ cs) = Typed c × AllTyped cs

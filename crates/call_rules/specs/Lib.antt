@@ -2,5 +2,4 @@ pub mod Rules
 pub mod Changes
 pub mod Refusals
 pub mod Calls
-pub mod Typed
 pub mod Laws

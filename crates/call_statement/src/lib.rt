@@ -34,8 +34,9 @@ fn no_sums() -> Sums
 }
 
 pub fn statement(book: &[u8], number: UserNumber) -> Stated
-    ensures { λ r. ⌜ Answered (now (book .entry)) (statement (number .0)) 0 (r .reply .refusal) (r .reply .record .0) (now (book .entry)) ⌝ }
-    ensures { λ r. ⌜ r .sums ≡ sumsStated (now (book .entry)) (number .0) (r .reply .refusal) ⌝ }
+    ensures reply { λ r. ⌜ Answered (now (book .entry)) (statement (number .0)) 0 (r .reply .refusal) (r .reply .record .0)
+        (now (book .entry)) ⌝ }
+    ensures sums { λ r. ⌜ r .sums ≡ sumsStated (now (book .entry)) (number .0) (r .reply .refusal) ⌝ }
 {
     let looked = call_answers::look(book, number);
     let reply = looked.reply;

@@ -2,11 +2,12 @@
 ghost use mathlib.Core.Path.{_≡_};
 ghost use Prim.Native.Nat.{_+_, _*_, _≤_, _<_, _^_};
 ghost use lib.ListN.{length};
-ghost use Rattle.book_layout.specs.Fields.{recordLength};
+ghost use Rattle.units.specs.Limits.{recordLength};
 ghost use Rattle.book_rules.specs.Book.{used};
 ghost use Rattle.call_rules.specs.Changes.{enrolledAs, withAccount, withEntry};
 use account_steps::Account;
 use book_records::UserRecord;
+use units::RECORD_LENGTH;
 use units::RecordIndex;
 
 // A user's record with another account; its links stay.
@@ -28,7 +29,7 @@ pub fn write_account(book: &mut [u8], user: RecordIndex, account: Account)
 }
 
 // A new entry in front of a user's chain, and the user's account after it.
-pub fn write_entry(book: &mut [u8], user: RecordIndex, account: Account, entry: [u8; 80])
+pub fn write_entry(book: &mut [u8], user: RecordIndex, account: Account, entry: [u8; RECORD_LENGTH])
     requires { ⌜ recordLength * user .0 + recordLength ≤ length (now book) ⌝ }
     requires { ⌜ recordLength * used (now book) + recordLength ≤ length (now book) ⌝ }
     requires { ⌜ (length entry ≡ recordLength) × (used (now book) + 1 < 2 ^ 32) ⌝ }

@@ -17,7 +17,8 @@ use Rattle.book_layout.specs.Fields.{recordAt}
 use Rattle.account_steps.specs.declared.ClosingSums.{ClosingSums}
 use Rattle.book_records.specs.declared.ClosingRecord.{ClosingRecord}
 use Rattle.book_records.specs.Records.{advanceIn, closingIn}
-use Rattle.book_rules.specs.Book.{within, isUser, isAdvance, isClosing, ownerOf, accountAt, accountFits, detailsFit, openYearFits, paymentsFit, creditFits, halvesFit, yearFits, levelFrom, bookedFits, isRun, advanceFits, balanceFits, withheldFits, closingFits}
+use Rattle.book_rules.specs.Book.{within, isUser, isAdvance, isClosing, ownerOf, accountAt, accountFits, detailsFit, openYearFits, paymentsFit, creditFits, halvesFit, yearFits, levelFrom, bookedFits}
+use Rattle.book_rules.specs.Book.{isRun, advanceFits, balanceFits, withheldFits, closingFits}
 use Rattle.book_rules.proofs.Faultless.{Faultless}
 use Rattle.book_rules.proofs.Faultless as book
 use Rattle.book_rules.proofs.RecordKinds.{advance-entry, closing-entry}
@@ -125,7 +126,8 @@ module _ (b : List ℕ) (f : Faultless b) where
 
   pub closing-ranges : (e : ℕ) → isClosing b e ≡ true → ClosingRanges (closingIn (recordAt b e) .sums)
   closing-ranges e c =
-      closing-ranges-of (accountAt b (ownerOf b e)) (closingIn (recordAt b e)) (user-years (ownerOf b e) (entry-owner b f e (closing-entry b e c) .0)) (book.closing-ranges b e (f .entry e (closing-entry b e c) .own) c)
+      closing-ranges-of (accountAt b (ownerOf b e)) (closingIn (recordAt b e)) (user-years (ownerOf b e) (entry-owner b f e (closing-entry b e c) .0))
+      (book.closing-ranges b e (f .entry e (closing-entry b e c) .own) c)
 
   pub advance-range : (e : ℕ) → isAdvance b e ≡ true → advanceIn (recordAt b e) .ticks .0 ≤ maxYearTicks
   unfolding advanceFits
@@ -136,4 +138,5 @@ module _ (b : List ℕ) (f : Faultless b) where
       let held = leb (r .withheld .0) (r .ticks .0) in
       let dated = yearFits owner (levelFrom (r .year) (r .booked)) && bookedFits (r .year) (r .booked) in
       leb-true (r .ticks .0) maxYearTicks
-      (and-right (isRun (r .run)) amount (and-left (isRun (r .run) && amount) held (and-right dated ((isRun (r .run) && amount) && held) (book.advance-ranges b e (f .entry e (advance-entry b e a) .own) a))))
+      (and-right (isRun (r .run)) amount (and-left (isRun (r .run) && amount) held
+      (and-right dated ((isRun (r .run) && amount) && held) (book.advance-ranges b e (f .entry e (advance-entry b e a) .own) a))))

@@ -6,7 +6,7 @@ use mathlib.Core.Logic.{⊎-map}
 use mathlib.Core.List.{List, _∷_}
 use native.Mathlib.Omega.{arith}
 use lib.ListN.{length}
-use Rattle.book_layout.specs.Fields.{recordLength}
+use Rattle.units.specs.Limits.{recordLength}
 use Rattle.book_rules.specs.Book.{lengthFits, sound, isUser, isEntry, nextOf, firstEntryOf}
 use Rattle.book_rules.proofs.Faultless.{Faultless, sound-faultless}
 use Rattle.book_rules.proofs.Faults.{used-whole}

@@ -7,10 +7,11 @@ use native.Mathlib.Omega.{arith}
 use borrow.Author.Tests.{le-leb, eq-eqb}
 use lib.Dec.{eqb}
 use lib.ListN.{length, getD, replicate, length-replicate, getD-replicate}
+use Rattle.units.specs.Limits.{recordLength}
 use Rattle.units.proofs.Folds.{all-of}
 use Rattle.codec.specs.Bytes.{zeros}
 use Rattle.codec.proofs.Numbers.{number-four}
-use Rattle.book_layout.specs.Fields.{recordLength, recordAt, usedField, firstUserField, allZero, unnamedOfHead}
+use Rattle.book_layout.specs.Fields.{recordAt, usedField, firstUserField, allZero, unnamedOfHead}
 use Rattle.book_layout.proofs.Places.{get-record, byte-record}
 use Rattle.book_rules.specs.Book.{lengthFits, freshBook, used, usedFits, firstUser, goodHead, sound}
 use Rattle.check_book.specs.Verdicts.{Accepted, freshAfter}

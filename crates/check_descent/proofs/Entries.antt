@@ -10,7 +10,8 @@ use native.Mathlib.Omega.{arith}
 use borrow.Author.Tests.{eq-eqb, lt-ltb}
 use lib.Dec.{eqb, ltb}
 use Rattle.book_layout.specs.Fields.{userKind}
-use Rattle.book_rules.specs.Book.{used, kindAt, isUser, isEntry, ownerOf, nextOf, firstEntryOf, levelOf, yearsEnded, inOrder, activationOf, openYearOf, firstEntryFits, firstInOrder, ownerFits, entryNextFits, nextInOrder}
+use Rattle.book_rules.specs.Book.{used, kindAt, isUser, isEntry, ownerOf, nextOf, firstEntryOf, levelOf, yearsEnded, inOrder, activationOf, openYearOf, firstEntryFits, firstInOrder, ownerFits}
+use Rattle.book_rules.specs.Book.{entryNextFits, nextInOrder}
 use Rattle.book_rules.proofs.RecordKinds.{kind-from-one, kind-below, not-both}
 use Rattle.book_rules.proofs.Levels.{entry-in-order}
 use Rattle.check_descent.specs.InnerDescent.{met, dueEntry, dueYear, MetUser, MetEntry, Passed}

@@ -7,7 +7,8 @@ use mathlib.Core.Logic.{_⊎_}
 use mathlib.Core.Bool.{true, cond}
 use mathlib.Core.List.{List}
 use Rattle.book_layout.specs.Fields.{recordAt, allZero, unnamedOfHead}
-use Rattle.book_rules.specs.Book.{used, usedFits, firstUser, kindAt, isUser, isEntry, ownerOf, rangesFit, zeroBytesFit, nextOf, firstEntryOf, numberOf, levelOf, yearsEnded, activationOf, openYearOf}
+use Rattle.book_rules.specs.Book.{used, usedFits, firstUser, kindAt, isUser, isEntry, ownerOf, rangesFit, zeroBytesFit, nextOf}
+use Rattle.book_rules.specs.Book.{firstEntryOf, numberOf, levelOf, yearsEnded, activationOf, openYearOf}
 use Rattle.check_owners.specs.InnerOwners.{owns}
 
 abbrev pub met : List ℕ → ℕ → ℕ

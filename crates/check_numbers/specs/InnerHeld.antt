@@ -2,6 +2,7 @@
 -- the first of them that was empty. 0 is an empty place and no number.
 use Prim.Native.Nat.{ℕ, zero, suc, _+_, _*_, _/_, _%_, _<_, min}
 use mathlib.Core.Path.{_≡_}
+use mathlib.Core.Bool.{Bool, true}
 use mathlib.Core.List.{List}
 use lib.ListN.{length, getD}
 
@@ -55,3 +56,13 @@ pub record Inserted (t : List ℕ) (n : ℕ) (after : List ℕ) : Type 0 where
   pub fresh : Held t n → ⊥
   pub held : Held after n
   pub kept : (m : ℕ) → Held t m → Held after m
+
+-- a place of the table
+pub record PlaceIs (n places r : ℕ) : Type 0 where
+  pub is : r ≡ n
+  pub within : r < places
+
+-- a number that is put into the table, where it is told so
+pub record Put (t : List ℕ) (n : ℕ) (after : List ℕ) (r : Bool) : Type 0 where
+  pub size : length after ≡ length t
+  pub inserted : r ≡ true → Inserted t n after

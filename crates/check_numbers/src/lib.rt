@@ -3,7 +3,7 @@ ghost use mathlib.Core.Path.{_≡_};
 ghost use mathlib.Core.Bool.{true};
 ghost use Prim.Native.Nat.{_+_, _%_, _<_};
 ghost use lib.ListN.{length};
-ghost use Rattle.check_numbers.specs.InnerHeld.{remixed, startOf, Inserted};
+ghost use Rattle.check_numbers.specs.InnerHeld.{remixed, startOf, PlaceIs, Put};
 use units::UserNumber;
 
 // Places for the numbers of the 800 records that a book can have: most numbers find the first place that is tried empty.
@@ -30,8 +30,7 @@ fn remix(mixed: u32) -> u32
 // As far along the table as the mixed number is along 2^32. The product fits: no place from 2^32 on is a start.
 fn start_of(places: usize, mixed: u32) -> usize
     requires { ⌜ 0 < places ⌝ }
-    ensures { λ r. ⌜ r ≡ startOf places mixed ⌝ }
-    ensures { λ r. ⌜ r < places ⌝ }
+    ensures { λ r. ⌜ PlaceIs (startOf places mixed) places r ⌝ }
 {
     let starts = if places < WORD { places } else { WORD };
     mixed as usize * starts / WORD
@@ -40,8 +39,7 @@ fn start_of(places: usize, mixed: u32) -> usize
 // After the last place comes the first.
 fn place_after(places: usize, at: usize) -> usize
     requires { ⌜ at < places ⌝ }
-    ensures { λ r. ⌜ r ≡ (at + 1) % places ⌝ }
-    ensures { λ r. ⌜ r < places ⌝ }
+    ensures { λ r. ⌜ PlaceIs ((at + 1) % places) places r ⌝ }
 {
     if at + 1 < places { at + 1 } else { 0 }
 }
@@ -50,8 +48,7 @@ fn place_after(places: usize, at: usize) -> usize
 pub fn insert(table: &mut [u32], number: UserNumber) -> bool
     requires { ⌜ 0 < length (now table) ⌝ }
     requires { ⌜ 0 < number .0 ⌝ }
-    ensures size { λ r. ⌜ length (now (table .exit)) ≡ length (now (table .entry)) ⌝ }
-    ensures inserted { λ r. ⌜ (r ≡ true → Inserted (now (table .entry)) (number .0) (now (table .exit))) ⌝ }
+    ensures { λ r. ⌜ Put (now (table .entry)) (number .0) (now (table .exit)) r ⌝ }
 {
     let mut mixed = number.0;
     let mut run = 0;

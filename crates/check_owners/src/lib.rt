@@ -6,7 +6,7 @@ ghost use Prim.Native.Nat.{_≤_};
 ghost use Rattle.book_rules.specs.Book.{used, usedFits};
 ghost use Rattle.units.specs.Limits.{mostRecords};
 ghost use Rattle.check_owners.specs.InnerOwners.{Linked};
-use book_rules::MOST_RECORDS;
+use units::MOST_RECORDS;
 
 // The first entry of each owner, and of each entry the next one that has the same owner; 0 for none.
 pub struct Entries {

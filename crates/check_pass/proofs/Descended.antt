@@ -14,7 +14,8 @@ use lib.Seq.{getD-set-same, getD-set-other}
 use Rattle.units.proofs.Bools.{and-left, and-right}
 use Rattle.units.proofs.Folds.{below-suc}
 use Rattle.book_layout.specs.Fields.{get, allZero, unnamedOfHead, recordAt, kindField, numberField, nextField, ownerField, userKind}
-use Rattle.book_rules.specs.Book.{used, usedFits, firstUser, kindAt, isUser, isEntry, accountAt, ownerOf, nextOf, firstEntryOf, openYearOf, activationOf, numberOf, levelIn, levelOf, yearsEnded, entryRanges, rangesFit, zeroBytesFit, ownRulesFit, sound}
+use Rattle.book_rules.specs.Book.{used, usedFits, firstUser, kindAt, isUser, isEntry, accountAt, ownerOf, nextOf, firstEntryOf, openYearOf, activationOf, numberOf, levelIn, levelOf, yearsEnded}
+use Rattle.book_rules.specs.Book.{entryRanges, rangesFit, zeroBytesFit, ownRulesFit, sound}
 use Rattle.book_rules.proofs.RecordKinds.{has-kind, entry-of-kind, not-both}
 use Rattle.book_rules.proofs.Faultless.{ranges-entry}
 use Rattle.check_descent.specs.InnerDescent.{met, dueUser, dueEntry, dueYear, MetUser, MetEntry}
@@ -163,7 +164,8 @@ module _ (b : List ℕ) {wanted left expected found : ℕ} {states seen : List �
         }
 
   -- an entry
-  module _ {kind : ℕ} (k : kind ≡ get kindField r) (other : kind ≡ userKind → ⊥) {home : ℕ} (h : home ≡ get ownerField r) (home-lo : 1 ≤ home) (home-hi : home < index) (owner : List ℕ) (owner-bytes : owner ≡ recordAt b home)
+  module _ {kind : ℕ} (k : kind ≡ get kindField r) (other : kind ≡ userKind
+      → ⊥) {home : ℕ} (h : home ≡ get ownerField r) (home-lo : 1 ≤ home) (home-hi : home < index) (owner : List ℕ) (owner-bytes : owner ≡ recordAt b home)
       {state : ℕ} (known : state ≡ getD states home 0) (f : EntryLeads r owner index state) {state' : ℕ} (after-state : StateAfter r state')
       (room : home < length states) where
     owner-here : ownerOf b index ≡ home

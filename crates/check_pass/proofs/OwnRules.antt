@@ -11,7 +11,8 @@ use lib.Dec.{eqb, leb, ltb}
 use Rattle.units.proofs.Bools.{and-left, or-cases}
 use Rattle.book_layout.specs.Fields.{get, allZero, unnamedOfUser, recordAt, kindField, numberField, ownerField, userKind}
 use Rattle.book_records.specs.Records.{accountIn}
-use Rattle.book_rules.specs.Book.{kindAt, hasKind, isUser, ownerOf, ownerFits, accountFits, entryRanges, rangesFit, unnamedOf, zeroBytesFit, ownRulesFit, goodRecord, detailsFit, openYearFits, paymentsFit, creditFits, halvesFit}
+use Rattle.book_rules.specs.Book.{kindAt, hasKind, isUser, ownerOf, ownerFits, accountFits, entryRanges, rangesFit, unnamedOf, zeroBytesFit, ownRulesFit, goodRecord, detailsFit, openYearFits}
+use Rattle.book_rules.specs.Book.{paymentsFit, creditFits, halvesFit}
 use Rattle.book_rules.proofs.Faults.{ownerless-bad}
 
 -- a user that keeps its rules has a number

@@ -9,9 +9,10 @@ use native.Mathlib.Omega.{arith}
 use borrow.Author.Tests.{eqb-true}
 use lib.Dec.{eqb}
 use lib.ListN.{length, getD, set, length-set}
+use Rattle.units.specs.Limits.{recordLength}
 use Rattle.units.specs.Units.{recordIndex}
 use Rattle.units.proofs.Bools.{and-left, and-right}
-use Rattle.book_layout.specs.Fields.{recordLength, get, allZero, unnamedOfHead, recordAt, kindField, numberField, nextField, ownerField, userKind}
+use Rattle.book_layout.specs.Fields.{get, allZero, unnamedOfHead, recordAt, kindField, numberField, nextField, ownerField, userKind}
 use Rattle.book_layout.proofs.Places.{length-record}
 use Rattle.book_rules.specs.Book.{used, usedFits, firstUser, isUser, ownRulesFit, goodRecord, goodHead}
 use Rattle.book_rules.proofs.Faults.{used-within, used-whole}
@@ -62,7 +63,8 @@ first b n false u {states} {seen} t {below} taken-up {records} {expected} {left}
       chains = λ on. absurd (false≢true on);
     }
 
-module _ (b : List ℕ) {n records places left expected found broken : ℕ} {chained : Bool} {states seen : List ℕ} (s : Passing b n records places left expected found broken chained states seen) (index : ℕ)
+module _ (b : List ℕ) {n records places left expected found broken : ℕ} {chained : Bool} {states seen : List ℕ} (s : Passing b n records places left expected found broken chained states seen)
+    (index : ℕ)
     (l : left ≡ index + 1) (lo : 1 ≤ index) where
   -- the record at the index is in the book, whole, and has its place in the states
   pub inside : index < used b
@@ -167,7 +169,8 @@ module _ (b : List ℕ) {n records places left expected found broken : ℕ} {cha
           }
 
 -- what the pass says in the end
-pub passed : (b : List ℕ) {n records places left expected found broken : ℕ} {chained : Bool} {states seen : List ℕ} → Passing b n records places left expected found broken chained states seen → left ≤ 1
+pub passed : (b : List ℕ) {n records places left expected found broken : ℕ} {chained : Bool} {states seen : List ℕ} → Passing b n records places left expected found broken chained states seen
+    → left ≤ 1
     → usedFits b ≡ true → goodHead b ≡ true → PassedOver b n chained record { broken = recordIndex broken; joined = chained && eqb expected 0; user = recordIndex found }
 unfolding goodHead
 passed b {n} {left} {expected} {found} {broken} {chained} s l u g =

@@ -3,16 +3,16 @@
 ghost use mathlib.Core.Path.{_≡_};
 ghost use mathlib.Core.Bool.{true, false, cond};
 ghost use Prim.Native.Nat.{_<_};
-ghost use lib.ListN.{length};
 ghost use Rattle.units.specs.Units.{recordIndex};
 ghost use Rattle.book_layout.specs.Fields.{get, nextField, kindField};
 ghost use Rattle.book_rules.specs.Book.{lengthFits, used, usedFits, goodHead, levelIn, yearsEnded};
-ghost use Rattle.check_pass.specs.InnerSteps.{years, entryDue, yearDue, UserLeads, EntryLeads, StateAfter, lastMet, apartAt, Tables, Resumed, PassedOver, PassedThrough};
+ghost use Rattle.check_pass.specs.InnerSteps.{years, entryDue, yearDue, UserLeads, EntryLeads, StateAfter, lastMet, apartAt, Tables};
+ghost use Rattle.check_pass.specs.InnerSteps.{Resumed, PassedThrough, PassMade};
 use book_layout::kind::CLOSING;
 use book_layout::kind::USER;
 use book_layout::whole_record;
-use book_rules::MOST_RECORDS;
 use check_numbers::PLACES;
+use units::MOST_RECORDS;
 use units::RecordIndex;
 use units::UserNumber;
 
@@ -148,8 +148,8 @@ fn pass_over(
     requires { ⌜ goodHead (now book) ≡ true ⌝ }
     requires { ⌜ Tables (used (now book)) chained (now states) (now seen) ⌝ }
     requires { ⌜ (chained ≡ false → Resumed (now book) below) ⌝ }
-    ensures said { λ p. ⌜ PassedOver (now (book .entry)) (wanted .0) chained p ⌝ }
-    ensures sizes { λ _. ⌜ (length (now (states .exit)) ≡ length (now (states .entry))) × (length (now (seen .exit)) ≡ length (now (seen .entry))) ⌝ }
+    ensures { λ p. ⌜ PassMade (now (book .entry)) (wanted .0) chained (now (states .entry)) (now (states .exit))
+        (now (seen .entry)) (now (seen .exit)) p ⌝ }
 {
     let records = book_view::used(book);
     let mut broken = records;

@@ -6,17 +6,17 @@ ghost use mathlib.Core.Bool.{true};
 ghost use Prim.Native.Nat.{ℕ, _+_, _≤_, _<_};
 ghost use lib.ListN.{getD, length};
 ghost use Rattle.units.specs.Limits.{mostRecords};
-ghost use Rattle.book_rules.specs.Book.{hits, pointersTo, used, usedFits};
+ghost use Rattle.book_rules.specs.Book.{pointersTo, used, usedFits};
+ghost use Rattle.check_pointers.specs.InnerPointers.{PointerCounted};
 use book_layout::kind::USER;
-use book_rules::MOST_RECORDS;
+use units::MOST_RECORDS;
 use units::RecordIndex;
 
 // Counts a pointer at the record that it leads to. One that leads past the records of any book is not counted.
 fn count(counts: &mut [u16; MOST_RECORDS], pointer: RecordIndex)
     requires { ⌜ length (now counts) ≡ mostRecords ⌝ }
     requires { ⌜ ((m : ℕ) → m < mostRecords → getD (now counts) m 0 < 65535) ⌝ }
-    ensures { λ _. ⌜ length (now (counts .exit)) ≡ mostRecords ⌝ }
-    ensures { λ _. ⌜ ((m : ℕ) → m < mostRecords → getD (now (counts .exit)) m 0 ≡ getD (now (counts .entry)) m 0 + hits (pointer .0) m) ⌝ }
+    ensures { λ _. ⌜ PointerCounted (pointer .0) (now (counts .entry)) (now (counts .exit)) ⌝ }
 {
     let to = pointer.0 as usize;
     if to < MOST_RECORDS {

@@ -9,7 +9,8 @@ use borrow.Author.Tests.{ne-eqb, eqb-true, eqb-false, leb-true, leb-false, lt-lt
 use lib.Dec.{eqb, leb, ltb}
 use Rattle.units.proofs.Bools.{or-left, or-right, or-cases}
 use Rattle.book_layout.specs.Fields.{get, recordAt, kindField, nextField, ownerField, activationYearField, userKind, advanceKind, closingKind}
-use Rattle.book_rules.specs.Book.{used, kindAt, hasKind, isUser, isAdvance, isClosing, entryKind, isEntry, ownerOf, nextOf, activationOf, levelIn, levelOf, ownerFits, entryNextFits, inOrder, nextInOrder}
+use Rattle.book_rules.specs.Book.{used, kindAt, hasKind, isUser, isAdvance, isClosing, entryKind, isEntry, ownerOf, nextOf, activationOf, levelIn, levelOf, ownerFits, entryNextFits, inOrder}
+use Rattle.book_rules.specs.Book.{nextInOrder}
 use Rattle.book_rules.proofs.RecordKinds.{kind-decides}
 use Rattle.check_rules.specs.InnerFollows.{followsEntry}
 
@@ -87,4 +88,18 @@ module _ (b : List ℕ) (i : ℕ) {r : List ℕ} (bytes : r ≡ recordAt b i) {o
             let hi : next < used b = omega (arith, l, inside) in
             let advance : isAdvance b next ≡ eqb (kindAt b next) advanceKind = kind-decides b advanceKind next lo hi in
             let closing : isClosing b next ≡ eqb (kindAt b next) closingKind = kind-decides b closingKind next lo hi in
-            rw (owned, next-is, owner-is, level-is, ne-eqb next 0 some, lt-ltb 0 next lo, lt-ltb next (used b) hi, lt-ltb next i l, advance, closing, e, and-true (entryKind (kindAt b next) && eqb (ownerOf b next) owner))
+            rw (
+              owned,
+              next-is,
+              owner-is,
+              level-is,
+              ne-eqb next 0 some,
+              lt-ltb 0 next lo,
+              lt-ltb next (used b) hi,
+              lt-ltb next i l,
+              advance,
+              closing,
+              e,
+              and-true
+                  (entryKind (kindAt b next) && eqb (ownerOf b next) owner),
+            )

@@ -4,7 +4,9 @@ ghost use mathlib.Core.Bool.{true, _&&_};
 ghost use Prim.Native.Nat.{_<_};
 ghost use lib.Dec.{eqb};
 ghost use Rattle.book_layout.specs.Fields.{userKind};
-ghost use Rattle.book_rules.specs.Book.{used, usedFits, kindAt, isUser, numberOf, ownRulesFit, userNextFits, numberIsNew, firstEntryFits, entryNextFits, ownerFits, pointersTo, inOrder, firstInOrder, nextInOrder, linksFit, goodRecord, goodHead};
+ghost use Rattle.book_rules.specs.Book.{used, usedFits, kindAt, isUser, numberOf, ownRulesFit, userNextFits, numberIsNew, firstEntryFits};
+ghost use Rattle.book_rules.specs.Book.{entryNextFits, ownerFits, pointersTo, inOrder, firstInOrder, nextInOrder, linksFit, goodRecord};
+ghost use Rattle.book_rules.specs.Book.{goodHead};
 ghost use Rattle.check_rules.specs.InnerFollows.{followsEntry};
 use book_layout::kind::ADVANCE;
 use book_layout::kind::CLOSING;
@@ -128,7 +130,8 @@ fn follows(r: &[u8], owner: RecordIndex, level: u16) -> bool
 fn entry_links_fit(book: &[u8], index: RecordIndex) -> bool
     requires { ⌜ usedFits (now book) ≡ true ⌝ }
     requires { ⌜ index .0 < used (now book) ⌝ }
-    ensures { λ r. ⌜ r ≡ ((ownerFits (now (book .entry)) (index .0) && entryNextFits (now (book .entry)) (index .0)) && nextInOrder (now (book .entry)) (index .0)) ⌝ }
+    ensures { λ r. ⌜ r ≡ ((ownerFits (now (book .entry)) (index .0) && entryNextFits (now (book .entry)) (index .0))
+        && nextInOrder (now (book .entry)) (index .0)) ⌝ }
 {
     let r = whole_record(book, index.0 as usize);
     let owner = book_layout::owner_of(r);

@@ -3,8 +3,10 @@
 ghost use mathlib.Core.Path.{_≡_};
 ghost use Prim.Native.Nat.{_+_, _*_, _≤_, _<_, _^_};
 ghost use lib.ListN.{getD, length};
+ghost use Rattle.units.specs.Limits.{recordLength};
 ghost use Rattle.codec.specs.Bytes.{number, stored, bytesOf};
 ghost use Rattle.codec.specs.Bytes.{zeros as zeroBytes};
+use units::RECORD_LENGTH;
 
 pub fn byte_at(s: &[u8], at: usize) -> u8
     ensures { λ r. ⌜ r ≡ getD (now (s .entry)) at 0 ⌝ }
@@ -109,8 +111,8 @@ pub fn store_u32(s: &mut [u8], at: usize, n: u32)
 }
 
 // The image with the lowest `width` bytes of a number from `at` on.
-pub fn write(image: [u8; 80], at: usize, width: usize, n: u64) -> [u8; 80]
-    requires { ⌜ at + width ≤ 80 ⌝ }
+pub fn write(image: [u8; RECORD_LENGTH], at: usize, width: usize, n: u64) -> [u8; RECORD_LENGTH]
+    requires { ⌜ at + width ≤ recordLength ⌝ }
     ensures { λ r. ⌜ r ≡ stored at (bytesOf width n) image ⌝ }
 {
     let mut filled = image;

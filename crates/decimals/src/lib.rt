@@ -21,8 +21,8 @@ pub struct Field {
 // Writes a number at a place of the text, and answers the place behind it.
 pub fn write_number(out: &mut [u8], at: usize, n: u64) -> usize
     requires { ⌜ at + length (decimal n) ≤ length (now out) ⌝ }
-    ensures { λ r. ⌜ r ≡ at + length (decimal n) ⌝ }
-    ensures { λ _. ⌜ now (out .exit) ≡ stored at (decimal n) (now (out .entry)) ⌝ }
+    ensures end { λ r. ⌜ r ≡ at + length (decimal n) ⌝ }
+    ensures after { λ _. ⌜ now (out .exit) ≡ stored at (decimal n) (now (out .entry)) ⌝ }
 {
     let mut end = at;
     if 10 <= n {
@@ -35,8 +35,8 @@ pub fn write_number(out: &mut [u8], at: usize, n: u64) -> usize
 // The same, with one byte behind it.
 pub fn write_field(out: &mut [u8], at: usize, n: u64, stop: u8) -> usize
     requires { ⌜ at + length (field n stop) ≤ length (now out) ⌝ }
-    ensures { λ r. ⌜ r ≡ at + length (field n stop) ⌝ }
-    ensures { λ _. ⌜ now (out .exit) ≡ stored at (field n stop) (now (out .entry)) ⌝ }
+    ensures end { λ r. ⌜ r ≡ at + length (field n stop) ⌝ }
+    ensures after { λ _. ⌜ now (out .exit) ≡ stored at (field n stop) (now (out .entry)) ⌝ }
 {
     let end = write_number(out, at, n);
     out[end] = stop;

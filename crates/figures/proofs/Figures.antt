@@ -8,7 +8,8 @@ use Rattle.account_steps.specs.Closing.{contributionOf, liquidationOf, lapsedOf
 use Rattle.figures.specs.Figures.{Figures}
 
 pub figures : Figures
-unfolding sumBelow table1 rowsOfKind reaches firstReaching tableEuroPerMwh domestic between above tiers annualTiers flatRateOf meanRate limit tierRate paidOf contributionOf liquidationOf lapsedOf creditAfter
+unfolding sumBelow table1 rowsOfKind reaches firstReaching tableEuroPerMwh domestic between above tiers annualTiers flatRateOf meanRate limit tierRate paidOf contributionOf liquidationOf lapsedOf
+    creditAfter
 figures =
     record {
       figure1 = refl;

@@ -25,6 +25,11 @@ pub record RestKept (before : List ℕ) (from to : ℕ) (after : List ℕ) : Typ
   pub same : length after ≡ length before
   pub front : (i : ℕ) → i < to - from → getD after i 0 ≡ getD before (from + i) 0
 
+-- so many they are
+pub record RestMoved (before : List ℕ) (from to : ℕ) (after : List ℕ) (r : ℕ) : Type 0 where
+  pub count : r ≡ to - from
+  pub kept : RestKept before from to after
+
 -- nothing is held; a line that ends at a line feed, after which the next one begins
 abbrev pub nothingHeld : Found → Line
 nothingHeld f = record { found = f; from = 0; to = 0; next = 0; filled = 0 }

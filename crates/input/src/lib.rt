@@ -1,5 +1,6 @@
-// Standard input as every program reads it, a line at a time or a whole book, and a file by its name. A read that a signal interrupted is made again,
-// and one that failed is told from the end of the input.
+// Standard input as every program reads it, a line at a time or a whole book, and a file by its name. A read that a signal
+// interrupted is made again, and one that failed is told from the end of the input.
+use book_rules::LONGEST;
 use libc::EINTR;
 use libc::STDIN_FILENO;
 ghost use Prim.Native.Nat.{_-_, _≤_, _<_};
@@ -7,14 +8,15 @@ ghost use mathlib.Core.Path.{_≡_};
 ghost use lib.ListN.{length};
 ghost use Rattle.libc.specs.Io.{Moved};
 ghost use Rattle.input.specs.Input.{roomForLines, roomForBook, Means, ReadOnce, ReadOn, RestRead};
-ghost use Rattle.input.specs.InnerLines.{LineEnd, RestKept, NoFeed, nothingHeld, lineAt, atEnd, LineHeld, LinePassed, LineRead, LineAfter};
+ghost use Rattle.input.specs.InnerLines.{LineEnd, NoFeed, nothingHeld, lineAt, atEnd, LineHeld, LinePassed, LineRead};
+ghost use Rattle.input.specs.InnerLines.{LineAfter, RestMoved};
 
 // What a program holds of its lines at once, more than the longest line that is no error.
 const LINES: usize = 262_144;
 
 // A byte more than the longest book has: input that fills it is longer than any book, and has a length that is refused
 // with 1.
-const BOOK: usize = 64_001;
+pub const BOOK: usize = LONGEST + 1;
 
 // What the answer of one read means.
 enum Got {
@@ -185,8 +187,7 @@ fn line_end(s: &[u8], from: usize) -> usize
 // Moves the bytes between two places to the front, and answers how many they are.
 fn keep_rest(held: &mut [u8], from: usize, to: usize) -> usize
     requires { ⌜ (from ≤ to) × (to ≤ length (now held)) ⌝ }
-    ensures { λ r. ⌜ r ≡ to - from ⌝ }
-    ensures { λ _. ⌜ RestKept (now (held .entry)) from to (now (held .exit)) ⌝ }
+    ensures { λ r. ⌜ RestMoved (now (held .entry)) from to (now (held .exit)) r ⌝ }
 {
     let count = to - from;
     for k in 0..count {

@@ -10,7 +10,8 @@ use Rattle.sheet_values.specs.declared.Details.{Details}
 use Rattle.account_steps.specs.Closing.{liquidates, contributionOf, lapsedOf, creditAfter, balanceOf}
 use Rattle.account_steps.proofs.Closing.{one-year}
 use Rattle.account_steps.proofs.Charges.{withheld-rest, closing-rest}
-use Rattle.ledger.specs.Ledger.{Ledger, yearAfter, openYear, sumItems, sumBalances, sumAll, sumAdvances, enrolled, elected, charged, advanceAmount, advanced, itemOf, Figures, itemWith, closedWith, statementOf}
+use Rattle.ledger.specs.Ledger.{Ledger, yearAfter, openYear, sumItems, sumBalances, sumAll, sumAdvances, enrolled, elected, charged, advanceAmount, advanced, itemOf, Figures, itemWith}
+use Rattle.ledger.specs.Ledger.{closedWith, statementOf}
 use Rattle.ledger.specs.Accounting.{lapsedOver, conserved, Consecutive, Accounts}
 use Rattle.ledger.proofs.Standing.{figure, standing-exists}
 use Rattle.ledger.proofs.Years.{from-activation, NoneBefore, closed-advances-before}

@@ -1,6 +1,5 @@
 pub mod Statements
 pub mod Ledgers
-pub mod Accepted
 pub mod Lists
 pub mod Undamaged
 pub mod Theorem

@@ -18,8 +18,7 @@ use Rattle.ledger.proofs.Kept.{Kept, accounts}
 use Rattle.chains.specs.Statements.{statementAt}
 use Rattle.call_rules.specs.Rules.{refusedBy}
 use Rattle.call_rules.specs.Refusals.{lookAt}
-use Rattle.call_rules.specs.Calls.{Call, statement, namedBy, rulesOf, refusalOf, booked, bookAfter}
-use Rattle.call_rules.specs.Typed.{Typed, AllTyped}
+use Rattle.call_rules.specs.Calls.{Call, statement, namedBy, rulesOf, refusalOf, booked, bookAfter, Typed, AllTyped}
 use Rattle.call_keeps.proofs.Good.{Good, good-sound}
 use Rattle.call_keeps.proofs.Numbers.{found}
 use Rattle.ledger_views.specs.Views.{View, withheldOf, viewAt, viewOf, stepOf}
@@ -29,8 +28,7 @@ use Rattle.ledger_views.proofs.Steps.{Stepped, accepted-step}
 use Rattle.ledger_agrees.specs.Lists.{made, madeOf, bookAfterAll}
 use Rattle.ledger_agrees.specs.Fed.{posted, isFor, ledgerOf, valueBy, valueOf}
 use Rattle.ledger_agrees.proofs.Statements.{stated, statement-stated}
-use Rattle.ledger_agrees.proofs.Ledgers.{Posts, Agrees, State, unknown, known, same-statement, gainOf, in-step, Notes, noted}
-use Rattle.ledger_agrees.proofs.Accepted.{call-posts}
+use Rattle.ledger_agrees.proofs.Ledgers.{Posts, Agrees, State, unknown, known, same-statement, gainOf, in-step, Notes, noted, call-posts}
 
 -- the ledger after a call on the book b
 abbrev fedBy : ℕ → List ℕ → Call → Option Ledger → Option Ledger

@@ -18,8 +18,7 @@ use Rattle.book_rules.specs.Book.{freshBook, used, detailsFit, accountAt}
 use Rattle.book_rules.specs.Find.{findUser}
 use Rattle.call_rules.specs.Rules.{refusedBy, testOf}
 use Rattle.call_rules.specs.Refusals.{Look, lookAt, hasRoom, dayAndOption, electionOpen, runOpen, orderFits, yearOpen, chargeOpen}
-use Rattle.call_rules.specs.Calls.{Call, enrol, elect, advance, close, statement, charge, namedBy, rulesOf, refusalOf, bookAfter}
-use Rattle.call_rules.specs.Typed.{Typed, AllTyped}
+use Rattle.call_rules.specs.Calls.{Call, enrol, elect, advance, close, statement, charge, namedBy, rulesOf, refusalOf, bookAfter, Typed, AllTyped}
 use Rattle.call_rules.proofs.Orders.{fact}
 use Rattle.call_keeps.proofs.Good.{Good, good-sound, sizes, room}
 use Rattle.call_keeps.proofs.CallsFit.{named-user}
@@ -75,7 +74,8 @@ module _ (v w : Look) (a : Alike v w) where
       through (not (refused11 s)) 11 _ _
       (with-user (λ acc. cond (yearOpen acc (sheetYear s)) (cond (not (refused13 s)) (cond (not (refused19 s)) (cond (not (refused14 (acc .details .class) s)) (cond (v .room) 0 3) 14) 19) 13) 12)
       (λ acc. cond (yearOpen acc (sheetYear s)) (cond (not (refused13 s)) (cond (not (refused19 s)) (cond (not (refused14 (acc .details .class) s)) (cond (w .room) 0 3) 14) 19) 13) 12)
-      (λ acc. through (yearOpen acc (sheetYear s)) 12 _ _ (through (not (refused13 s)) 13 _ _ (through (not (refused19 s)) 19 _ _ (through (not (refused14 (acc .details .class) s)) 14 _ _ (last-room (v .room) (w .room) (a .room)))))))
+      (λ acc. through (yearOpen acc (sheetYear s)) 12 _ _ (through (not (refused13 s)) 13 _ _
+      (through (not (refused19 s)) 19 _ _ (through (not (refused14 (acc .details .class) s)) 14 _ _ (last-room (v .room) (w .room) (a .room)))))))
       h
   same-answer (statement n) h = with-user (λ acc. 0) (λ acc. 0) (λ acc q. refl) h
   same-answer (charge n) h = with-user (λ acc. cond (chargeOpen acc) 0 16) (λ acc. cond (chargeOpen acc) 0 16) (λ acc q. refl) h

@@ -56,7 +56,8 @@ advancesOf (closingEntry y o s w ∷ es) = advancesOf es
 data Told (b : List ℕ) (e : ℕ) : Type 0 where
   an-advance : isAdvance b e ≡ true → isClosing b e ≡ false
       → entryIn (recordAt b e)
-      ≡ advanceEntry (advanceIn (recordAt b e) .year) (advanceIn (recordAt b e) .booked) (advanceIn (recordAt b e) .run) (advanceIn (recordAt b e) .ticks) (advanceIn (recordAt b e) .withheld) → Told b e
+      ≡ advanceEntry (advanceIn (recordAt b e) .year) (advanceIn (recordAt b e) .booked) (advanceIn (recordAt b e) .run) (advanceIn (recordAt b e) .ticks) (advanceIn (recordAt b e) .withheld) → Told b
+      e
   a-closing : isAdvance b e ≡ false → isClosing b e ≡ true
       → entryIn (recordAt b e) ≡ closingEntry (closingIn (recordAt b e) .year) (closingIn (recordAt b e) .option) (closingIn (recordAt b e) .sums) (closingIn (recordAt b e) .withheld) → Told b e
 

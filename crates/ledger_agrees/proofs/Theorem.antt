@@ -15,9 +15,8 @@ use Rattle.book_rules.proofs.RecordKinds.{kind-index}
 use Rattle.check_book.specs.Verdicts.{Accepted, freshAfter}
 use Rattle.check_book.proofs.FreshBooks.{fresh-accepted, used-fresh}
 use Rattle.ledger.specs.Ledger.{Ledger}
-use Rattle.call_rules.specs.Calls.{Call}
+use Rattle.call_rules.specs.Calls.{Call, AllTyped}
 use Rattle.call_keeps.proofs.Good.{Good, sound-good}
-use Rattle.call_rules.specs.Typed.{AllTyped}
 use Rattle.ledger_agrees.specs.Lists.{madeOf}
 use Rattle.ledger_agrees.specs.Fed.{ledgerOf, NoneDamaged}
 use Rattle.ledger_agrees.proofs.Lists.{Demanded, demanded}

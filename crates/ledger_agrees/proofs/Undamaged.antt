@@ -5,10 +5,9 @@ use mathlib.Core.List.{List, [], _∷_}
 use native.Mathlib.Omega.{arith}
 use Rattle.call_rules.specs.Rules.{refusedBy}
 use Rattle.call_rules.specs.Refusals.{lookAt}
-use Rattle.call_rules.specs.Calls.{Call, namedBy, rulesOf, refusalOf, bookAfter}
+use Rattle.call_rules.specs.Calls.{Call, namedBy, rulesOf, refusalOf, bookAfter, AllTyped}
 use Rattle.call_rules.proofs.Rules.{never-answered}
 use Rattle.call_rules.proofs.Orders.{reserved}
-use Rattle.call_rules.specs.Typed.{AllTyped}
 use Rattle.call_keeps.proofs.EveryCall.{call-good}
 use Rattle.ledger_agrees.specs.Lists.{madeOf}
 use Rattle.ledger_agrees.specs.Fed.{NoneDamaged}

@@ -1,8 +1,7 @@
 -- Lists of calls. "Each call gets the book as the last one left it, and nobody else writes it meanwhile."
 use Prim.Native.Nat.{ℕ}
 use mathlib.Core.List.{List, [], _∷_}
-use Rattle.call_rules.specs.Calls.{Call, refusalOf, bookAfter}
-use Rattle.call_rules.specs.Typed.{Typed}
+use Rattle.call_rules.specs.Calls.{Call, refusalOf, bookAfter, Typed}
 
 -- a call that was made, and the number that it answered
 pub record Made : Type 0 where

@@ -10,8 +10,7 @@ use lib.ListN.{length}
 use Rattle.book_rules.specs.Book.{lengthFits, freshBook}
 use Rattle.book_rules.specs.Find.{findUser}
 use Rattle.chains.specs.Statements.{statementAt}
-use Rattle.call_rules.specs.Calls.{Call, statement, namedBy, refusalOf, bookAfter}
-use Rattle.call_rules.specs.Typed.{AllTyped}
+use Rattle.call_rules.specs.Calls.{Call, statement, namedBy, refusalOf, bookAfter, AllTyped}
 use Rattle.ledger_agrees.specs.Lists.{bookAfterAll}
 
 -- the calls of one number, in their order
@@ -32,4 +31,5 @@ pub record SameStatement (b b′ : List ℕ) (n : ℕ) : Type 0 where
 abbrev pub OneQueue : Type 0
 OneQueue =
     (b : List ℕ) → lengthFits b ≡ true → (cs : List Call) → AllTyped cs → (n : ℕ)
-    → SameStatement (bookAfterAll (freshBook (length b)) cs) (bookAfterAll (freshBook (length b)) (callsFor n (notFull (freshBook (length b)) cs))) n
+    → SameStatement (bookAfterAll (freshBook (length b)) cs)
+    (bookAfterAll (freshBook (length b)) (callsFor n (notFull (freshBook (length b)) cs))) n

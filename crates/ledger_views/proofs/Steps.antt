@@ -13,8 +13,7 @@ use Rattle.book_rules.specs.Find.{findUser}
 use Rattle.call_rules.specs.Rules.{testOf}
 use Rattle.call_rules.specs.Refusals.{lookAt, userAt}
 use Rattle.call_rules.specs.Changes.{Change, newAccount}
-use Rattle.call_rules.specs.Calls.{Call, enrol, elect, advance, close, statement, charge, namedBy, rulesOf, refusalOf, changeOf, booked}
-use Rattle.call_rules.specs.Typed.{Typed}
+use Rattle.call_rules.specs.Calls.{Call, enrol, elect, advance, close, statement, charge, namedBy, rulesOf, refusalOf, changeOf, booked, Typed}
 use Rattle.call_rules.proofs.Orders.{fact}
 use Rattle.call_keeps.proofs.Good.{Good}
 use Rattle.call_keeps.proofs.Changes.{adds}

@@ -6,10 +6,10 @@ use mathlib.Core.Logic.{⊎-elim}
 use mathlib.Core.List.{List, [], _∷_, _++_}
 use native.Mathlib.Omega.{arith}
 use lib.ListN.{length, length-append}
+use Rattle.units.specs.Limits.{recordLength}
 use Rattle.account_steps.specs.declared.Account.{Account}
 use Rattle.codec.specs.Bytes.{stored}
 use Rattle.codec.proofs.Stores.{length-stored}
-use Rattle.book_layout.specs.Fields.{recordLength}
 use Rattle.book_rules.specs.Book.{firstUser, lengthFits, sound, isUser, nextOf, accountAt}
 use Rattle.book_rules.proofs.Lengths.{capacity-most}
 use Rattle.book_rules.proofs.Faults.{used-within, used-whole}

@@ -7,10 +7,11 @@ ghost use Rattle.codec.specs.Bytes.{stored};
 ghost use Rattle.book_rules.specs.Book.{lengthFits, sound};
 ghost use Rattle.book_rules.specs.Chains.{usersOf};
 ghost use Rattle.listing_text.specs.Listing.{lines, refused, listing};
-ghost use Rattle.listing_text.specs.InnerWritten.{longestField, longestLine, longestRefusal, longestText, field, accountLine, ListingAnswered};
+ghost use Rattle.listing_text.specs.InnerWritten.{longestField, longestLine, longestRefusal, longestText, field, accountLine};
+ghost use Rattle.listing_text.specs.InnerWritten.{ListingAnswered};
 use account_steps::Account;
-use book_rules::MOST_RECORDS;
 use check_book::Verdict;
+use units::MOST_RECORDS;
 
 // The longest listing: of each user three numbers of at most twenty digits, each with a byte after it.
 const MOST_USERS: usize = MOST_RECORDS - 1;
@@ -35,9 +36,9 @@ pub fn buffer() -> [u8; LONGEST_TEXT]
 // Writes a number of 64 bits at a place of the text with one byte after it, a blank or a line feed, and answers the place after it.
 fn field_at(out: &mut [u8], at: usize, n: u64, after: u8) -> usize
     requires { ⌜ at + longestField ≤ length (now out) ⌝ }
-    ensures { λ r. ⌜ r ≡ at + length (field n after) ⌝ }
-    ensures { λ _. ⌜ now (out .exit) ≡ stored at (field n after) (now (out .entry)) ⌝ }
-    ensures { λ r. ⌜ r ≤ at + longestField ⌝ }
+    ensures end { λ r. ⌜ r ≡ at + length (field n after) ⌝ }
+    ensures after { λ _. ⌜ now (out .exit) ≡ stored at (field n after) (now (out .entry)) ⌝ }
+    ensures most { λ r. ⌜ r ≤ at + longestField ⌝ }
 {
     decimals::write_field(out, at, n, after)
 }
@@ -45,8 +46,8 @@ fn field_at(out: &mut [u8], at: usize, n: u64, after: u8) -> usize
 // Writes the line of an account: number, open year and credit.
 fn line_at(out: &mut [u8], at: usize, account: Account) -> usize
     requires { ⌜ at + longestLine ≤ length (now out) ⌝ }
-    ensures { λ r. ⌜ r ≡ at + length (accountLine account) ⌝ }
-    ensures { λ _. ⌜ now (out .exit) ≡ stored at (accountLine account) (now (out .entry)) ⌝ }
+    ensures end { λ r. ⌜ r ≡ at + length (accountLine account) ⌝ }
+    ensures after { λ _. ⌜ now (out .exit) ≡ stored at (accountLine account) (now (out .entry)) ⌝ }
 {
     let number = account.number.0 as u64;
     let open_year = account.open_year as u64;
@@ -61,8 +62,8 @@ fn lines_of(book: &[u8], out: &mut [u8]) -> usize
     requires { ⌜ lengthFits (now book) ≡ true ⌝ }
     requires { ⌜ sound (now book) ≡ true ⌝ }
     requires { ⌜ longestText ≤ length (now out) ⌝ }
-    ensures { λ r. ⌜ r ≡ length (lines (now (book .entry)) (usersOf (now (book .entry)))) ⌝ }
-    ensures { λ _. ⌜ now (out .exit) ≡ stored 0 (lines (now (book .entry)) (usersOf (now (book .entry)))) (now (out .entry)) ⌝ }
+    ensures end { λ r. ⌜ r ≡ length (lines (now (book .entry)) (usersOf (now (book .entry)))) ⌝ }
+    ensures after { λ _. ⌜ now (out .exit) ≡ stored 0 (lines (now (book .entry)) (usersOf (now (book .entry)))) (now (out .entry)) ⌝ }
 {
     let mut end = 0;
     let mut user = book_view::first_user(book);
@@ -78,8 +79,8 @@ fn lines_of(book: &[u8], out: &mut [u8]) -> usize
 // Writes the line of a refused book.
 fn refusal_of(out: &mut [u8], n: u64) -> usize
     requires { ⌜ longestRefusal ≤ length (now out) ⌝ }
-    ensures { λ r. ⌜ r ≡ length (refused n) ⌝ }
-    ensures { λ _. ⌜ now (out .exit) ≡ stored 0 (refused n) (now (out .entry)) ⌝ }
+    ensures end { λ r. ⌜ r ≡ length (refused n) ⌝ }
+    ensures after { λ _. ⌜ now (out .exit) ≡ stored 0 (refused n) (now (out .entry)) ⌝ }
 {
     out[0] = b'r';
     out[1] = b'e';
@@ -95,8 +96,8 @@ fn refusal_of(out: &mut [u8], n: u64) -> usize
 // Writes the text that a book has, by what the check says of it.
 fn text_of(book: &[u8], out: &mut [u8]) -> usize
     requires { ⌜ longestText ≤ length (now out) ⌝ }
-    ensures { λ r. ⌜ r ≡ length (listing (now (book .entry))) ⌝ }
-    ensures { λ _. ⌜ now (out .exit) ≡ stored 0 (listing (now (book .entry))) (now (out .entry)) ⌝ }
+    ensures end { λ r. ⌜ r ≡ length (listing (now (book .entry))) ⌝ }
+    ensures after { λ _. ⌜ now (out .exit) ≡ stored 0 (listing (now (book .entry))) (now (out .entry)) ⌝ }
 {
     match check_book::check(book) {
         Verdict::Length => refusal_of(out, 1),

@@ -11,7 +11,7 @@ use sheet_text::Read;
 use units::MAX_KWH;
 
 // More than an operator's file has; what fills the buffer goes on behind it.
-const TOO_LONG: usize = 64_001;
+const TOO_LONG: usize = input::BOOK;
 
 // What says something answers whether it was written.
 fn say(row: Row) -> bool {

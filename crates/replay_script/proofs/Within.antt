@@ -15,7 +15,11 @@ use Rattle.text.specs.declared.Number.the-variants as number
 use Rattle.text.specs.InnerText.{fieldAt, afterFields}
 use Rattle.replay_script.specs.declared.Order.{Order}
 use Rattle.replay_script.specs.declared.Order.the-variants as order
-use Rattle.replay_script.specs.Orders.{newWord, loadWord, freshWord, enrolWord, electWord, advanceWord, closeWord, chargeWord, statementWord, archiveWord, restoreWord, moreSunWord, readMeasuresWord, writeMeasuresWord, raiseWord, dumpWord, listWord, longestBook, longestLine, begins, isAtMost, valueOf, numbersFit, numberOf, bytesFit, wordAt, wordsAt, newOrder, enrolOrder, electOrder, advanceOrder, chargeOrder, statementOrder, loadOrder, closeOrder, archiveOrder, restoreOrder, readMeasuresOrder, writeMeasuresOrder, textOrder, raiseOrder, sheetOrder, moreSunOrder, askingOrder, aloneOrder, callOrder, bookOrder, orderOf, enrolMost, electMost, advanceMost, most32}
+use Rattle.replay_script.specs.Orders.{newWord, loadWord, freshWord, enrolWord, electWord, advanceWord, closeWord, chargeWord, statementWord, archiveWord, restoreWord, moreSunWord}
+use Rattle.replay_script.specs.Orders.{readMeasuresWord, writeMeasuresWord, raiseWord, dumpWord, listWord, longestBook, longestLine, begins, isAtMost, valueOf, numbersFit, numberOf, bytesFit}
+use Rattle.replay_script.specs.Orders.{wordAt, wordsAt, newOrder, enrolOrder, electOrder, advanceOrder, chargeOrder, statementOrder, loadOrder, closeOrder, archiveOrder, restoreOrder}
+use Rattle.replay_script.specs.Orders.{readMeasuresOrder, writeMeasuresOrder, textOrder, raiseOrder, sheetOrder, moreSunOrder, askingOrder, aloneOrder, callOrder, bookOrder, orderOf, enrolMost}
+use Rattle.replay_script.specs.Orders.{electMost, advanceMost, most32}
 
 abbrev pub NewFits : Order → Type 0
 NewFits (order.New n) = n ≤ longestBook

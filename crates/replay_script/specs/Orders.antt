@@ -218,7 +218,8 @@ unfoldable pub moreSunOrder : List ℕ → Order
 moreSunOrder line =
     let word : Word = wordAt line (length moreSunWord) in
     let at : ℕ = word .digits .to in
-    cond (word .fit && numbersFit line at (most32 ∷ most32 ∷ [])) (order.MoreSun (word .digits) (numberOf line at 0) (numberOf line at 1)) order.Wrong
+    cond (word .fit && numbersFit line at (most32 ∷ most32 ∷ [])) (order.MoreSun (word .digits) (numberOf line at 0) (numberOf line at 1))
+    order.Wrong
 
 -- a word alone
 unfoldable pub aloneOrder : List ℕ → List ℕ → Order → Order

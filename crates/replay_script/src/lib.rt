@@ -3,8 +3,11 @@ ghost use mathlib.Core.Path.{_≡_};
 ghost use mathlib.Core.Bool.{cond};
 ghost use Prim.Native.Nat.{_≤_};
 ghost use lib.ListN.{length};
-ghost use Rattle.replay_script.specs.Orders.{begins, bytesFit, NumbersRead, newOrder, enrolOrder, electOrder, advanceOrder, chargeOrder, statementOrder, loadOrder, closeOrder, aloneOrder, callOrder, bookOrder, orderOf};
-ghost use Rattle.replay_script.specs.Orders.{isNoBytes, isSomeBytes, wordAt, wordsAt, archiveOrder, restoreOrder, raiseOrder, sheetOrder};
+ghost use Rattle.replay_script.specs.Orders.{begins, bytesFit, NumbersRead, newOrder, enrolOrder, electOrder, advanceOrder};
+ghost use Rattle.replay_script.specs.Orders.{chargeOrder, statementOrder, loadOrder, closeOrder, aloneOrder, callOrder, bookOrder};
+ghost use Rattle.replay_script.specs.Orders.{orderOf};
+ghost use Rattle.replay_script.specs.Orders.{isNoBytes, isSomeBytes, wordAt, wordsAt, archiveOrder, restoreOrder, raiseOrder};
+ghost use Rattle.replay_script.specs.Orders.{sheetOrder};
 ghost use Rattle.replay_script.specs.Orders.{readMeasuresOrder, writeMeasuresOrder, textOrder};
 ghost use Rattle.replay_script.specs.Orders.{moreSunOrder, askingOrder};
 

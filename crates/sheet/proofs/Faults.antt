@@ -219,7 +219,8 @@ telling s n other = ⊎-elim (λ f. by-test f (tells n) refl) (λ none. record {
 
 pub one-earliest : OneEarliest
 one-earliest s p q here there =
-    let same = same-number s (p .month - 1) (p .place - 1) (q .month - 1) (q .place - 1) (is-earliest s _ _ (here .here)) (is-earliest s _ _ (there .here)) (omega (arith, here .placeTo23, here .placeFrom1)) (omega (arith, there .placeTo23, there .placeFrom1)) in
+    let same = same-number s (p .month - 1) (p .place - 1) (q .month - 1) (q .place - 1) (is-earliest s _ _ (here .here)) (is-earliest s _ _ (there .here))
+    (omega (arith, here .placeTo23, here .placeFrom1)) (omega (arith, there .placeTo23, there .placeFrom1)) in
     let month : p .month ≡ q .month = omega (arith, same .0, here .monthFrom1, there .monthFrom1) in
     let place : p .place ≡ q .place = omega (arith, same .1, here .placeFrom1, there .placeFrom1) in
     ap₂ (λ (x y : ℕ). record { month = x; place = y }) month place

@@ -169,8 +169,8 @@ fn restore_four(archive: &[u8], sheet: &mut [u8], column: usize)
 
 // Writes the archive of a sheet. The answer is 0, or the number of the refusal, which leaves the archive as it was.
 pub fn archive(sheet: &[u8], archive: &mut [u8]) -> u32
-    ensures { λ r. ⌜ r ≡ answer (now (sheet .entry)) (now (archive .entry)) ⌝ }
-    ensures { λ _. ⌜ now (archive .exit) ≡ archiveAfter (now (sheet .entry)) (now (archive .entry)) ⌝ }
+    ensures answer { λ r. ⌜ r ≡ answer (now (sheet .entry)) (now (archive .entry)) ⌝ }
+    ensures after { λ _. ⌜ now (archive .exit) ≡ archiveAfter (now (sheet .entry)) (now (archive .entry)) ⌝ }
 {
     if !sizes_fit(sheet.len(), archive.len()) {
         return WRONG_SIZE;
@@ -184,8 +184,8 @@ pub fn archive(sheet: &[u8], archive: &mut [u8]) -> u32
 
 // Writes the sheet of an archive. The answer is 0, or the number of the refusal, which leaves the sheet as it was.
 pub fn restore(archive: &[u8], sheet: &mut [u8]) -> u32
-    ensures { λ r. ⌜ r ≡ answer (now (archive .entry)) (now (sheet .entry)) ⌝ }
-    ensures { λ _. ⌜ now (sheet .exit) ≡ sheetAfter (now (archive .entry)) (now (sheet .entry)) ⌝ }
+    ensures answer { λ r. ⌜ r ≡ answer (now (archive .entry)) (now (sheet .entry)) ⌝ }
+    ensures after { λ _. ⌜ now (sheet .exit) ≡ sheetAfter (now (archive .entry)) (now (sheet .entry)) ⌝ }
 {
     if !sizes_fit(archive.len(), sheet.len()) {
         return WRONG_SIZE;

@@ -17,7 +17,8 @@ use Rattle.codec.proofs.ByteRanges.{Bytes, bytes-back}
 use Rattle.codec.proofs.Parts.{part-first, part-second, part-add}
 use Rattle.codec.proofs.Stores.{length-stored, part-before, part-within, byte-before, byte-after, stored-same}
 use Rattle.sheet.specs.YearSheet.{sheetLength, word, injected}
-use Rattle.sheet_losses.specs.Losses.{restTo, raised, bandOf, raisedReading, decembersRest, injectedPlace, threeReadings, withInjected, raisedSheet, readingAbove, monthAbove, someAbove, refusalOf, raisedAfter}
+use Rattle.sheet_losses.specs.Losses.{restTo, raised, bandOf, raisedReading, decembersRest, injectedPlace, threeReadings, withInjected, raisedSheet, readingAbove, monthAbove, someAbove}
+use Rattle.sheet_losses.specs.Losses.{refusalOf, raisedAfter}
 use Rattle.sheet_losses.specs.Laws.{YearKept, Elsewhere, RaisedWell, Accepted}
 use Rattle.sheet_losses.proofs.Writing.{length-three}
 use Rattle.sheet_losses.proofs.Calls.{accepted-length, accepted-within}

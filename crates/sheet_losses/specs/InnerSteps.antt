@@ -1,8 +1,9 @@
 -- What the inner functions of the call do: for their contracts alone.
-use Prim.Native.Nat.{ℕ, zero, suc, _/_, _%_, _≤_, _<_}
+use Prim.Native.Nat.{ℕ, zero, suc, _/_, _%_, _≤_, _<_, _+_}
 use mathlib.Core.Path.{_≡_}
 use mathlib.Core.List.{List}
 use lib.ListN.{getD, replicate}
+use lib.Dec.{ltb}
 use Rattle.units.specs.Units.{kwh, wideKwh}
 use Rattle.units.specs.Limits.{maxKwh}
 use Rattle.sheet.specs.declared.Position.{Position}
@@ -12,7 +13,9 @@ use Rattle.sheet_losses.specs.declared.WideBands.{WideBands}
 use Rattle.sheet_losses.specs.declared.Bands.{Bands}
 use Rattle.sheet_losses.specs.declared.Divided.{Divided}
 use Rattle.sheet_losses.specs.declared.Worked.{Worked}
-use Rattle.sheet_losses.specs.Losses.{restTo, bandOf, raisedReading, answerTo}
+use Rattle.sheet_losses.specs.Losses.{restTo, bandOf, raisedReading, answerTo, monthAbove}
+use Rattle.units.specs.Folds.{firstBelow}
+use Rattle.sheet_losses.specs.declared.Month.{Month}
 
 abbrev pub dividedOf : ℕ → Divided
 dividedOf n = record { kwh = n / 1000; rest = n % 1000 }
@@ -53,6 +56,17 @@ raisedBands factor s month =
       second = wideKwh (raisedReading factor s month 1);
       third = wideKwh (raisedReading factor s month 2);
     }
+
+-- what is worked out of a month
+pub record MonthRaised (factor : ℕ) (s : List ℕ) (month : ℕ) (r : Month) : Type 0 where
+  pub bands : r .raised ≡ raisedBands factor s month
+  pub over : r .above ≡ monthAbove factor s month
+  pub passing : r .rests ≡ restsTo factor s (month + 1)
+
+-- the first band above the limit, the third where there is none
+pub record BandAbove (b : WideBands) (r : ℕ) : Type 0 where
+  pub within : r < 3
+  pub first : r ≡ firstBelow 3 (λ band. ltb maxKwh (inWide b band))
 
 -- the readings of an array of months
 abbrev pub noBands : Bands

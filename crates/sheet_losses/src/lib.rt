@@ -6,12 +6,11 @@ ghost use Prim.Native.Nat.{_+_, _≤_, _<_};
 ghost use lib.Dec.{ltb};
 ghost use lib.ListN.{length};
 ghost use Rattle.units.specs.Limits.{maxKwh};
-ghost use Rattle.units.specs.Folds.{firstBelow};
 ghost use Rattle.codec.specs.Bytes.{stored};
 ghost use Rattle.sheet.specs.YearSheet.{sheetLength};
 ghost use Rattle.sheet_losses.specs.Losses.{maxFactor, thousandths, injectedPlace, threeReadings, withInjected};
-ghost use Rattle.sheet_losses.specs.Losses.{placeIn, monthAbove, someAbove, noRests, refusalOf, answerOf, raisedAfter};
-ghost use Rattle.sheet_losses.specs.InnerSteps.{dividedOf, inWide, inBand, restsTo, raisedBands, readingsIn};
+ghost use Rattle.sheet_losses.specs.Losses.{placeIn, someAbove, noRests, refusalOf, answerOf, raisedAfter};
+ghost use Rattle.sheet_losses.specs.InnerSteps.{dividedOf, inBand, restsTo, readingsIn, MonthRaised, BandAbove};
 ghost use Rattle.sheet_losses.specs.InnerSteps.{WithinLimit, narrowedTo, answerWith, WorkedOut};
 use sheet::HEADER;
 use sheet::MONTHS;
@@ -115,9 +114,7 @@ fn above(reading: WideKwh) -> bool
 fn raised_month(sheet: &[u8], factor: u32, rests: Rests, month: usize) -> Month
     requires { ⌜ (length (now sheet) ≡ sheetLength) × (month < 12) ⌝ }
     requires { ⌜ (factor ≤ maxFactor) × (rests ≡ restsTo factor (now sheet) month) ⌝ }
-    ensures { λ r. ⌜ r .raised ≡ raisedBands factor (now (sheet .entry)) month ⌝ }
-    ensures { λ r. ⌜ r .above ≡ monthAbove factor (now (sheet .entry)) month ⌝ }
-    ensures { λ r. ⌜ r .rests ≡ restsTo factor (now (sheet .entry)) (month + 1) ⌝ }
+    ensures { λ r. ⌜ MonthRaised factor (now (sheet .entry)) month r ⌝ }
 {
     let raw1 = sheet::number_at(sheet, month, INJECTED);
     let raw2 = sheet::number_at(sheet, month, INJECTED + 1);
@@ -145,7 +142,7 @@ fn raised_month(sheet: &[u8], factor: u32, rests: Rests, month: usize) -> Month
 
 // The band, counted from 0, of a month's first reading above the limit, where it has one.
 fn first_above(b: WideBands) -> u32
-    ensures { λ r. ⌜ (r < 3) × (r ≡ firstBelow 3 (λ band. ltb maxKwh (inWide b band))) ⌝ }
+    ensures { λ r. ⌜ BandAbove b r ⌝ }
 {
     if above(b.first) {
         return 0;
@@ -250,8 +247,8 @@ fn write_year(sheet: &mut [u8], months: [Bands; 12])
 
 // Raises the injected readings of a sheet. A refusal leaves the sheet as it was.
 pub fn raise(sheet: &mut [u8], factor: u32) -> Raised
-    ensures { λ r. ⌜ r ≡ answerOf factor (now (sheet .entry)) ⌝ }
-    ensures { λ _. ⌜ now (sheet .exit) ≡ raisedAfter factor (now (sheet .entry)) ⌝ }
+    ensures answer { λ r. ⌜ r ≡ answerOf factor (now (sheet .entry)) ⌝ }
+    ensures after { λ _. ⌜ now (sheet .exit) ≡ raisedAfter factor (now (sheet .entry)) ⌝ }
 {
     let worked = work(sheet, factor);
     let answer = worked.answer;

@@ -61,7 +61,18 @@ module _ (s : List ℕ) (m band added : ℕ) (long : length s ≡ sheetLength) (
 
   kept-cost-in : (n : ℕ) → n < 12 → costIn (withMore s m band added) n ≡ costIn s n
   unfolding costIn sumBelow
-  kept-cost-in n l = rw (kept-withdrawn-reading, kept-other n 0 (omega arith), kept-other n 1 (omega arith), kept-other n 2 (omega arith), kept-other n 6 (omega arith), kept-other n 7 (omega arith), kept-other n 8 (omega arith), kept-other n 9 (omega arith))
+  kept-cost-in n l =
+      rw (
+        kept-withdrawn-reading,
+        kept-other n 0 (omega arith),
+        kept-other n 1 (omega arith),
+        kept-other n 2 (omega arith),
+        kept-other n 6 (omega arith),
+        kept-other n 7 (omega arith),
+        kept-other n 8
+            (omega arith),
+        kept-other n 9 (omega arith),
+      )
 
   kept-cost : costOf (withMore s m band added) ≡ costOf s
   unfolding costOf

@@ -3,7 +3,8 @@ use Prim.Native.Nat.{ℕ, _*_}
 use mathlib.Core.Bool.{Bool, cond}
 use mathlib.Core.List.{List}
 use Rattle.units.specs.Folds.{sumBelow}
-use Rattle.sheet.specs.YearSheet.{withdrawnReading, injectedReading, byBands, withdrawn, injected, pun, punMean, zone, zoneMean, zoneDayMean}
+use Rattle.sheet.specs.YearSheet.{withdrawnReading, injectedReading, byBands, withdrawn, injected, pun, punMean, zone, zoneMean}
+use Rattle.sheet.specs.YearSheet.{zoneDayMean}
 
 -- "O: withdrawn times PUN, by band or by mean, summed over the months."
 unfoldable pub costIn : List ℕ → ℕ → ℕ

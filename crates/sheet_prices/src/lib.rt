@@ -56,7 +56,8 @@ fn band_part<'a>(zone: &'a [u8], pun: &'a [u8], island: bool) -> &'a [u8]
 // The price of a single reading, of the same two series.
 fn single_part<'a>(zone: &'a [u8], pun: &'a [u8], island: bool, photovoltaic: bool) -> &'a [u8]
     requires { ⌜ (length (now zone) ≡ 20) × (length (now pun) ≡ 16) ⌝ }
-    ensures { λ r. ⌜ now r ≡ cond island (part 4 12 (now (pun .entry))) (cond photovoltaic (part 4 16 (now (zone .entry))) (part 4 12 (now (zone .entry)))) ⌝ }
+    ensures { λ r. ⌜ now r ≡ cond island (part 4 12 (now (pun .entry)))
+        (cond photovoltaic (part 4 16 (now (zone .entry))) (part 4 12 (now (zone .entry)))) ⌝ }
 {
     if island {
         return &pun[12..16];

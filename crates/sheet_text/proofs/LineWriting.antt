@@ -148,3 +148,10 @@ lines-written m kwh s h within long =
     ap (λ (k : ℕ). stored k (line (m + 1) (kwh m)) (stored 0 (lines m kwh) s)) (sym (zero-add (length (lines m kwh))))
     ∙ stored-then 0 (lines m kwh) (line (m + 1) (kwh m)) s (omega (arith, lines-room m kwh h within))
     ∙ ap (λ (t : List ℕ). stored 0 t s) (sym (lines-more m kwh))
+
+-- a text that so many turns write: after i of them it ends there, and the slice is what is told
+pub record TextWritten (turns i place end : ℕ) (before after told : List ℕ) : Type 0 where
+  pub within : i ≤ turns
+  pub same : length after ≡ length before
+  pub ends : end ≡ place
+  pub written : after ≡ told

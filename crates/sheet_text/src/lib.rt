@@ -9,7 +9,8 @@ ghost use Rattle.sheet.specs.YearSheet.{sheetLength, word};
 ghost use Rattle.sheet_text.specs.Lines.{months, places, line, yearText};
 ghost use Rattle.sheet_text.specs.Reading.{wrongLine, aboveIn, readAnswer, sheetAfter, monthFilled, filled};
 ghost use Rattle.sheet_text.specs.Writing.{sizesFit, sheetAbove, textRoom, writeAnswer, bufferAfter};
-ghost use Rattle.sheet_text.specs.InnerSteps.{kwhOf, yearOf, placeAbove, positionAbove, stopAt, numbersTo, LineRead, MonthPut, MeasuresRead, MonthOf};
+ghost use Rattle.sheet_text.specs.InnerSteps.{kwhOf, yearOf, placeAbove, positionAbove, stopAt, numbersTo, LineRead, MonthPut};
+ghost use Rattle.sheet_text.specs.InnerSteps.{MeasuresRead, MonthOf};
 use sheet::HEADER;
 use sheet::LENGTH;
 use sheet::MONTHS;
@@ -212,8 +213,8 @@ fn fill(sheet: &mut [u8], year: [u32; NUMBERS])
 
 // Fills the kWh of a sheet. All of the text is looked at before the first byte is written, so that a refusal leaves the sheet.
 pub fn read_measures(sheet: &mut [u8], text: &[u8]) -> Read
-    ensures { λ r. ⌜ r ≡ readAnswer (now (sheet .entry)) (now (text .entry)) ⌝ }
-    ensures { λ _. ⌜ now (sheet .exit) ≡ sheetAfter (now (sheet .entry)) (now (text .entry)) ⌝ }
+    ensures answer { λ r. ⌜ r ≡ readAnswer (now (sheet .entry)) (now (text .entry)) ⌝ }
+    ensures after { λ _. ⌜ now (sheet .exit) ≡ sheetAfter (now (sheet .entry)) (now (text .entry)) ⌝ }
 {
     if sheet.len() != LENGTH {
         return Read {
@@ -272,8 +273,8 @@ fn stop_at(place: usize) -> u8
 // Writes the numbers of a line at a place of the text, and answers the place behind them.
 fn write_numbers(out: &mut [u8], at: usize, kwh: [u32; PLACES]) -> usize
     requires { ⌜ at + length (numbersTo (kwhOf kwh) places) ≤ length (now out) ⌝ }
-    ensures { λ r. ⌜ r ≡ at + length (numbersTo (kwhOf kwh) places) ⌝ }
-    ensures { λ _. ⌜ now (out .exit) ≡ stored at (numbersTo (kwhOf kwh) places) (now (out .entry)) ⌝ }
+    ensures end { λ r. ⌜ r ≡ at + length (numbersTo (kwhOf kwh) places) ⌝ }
+    ensures after { λ _. ⌜ now (out .exit) ≡ stored at (numbersTo (kwhOf kwh) places) (now (out .entry)) ⌝ }
 {
     let mut end = at;
     for place in 0..PLACES {
@@ -285,8 +286,8 @@ fn write_numbers(out: &mut [u8], at: usize, kwh: [u32; PLACES]) -> usize
 // The line of a month, counted from 0.
 fn write_line(out: &mut [u8], at: usize, month: usize, kwh: [u32; PLACES]) -> usize
     requires { ⌜ (month < months) × (at + length (line (month + 1) (kwhOf kwh)) ≤ length (now out)) ⌝ }
-    ensures { λ r. ⌜ r ≡ at + length (line (month + 1) (kwhOf kwh)) ⌝ }
-    ensures { λ _. ⌜ now (out .exit) ≡ stored at (line (month + 1) (kwhOf kwh)) (now (out .entry)) ⌝ }
+    ensures end { λ r. ⌜ r ≡ at + length (line (month + 1) (kwhOf kwh)) ⌝ }
+    ensures after { λ _. ⌜ now (out .exit) ≡ stored at (line (month + 1) (kwhOf kwh)) (now (out .entry)) ⌝ }
 {
     let end = decimals::write_field(out, at, month as u64 + 1, b';');
     write_numbers(out, end, kwh)
@@ -294,8 +295,8 @@ fn write_line(out: &mut [u8], at: usize, month: usize, kwh: [u32; PLACES]) -> us
 
 fn write_lines(sheet: &[u8], out: &mut [u8]) -> usize
     requires { ⌜ (sizesFit (now sheet) (now out) ≡ true) × (sheetAbove (now sheet) ≡ false) ⌝ }
-    ensures { λ r. ⌜ (r ≡ length (yearText (word (now (sheet .entry))))) × (r ≤ textRoom) ⌝ }
-    ensures { λ _. ⌜ now (out .exit) ≡ stored 0 (yearText (word (now (sheet .entry)))) (now (out .entry)) ⌝ }
+    ensures end { λ r. ⌜ (r ≡ length (yearText (word (now (sheet .entry))))) × (r ≤ textRoom) ⌝ }
+    ensures after { λ _. ⌜ now (out .exit) ≡ stored 0 (yearText (word (now (sheet .entry)))) (now (out .entry)) ⌝ }
 {
     let mut end = 0;
     for month in 0..MONTHS {
@@ -307,8 +308,8 @@ fn write_lines(sheet: &[u8], out: &mut [u8]) -> usize
 
 // Writes the lines of a sheet into exactly ROOM bytes, of which the rest stays. A refusal leaves them all.
 pub fn write_measures(sheet: &[u8], text: &mut [u8]) -> Written
-    ensures { λ r. ⌜ r ≡ writeAnswer (now (sheet .entry)) (now (text .entry)) ⌝ }
-    ensures { λ _. ⌜ now (text .exit) ≡ bufferAfter (now (sheet .entry)) (now (text .entry)) ⌝ }
+    ensures answer { λ r. ⌜ r ≡ writeAnswer (now (sheet .entry)) (now (text .entry)) ⌝ }
+    ensures after { λ _. ⌜ now (text .exit) ≡ bufferAfter (now (sheet .entry)) (now (text .entry)) ⌝ }
 {
     if (sheet.len() != LENGTH) | (text.len() != ROOM) {
         return Written {

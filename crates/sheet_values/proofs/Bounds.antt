@@ -9,7 +9,8 @@ use lib.Dec.{lit<, eqb}
 use Rattle.units.specs.Folds.{sumBelow, allBelow, anyBelow}
 use Rattle.units.proofs.Folds.{sum-capped, all-at}
 use Rattle.codec.specs.Bytes.{littleEndian, bytesOf, part, number, zeros}
-use Rattle.sheet.specs.YearSheet.{withdrawnReading, injectedReading, word, headerFits, lastWordsFit, formFits, refused11, limitAt, aboveLimit, unusedBand, strayBand, atFault, earliest, refused13, refused19, monthWithdrawn, Past13}
+use Rattle.sheet.specs.YearSheet.{withdrawnReading, injectedReading, word, headerFits, lastWordsFit, formFits, refused11, limitAt, aboveLimit, unusedBand, strayBand, atFault, earliest, refused13}
+use Rattle.sheet.specs.YearSheet.{refused19, monthWithdrawn, Past13}
 use Rattle.sheet.proofs.Limits.{passed-energy, month-withdrawn-capped}
 use Rattle.sheet_values.specs.YearsValues.{monthInjected, withdrawnOver, injectedOver}
 use Rattle.sheet_values.specs.Bounds.{monthBound, yearBound, SheetsBounded, numbers, months, fullSheet, BoundsReached}

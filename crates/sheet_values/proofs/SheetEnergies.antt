@@ -16,7 +16,8 @@ use Rattle.sheet.specs.YearSheet.{Passed, monthWithdrawn}
 use Rattle.sheet_prices.specs.InnerArrays.{energyAt}
 use Rattle.sheet_values.specs.InnerArrays.{Months}
 use Rattle.sheet_values.proofs.Bounds.{sheets-bounded}
-use Rattle.sheet_values.specs.YearsValues.{monthInjected, monthExchanged, monthRate, annualRate, monthFlatRate, annualFlatRate, flatRateOver, withdrawnOver, injectedOver, exchangedOver, someMonthAbove, halfOf}
+use Rattle.sheet_values.specs.YearsValues.{monthInjected, monthExchanged, monthRate, annualRate, monthFlatRate, annualFlatRate, flatRateOver, withdrawnOver, injectedOver, exchangedOver}
+use Rattle.sheet_values.specs.YearsValues.{someMonthAbove, halfOf}
 
 pub exchanged-within : (s : List ℕ) (m : ℕ) → monthExchanged s m ≤ monthWithdrawn s m
 unfolding monthExchanged

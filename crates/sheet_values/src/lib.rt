@@ -11,7 +11,8 @@ ghost use Rattle.tariff.specs.Table1.{tableEuroPerMwh};
 ghost use Rattle.tariff.specs.Tariff.{monthlyThreshold, monthlyTiers, annualTiers, meanRate, flatRateOf};
 ghost use Rattle.sheet.specs.YearSheet.{Passed, monthWithdrawn, word};
 ghost use Rattle.sheet_prices.specs.InnerArrays.{energyAt, rowTotal};
-ghost use Rattle.sheet_values.specs.YearsValues.{monthInjected, monthExchanged, monthRate, annualRate, monthFlatRate, flatRateOver, yearValues, ValuesFit};
+ghost use Rattle.sheet_values.specs.YearsValues.{monthInjected, monthExchanged, monthRate, annualRate, monthFlatRate, flatRateOver};
+ghost use Rattle.sheet_values.specs.YearsValues.{yearValues, ValuesFit};
 ghost use Rattle.sheet_values.specs.InnerArrays.{Months, Rates};
 use tariff::MONTHLY_THRESHOLD;
 use units::Kwh;
@@ -47,7 +48,9 @@ fn row_total(energy: [Kwh; 3]) -> Kwh
 
 // The energy of each month.
 fn month_totals(energy: [[Kwh; 3]; 12]) -> [Kwh; 12]
-    requires { ⌜ ((m : ℕ) → m < 12 → (energyAt 0 (getD energy m []) ≤ maxKwh) × ((energyAt 1 (getD energy m []) ≤ maxKwh) × (energyAt 2 (getD energy m []) ≤ maxKwh))) ⌝ }
+    requires { ⌜ ((m : ℕ) → m < 12
+        → (energyAt 0 (getD energy m []) ≤ maxKwh)
+        × ((energyAt 1 (getD energy m []) ≤ maxKwh) × (energyAt 2 (getD energy m []) ≤ maxKwh))) ⌝ }
     ensures { λ r. ⌜ ((m : ℕ) → m < 12 → getD r m (kwh 0) ≡ kwh (rowTotal (getD energy m []))) ⌝ }
 {
     let mut totals = [Kwh(0); 12];
@@ -197,7 +200,8 @@ fn month_flat_rate(
     requires { ⌜ month < 12 ⌝ }
     requires { ⌜ (exchanged .0 ≤ withdrawn .0) × (withdrawn .0 ≤ 3 * maxKwh) ⌝ }
     requires { ⌜ table ≡ rate (unitsPerEuroMwh * tableEuroPerMwh plant power) ⌝ }
-    ensures { λ r. ⌜ (r .0 ≡ flatRateOf (monthlyTiers (withdrawn .0) (exchanged .0)) (monthRate (now (s .entry)) plant power month)) × (r .0 ≤ maxTierRate * exchanged .0) ⌝ }
+    ensures { λ r. ⌜ (r .0 ≡ flatRateOf (monthlyTiers (withdrawn .0) (exchanged .0)) (monthRate (now (s .entry)) plant power month))
+        × (r .0 ≤ maxTierRate * exchanged .0) ⌝ }
 {
     let energies = tariff::monthly_tiers(withdrawn, exchanged);
     tariff::flat_rate_of(energies, month_rates(s, month, plant, power, table))
@@ -219,7 +223,8 @@ fn annual_flat_rate(
     requires { ⌜ (0 < count) × (from + count ≤ 12) ⌝ }
     requires { ⌜ (exchanged .0 ≤ withdrawn .0) × (withdrawn .0 ≤ 36 * maxKwh) ⌝ }
     requires { ⌜ table ≡ rate (unitsPerEuroMwh * tableEuroPerMwh plant power) ⌝ }
-    ensures { λ r. ⌜ (r .0 ≡ flatRateOf (annualTiers class (withdrawn .0) (exchanged .0)) (annualRate (now (s .entry)) plant power from count)) × (r .0 ≤ maxTierRate * exchanged .0) ⌝ }
+    ensures { λ r. ⌜ (r .0 ≡ flatRateOf (annualTiers class (withdrawn .0) (exchanged .0))
+        (annualRate (now (s .entry)) plant power from count)) × (r .0 ≤ maxTierRate * exchanged .0) ⌝ }
 {
     let energies = tariff::annual_tiers(class, withdrawn, exchanged);
     tariff::flat_rate_of(energies, annual_rates(s, from, count, plant, power, table))
@@ -240,7 +245,8 @@ fn monthly_flat_rate(
     requires { ⌜ from + count ≤ 12 ⌝ }
     requires { ⌜ Months (monthWithdrawn (now s)) withdrawn × Months (monthExchanged (now s)) exchanged ⌝ }
     requires { ⌜ table ≡ rate (unitsPerEuroMwh * tableEuroPerMwh plant power) ⌝ }
-    ensures { λ r. ⌜ (r .0 ≡ sumBelow count (λ i. monthFlatRate (now (s .entry)) plant power (from + i))) × (r .0 ≤ maxTierRate * (3 * maxKwh * count)) ⌝ }
+    ensures { λ r. ⌜ (r .0 ≡ sumBelow count (λ i. monthFlatRate (now (s .entry)) plant power (from + i)))
+        × (r .0 ≤ maxTierRate * (3 * maxKwh * count)) ⌝ }
 {
     let mut sum: u64 = 0;
     for i in 0..count {

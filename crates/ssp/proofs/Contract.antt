@@ -40,7 +40,8 @@ pub fresh-says : (κs : _) (a : _) (r : _) (s : _) → fresh-of.Post κs a r s �
 fresh-says κs a r s said = said
 
 pub enrol-says : (κs : _) (a : _) (r : _) (s : _) → enrol-of.Post κs a r s
-    → Answered (now (a .0)) (enrol (a .1 .0) (detailsOf (a .1 .1 .0) (a .1 .1 .1 .0) (a .1 .1 .1 .1 .1 .0) (a .1 .1 .1 .1 .1 .1 .0) (a .1 .1 .1 .1 .1 .1 .1 .0) (a .1 .1 .1 .1 .1 .1 .1 .1 .0)) (a .1 .1 .1 .1 .0)) (used (now (a .0))) (r .refusal) (r .«record») (now (s .0))
+    → Answered (now (a .0)) (enrol (a .1 .0) (detailsOf (a .1 .1 .0) (a .1 .1 .1 .0) (a .1 .1 .1 .1 .1 .0) (a .1 .1 .1 .1 .1 .1 .0) (a .1 .1 .1 .1 .1 .1 .1 .0) (a .1 .1 .1 .1 .1 .1 .1 .1 .0))
+    (a .1 .1 .1 .1 .0)) (used (now (a .0))) (r .refusal) (r .«record») (now (s .0))
 enrol-says κs a r s said = said
 
 pub elect-says : (κs : _) (a : _) (r : _) (s : _) → elect-of.Post κs a r s

@@ -237,7 +237,8 @@ pub extern "C" fn ssp_enrol(
     month: u8,
     island: u8,
 ) -> Booked
-    ensures { λ r. ⌜ Answered (now (book .entry)) (enrol number (detailsOf «user_class» plant power year month island) option) (used (now (book .entry))) (r .refusal) (r .record) (now (book .exit)) ⌝ }
+    ensures { λ r. ⌜ Answered (now (book .entry)) (enrol number (detailsOf «user_class» plant power year month island) option)
+        (used (now (book .entry))) (r .refusal) (r .record) (now (book .exit)) ⌝ }
 {
     let details = Details {
         class: user_class,
@@ -274,7 +275,8 @@ pub extern "C" fn ssp_elect(
 
 #[no_mangle]
 pub extern "C" fn ssp_charge(book: &mut [u8], number: u32) -> Booked
-    ensures { λ r. ⌜ Answered (now (book .entry)) (charge number) (findUser (now (book .entry)) number) (r .refusal) (r .record) (now (book .exit)) ⌝ }
+    ensures { λ r. ⌜ Answered (now (book .entry)) (charge number) (findUser (now (book .entry)) number) (r .refusal) (r .record)
+        (now (book .exit)) ⌝ }
 {
     let said = call_charge::charge(book, UserNumber(number));
     Booked {
@@ -293,8 +295,9 @@ pub extern "C" fn ssp_advance(
     estimate1: u64,
     estimate2: u64,
 ) -> Advanced
-    ensures { λ r. ⌜ Answered (now (book .entry)) (advance number year run rate estimate1 estimate2) 0 (r .refusal) (r .record) (now (book .exit)) ⌝ }
-    ensures { λ r. ⌜ r .ticks ≡ ticksAnswered (now (book .entry)) number year run rate estimate1 estimate2 (r .refusal) .0 ⌝ }
+    ensures reply { λ r. ⌜ Answered (now (book .entry)) (advance number year run rate estimate1 estimate2) 0 (r .refusal) (r .record)
+        (now (book .exit)) ⌝ }
+    ensures ticks { λ r. ⌜ r .ticks ≡ ticksAnswered (now (book .entry)) number year run rate estimate1 estimate2 (r .refusal) .0 ⌝ }
 {
     let said = call_advance::advance(
         book,
@@ -314,66 +317,69 @@ pub extern "C" fn ssp_advance(
 
 #[no_mangle]
 pub extern "C" fn ssp_close(book: &mut [u8], sheet: &[u8]) -> Closed
-    ensures { λ r. ⌜ Answered (now (book .entry)) (close (now (sheet .entry))) 0 (r .refusal) (r .record) (now (book .exit)) ⌝ }
-    ensures { λ r. ⌜ Tells (now (sheet .entry)) (r .refusal) (positionOf (r .month) (r .place)) ⌝ }
-    ensures { λ r. ⌜ r ≡ flatClosed (r .refusal) (r .record) (positionOf (r .month) (r .place)) (sumsAnswered (now (book .entry)) (now (sheet .entry)) (r .refusal)) ⌝ }
+    ensures reply { λ r. ⌜ Answered (now (book .entry)) (close (now (sheet .entry))) 0 (r .refusal) (r .record) (now (book .exit)) ⌝ }
+    ensures position { λ r. ⌜ Tells (now (sheet .entry)) (r .refusal) (positionOf (r .month) (r .place)) ⌝ }
+    ensures flat { λ r. ⌜ r ≡ flatClosed (r .refusal) (r .record) (positionOf (r .month) (r .place))
+        (sumsAnswered (now (book .entry)) (now (sheet .entry)) (r .refusal)) ⌝ }
 {
     flat_closed(call_close::close(book, sheet))
 }
 
 #[no_mangle]
 pub extern "C" fn ssp_statement(book: &[u8], number: u32) -> Sums
-    ensures { λ r. ⌜ Answered (now (book .entry)) (statement number) 0 (r .refusal) (r .record) (now (book .entry)) ⌝ }
-    ensures { λ r. ⌜ r ≡ flatSums (r .refusal) (r .record) (sumsStated (now (book .entry)) number (r .refusal)) ⌝ }
+    ensures reply { λ r. ⌜ Answered (now (book .entry)) (statement number) 0 (r .refusal) (r .record) (now (book .entry)) ⌝ }
+    ensures flat { λ r. ⌜ r ≡ flatSums (r .refusal) (r .record) (sumsStated (now (book .entry)) number (r .refusal)) ⌝ }
 {
     flat_sums(call_statement::statement(book, UserNumber(number)))
 }
 
 #[no_mangle]
 pub extern "C" fn ssp_archive(sheet: &[u8], archive: &mut [u8]) -> u32
-    ensures { λ r. ⌜ r ≡ answer (now (sheet .entry)) (now (archive .entry)) ⌝ }
-    ensures { λ _. ⌜ now (archive .exit) ≡ archiveAfter (now (sheet .entry)) (now (archive .entry)) ⌝ }
+    ensures answer { λ r. ⌜ r ≡ answer (now (sheet .entry)) (now (archive .entry)) ⌝ }
+    ensures after { λ _. ⌜ now (archive .exit) ≡ archiveAfter (now (sheet .entry)) (now (archive .entry)) ⌝ }
 {
     sheet_archive::archive(sheet, archive)
 }
 
 #[no_mangle]
 pub extern "C" fn ssp_restore(archive: &[u8], sheet: &mut [u8]) -> u32
-    ensures { λ r. ⌜ r ≡ answer (now (archive .entry)) (now (sheet .entry)) ⌝ }
-    ensures { λ _. ⌜ now (sheet .exit) ≡ sheetAfter (now (archive .entry)) (now (sheet .entry)) ⌝ }
+    ensures answer { λ r. ⌜ r ≡ answer (now (archive .entry)) (now (sheet .entry)) ⌝ }
+    ensures after { λ _. ⌜ now (sheet .exit) ≡ sheetAfter (now (archive .entry)) (now (sheet .entry)) ⌝ }
 {
     sheet_archive::restore(archive, sheet)
 }
 
 #[no_mangle]
 pub extern "C" fn ssp_raise(sheet: &mut [u8], factor: u32) -> Raised
-    ensures { λ r. ⌜ r ≡ flatRaised (answerOf factor (now (sheet .entry))) ⌝ }
-    ensures { λ _. ⌜ now (sheet .exit) ≡ raisedAfter factor (now (sheet .entry)) ⌝ }
+    ensures answer { λ r. ⌜ r ≡ flatRaised (answerOf factor (now (sheet .entry))) ⌝ }
+    ensures after { λ _. ⌜ now (sheet .exit) ≡ raisedAfter factor (now (sheet .entry)) ⌝ }
 {
     flat_raised(sheet_losses::raise(sheet, factor))
 }
 
 #[no_mangle]
 pub extern "C" fn ssp_read_measures(sheet: &mut [u8], text: &[u8]) -> Read
-    ensures { λ r. ⌜ r ≡ flatRead (reading.readAnswer (now (sheet .entry)) (now (text .entry))) ⌝ }
-    ensures { λ _. ⌜ now (sheet .exit) ≡ reading.sheetAfter (now (sheet .entry)) (now (text .entry)) ⌝ }
+    ensures answer { λ r. ⌜ r ≡ flatRead (reading.readAnswer (now (sheet .entry)) (now (text .entry))) ⌝ }
+    ensures after { λ _. ⌜ now (sheet .exit) ≡ reading.sheetAfter (now (sheet .entry)) (now (text .entry)) ⌝ }
 {
     flat_read(sheet_text::read_measures(sheet, text))
 }
 
 #[no_mangle]
 pub extern "C" fn ssp_write_measures(sheet: &[u8], text: &mut [u8]) -> Written
-    ensures { λ r. ⌜ r ≡ flatWritten (writeAnswer (now (sheet .entry)) (now (text .entry))) ⌝ }
-    ensures { λ _. ⌜ now (text .exit) ≡ bufferAfter (now (sheet .entry)) (now (text .entry)) ⌝ }
+    ensures answer { λ r. ⌜ r ≡ flatWritten (writeAnswer (now (sheet .entry)) (now (text .entry))) ⌝ }
+    ensures after { λ _. ⌜ now (text .exit) ≡ bufferAfter (now (sheet .entry)) (now (text .entry)) ⌝ }
 {
     flat_written(sheet_text::write_measures(sheet, text))
 }
 
 #[no_mangle]
 pub extern "C" fn ssp_more_sun(book: &[u8], sheet: &[u8], month: u32, band: u32) -> Sun
-    ensures { λ r. ⌜ AnsweredBy (now (book .entry)) (moreSunOrder (now (book .entry)) (now (sheet .entry)) month band) 0 (r .refusal) (r .record) ⌝ }
-    ensures { λ r. ⌜ Tells (now (sheet .entry)) (r .refusal) (positionOf (r .month) (r .place)) ⌝ }
-    ensures { λ r. ⌜ r ≡ flatSun (r .refusal) (r .record) (positionOf (r .month) (r .place)) (additionAnswered (now (book .entry)) (now (sheet .entry)) month band (r .refusal)) ⌝ }
+    ensures reply { λ r. ⌜ AnsweredBy (now (book .entry)) (moreSunOrder (now (book .entry)) (now (sheet .entry)) month band) 0 (r .refusal)
+        (r .record) ⌝ }
+    ensures position { λ r. ⌜ Tells (now (sheet .entry)) (r .refusal) (positionOf (r .month) (r .place)) ⌝ }
+    ensures flat { λ r. ⌜ r ≡ flatSun (r .refusal) (r .record) (positionOf (r .month) (r .place))
+        (additionAnswered (now (book .entry)) (now (sheet .entry)) month band (r .refusal)) ⌝ }
 {
     flat_sun(call_more_sun::more_sun(book, sheet, month, band))
 }

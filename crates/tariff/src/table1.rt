@@ -156,8 +156,8 @@ const EURO_PER_MWH: [u16; 52] = [
 struct Block(u8, usize, usize);
 
 fn block_of(plant: u8) -> Block
-    ensures { λ b. ⌜ (b .0 ≤ plant) × (firstRow (b .0) (b .1) (b .2) plant + b .2 ≤ length table1) ⌝ }
-    ensures { λ b. ⌜ slice (firstRow (b .0) (b .1) (b .2) plant) (firstRow (b .0) (b .1) (b .2) plant + b .2) table1
+    ensures within { λ b. ⌜ (b .0 ≤ plant) × (firstRow (b .0) (b .1) (b .2) plant + b .2 ≤ length table1) ⌝ }
+    ensures rows { λ b. ⌜ slice (firstRow (b .0) (b .1) (b .2) plant) (firstRow (b .0) (b .1) (b .2) plant + b .2) table1
         ≡ rowsOfKind plant table1 ⌝ }
 {
     match plant {
@@ -178,8 +178,8 @@ fn block_of(plant: u8) -> Block
 struct Rows(usize, usize);
 
 fn rows_of(plant: u8) -> Rows
-    ensures { λ r. ⌜ (r .0 ≤ r .1) × (r .1 ≤ length table1) ⌝ }
-    ensures { λ r. ⌜ slice (r .0) (r .1) table1 ≡ rowsOfKind plant table1 ⌝ }
+    ensures within { λ r. ⌜ (r .0 ≤ r .1) × (r .1 ≤ length table1) ⌝ }
+    ensures rows { λ r. ⌜ slice (r .0) (r .1) table1 ≡ rowsOfKind plant table1 ⌝ }
 {
     let block = block_of(plant);
     let place = (plant - block.0) as usize;

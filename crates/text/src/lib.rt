@@ -4,7 +4,8 @@ ghost use mathlib.Core.Path.{_≡_};
 ghost use mathlib.Core.Bool.{true};
 ghost use Prim.Native.Nat.{_+_, _*_, _^_, _≤_};
 ghost use lib.ListN.{length, getD, take, drop};
-ghost use Rattle.text.specs.InnerText.{narrow, isHexDigit, hexDigit, hexByte, isHex, numberAt, NextWithin, afterBlank, fieldAt, wordEnd, FieldsRead, HexRead, HexWritten};
+ghost use Rattle.text.specs.InnerText.{narrow, isHexDigit, hexDigit, hexByte, isHex, numberAt, NextWithin, afterBlank, fieldAt};
+ghost use Rattle.text.specs.InnerText.{wordEnd, FieldsRead, HexRead, HexWritten};
 
 // A number that stands at a place, and the place after it.
 pub enum Number {
@@ -40,8 +41,8 @@ fn hex_digit(b: u8) -> u8
 
 // The decimal number at a place. It is missing where no digit stands there, and where it is 2^64 or more.
 pub fn number_at(s: &[u8], at: usize) -> Number
-    ensures { λ r. ⌜ r ≡ numberAt (now (s .entry)) at ⌝ }
-    ensures { λ r. ⌜ NextWithin (length (now (s .entry))) r ⌝ }
+    ensures read { λ r. ⌜ r ≡ numberAt (now (s .entry)) at ⌝ }
+    ensures next { λ r. ⌜ NextWithin (length (now (s .entry))) r ⌝ }
 {
     let mut value: u64 = 0;
     let mut next = at;
@@ -61,8 +62,8 @@ pub fn number_at(s: &[u8], at: usize) -> Number
 
 // The place after one blank; the same place where no blank stands.
 pub fn after_blank(s: &[u8], at: usize) -> usize
-    ensures { λ r. ⌜ r ≡ afterBlank (now (s .entry)) at ⌝ }
-    ensures { λ r. ⌜ (at ≤ length (now (s .entry)) → r ≤ length (now (s .entry))) ⌝ }
+    ensures place { λ r. ⌜ r ≡ afterBlank (now (s .entry)) at ⌝ }
+    ensures within { λ r. ⌜ (at ≤ length (now (s .entry)) → r ≤ length (now (s .entry))) ⌝ }
 {
     if codec::byte_at(s, at) == b' ' {
         at + 1
@@ -73,8 +74,8 @@ pub fn after_blank(s: &[u8], at: usize) -> usize
 
 // One blank, and the number after it.
 pub fn field_at(s: &[u8], at: usize) -> Number
-    ensures { λ r. ⌜ r ≡ fieldAt (now (s .entry)) at ⌝ }
-    ensures { λ r. ⌜ NextWithin (length (now (s .entry))) r ⌝ }
+    ensures read { λ r. ⌜ r ≡ fieldAt (now (s .entry)) at ⌝ }
+    ensures next { λ r. ⌜ NextWithin (length (now (s .entry))) r ⌝ }
 {
     let start = after_blank(s, at);
     if start == at {
@@ -114,8 +115,8 @@ pub fn fields_from(s: &[u8], at: usize, count: usize) -> Numbers
 
 // Where the word that begins at a place ends: at the blank after it, or where the text ends.
 pub fn word_end(s: &[u8], from: usize) -> usize
-    ensures { λ r. ⌜ r ≡ wordEnd (now (s .entry)) from ⌝ }
-    ensures { λ r. ⌜ from ≤ r ⌝ }
+    ensures end { λ r. ⌜ r ≡ wordEnd (now (s .entry)) from ⌝ }
+    ensures after { λ r. ⌜ from ≤ r ⌝ }
 {
     let mut at = from;
     while at < s.len() {

@@ -13,7 +13,8 @@ use Rattle.units.specs.Folds.{sumBelow, allBelow, anyBelow}
 use Rattle.codec.specs.Bytes.{littleEndian, bytesOf, part, number, stored, zeros}
 use Rattle.tariff.specs.Tariff.{domestic, monthlyMethod, between, above, tiers, annualTiers, meanRate, tierRate, flatRateOf}
 use Rattle.calendar.specs.ElectionAndAdvances.{daysIn, isDay, notAfter, inWindow, halvesPaid, due, halvesCount, paidOf, amountOf}
-use Rattle.sheet.specs.YearSheet.{withdrawnReading, injectedReading, word, headerFits, lastWordsFit, formFits, refused11, limitAt, aboveLimit, unusedBand, strayBand, atFault, earliest, refused13, refused19, monthWithdrawn, refused14}
+use Rattle.sheet.specs.YearSheet.{withdrawnReading, injectedReading, word, headerFits, lastWordsFit, formFits, refused11, limitAt, aboveLimit, unusedBand, strayBand, atFault, earliest, refused13}
+use Rattle.sheet.specs.YearSheet.{refused19, monthWithdrawn, refused14}
 use Rattle.sheet_prices.specs.ValueAndCost.{costIn, costOf, singlePrice, valueIn, valueOf}
 use Rattle.sheet_values.specs.YearsValues.{monthInjected, withdrawnOver, injectedOver, exchangedOver, monthExchanged, annualRate, annualFlatRate, flatRateOver, halfOf, yearValues}
 use Rattle.account_steps.specs.Account.{accountElected, runsIn, accountAdvanced, accountClosed, settled}
@@ -21,11 +22,15 @@ use Rattle.account_steps.specs.Charges.{chargeOf, withheldFrom, positivePart, w
 use Rattle.account_steps.specs.Closing.{contributionOf, liquidationOf, lapsedOf, creditAfter, balanceOf}
 use Rattle.book_layout.specs.Fields.{get, recordAt, putRecord, written, allZero}
 use Rattle.book_records.specs.Records.{headImage, userImage, advanceImage, closingImage, accountIn, advanceIn, closingIn}
-use Rattle.book_rules.specs.Book.{lengthFits, freshBook, used, firstUser, usedFits, kindAt, hasKind, isEntry, detailsFit, openYearFits, halvesOf, isMade, dueIfMade, runsFit, halvesMade, advancesFit, laterHalf, laterFits, creditFits, halvesFit, chargeFits, accountFits, yearFits, isRun, levelFrom, bookedFits, advanceFits, balanceFits, paidBalance, withheldFits, closingFits, ownerOf, rangesFit, zeroBytesFit, nextOf, firstEntryOf, numberOf, userNextFits, numberIsNew, firstEntryFits, entryNextFits, ownerFits, hits, pointersFrom, pointersTo, pointedOnce, levelOf, inOrder, activationOf, openYearOf, firstInOrder, nextInOrder, linksFit, goodRecord, goodHead, faulty, sound, entryKind, entryRanges, unnamedOf, levelIn}
+use Rattle.book_rules.specs.Book.{lengthFits, freshBook, used, firstUser, usedFits, kindAt, hasKind, isEntry, detailsFit, openYearFits, halvesOf, isMade, dueIfMade, runsFit, halvesMade, advancesFit}
+use Rattle.book_rules.specs.Book.{laterHalf, laterFits, creditFits, halvesFit, chargeFits, accountFits, yearFits, isRun, levelFrom, bookedFits, advanceFits, balanceFits, paidBalance, withheldFits}
+use Rattle.book_rules.specs.Book.{closingFits, ownerOf, rangesFit, zeroBytesFit, nextOf, firstEntryOf, numberOf, userNextFits, numberIsNew, firstEntryFits, entryNextFits, ownerFits, hits}
+use Rattle.book_rules.specs.Book.{pointersFrom, pointersTo, pointedOnce, levelOf, inOrder, activationOf, openYearOf, firstInOrder, nextInOrder, linksFit, goodRecord, goodHead, faulty, sound}
+use Rattle.book_rules.specs.Book.{entryKind, entryRanges, unnamedOf, levelIn}
 use Rattle.call_rules.specs.Changes.{newAccount, enrolledAs, withAccount, withEntry, applied, bookedIn, runAmount}
 use Rattle.book_records.specs.Entries.{entryImage}
 use Rattle.book_rules.specs.Find.{findBelow, findUser}
-use Rattle.call_rules.specs.Calls.{Call, enrol, elect, advance, close, charge, namedBy, rulesOf, refusalOf, changeOf, booked, bookAfter}
+use Rattle.call_rules.specs.Calls.{Call, enrol, elect, advance, close, charge, namedBy, rulesOf, refusalOf, changeOf, booked, bookAfter, Typed, AllTyped}
 use Rattle.call_rules.specs.Rules.{refusedBy}
 use Rattle.call_rules.specs.Refusals.{lookAt, hasRoom, dayAndOption, electionOpen, chargeOpen, isOpen, runOpen, orderFits, yearOpen}
 use Rattle.sheet_values.specs.declared.Details.{Details}
@@ -33,11 +38,10 @@ use Rattle.check_book.specs.Verdicts.{freshAnswer, freshAfter}
 use Rattle.book_layout.proofs.ByteRanges.{Bytes}
 use Rattle.ledger_agrees.specs.Lists.{Made, made, Runs, madeOf, bookAfterAll}
 use Rattle.ledger_agrees.specs.Fed.{here}
-use Rattle.call_rules.specs.Typed.{Typed, AllTyped}
 use Rattle.theorem.specs.Runs.{Calls}
 use Rattle.theorem.specs.Claims.{Claim}
 use Rattle.theorem.proofs.Theorem.{third-demand}
-use Rattle.theorem.proofs.Possible.{possible, lent}
+use Rattle.theorem.proofs.Steps.{possible, lent}
 
 abbrev pub details : Details
 details = record { class = 1; plant = 1; power = 3000; year = 2013; month = 1; island = 0 }
@@ -75,7 +79,16 @@ others =
     ∷ made (enrol 7 details 0) 4 ∷ []
 
 answered : madeOf (freshBook 480) calls ≡ made (enrol 7 details 0) 0 ∷ others
-unfolding madeOf calls others sumBelow allBelow anyBelow littleEndian bytesOf part number stored domestic monthlyMethod between above tiers annualTiers meanRate tierRate flatRateOf daysIn isDay notAfter inWindow withdrawnReading injectedReading word headerFits lastWordsFit formFits refused11 limitAt aboveLimit unusedBand strayBand atFault earliest refused13 refused19 monthWithdrawn refused14 costIn costOf singlePrice valueIn valueOf monthInjected withdrawnOver injectedOver exchangedOver monthExchanged annualRate annualFlatRate flatRateOver halfOf yearValues halvesPaid due halvesCount paidOf amountOf accountElected runsIn accountAdvanced accountClosed contributionOf liquidationOf lapsedOf creditAfter balanceOf chargeOf withheldFrom positivePart withheldAtClosing closingWithheld accountCharged accountWithheld get zeros recordAt putRecord written headImage userImage advanceImage closingImage accountIn advanceIn closingIn lengthFits freshBook used firstUser usedFits kindAt hasKind entryKind entryRanges unnamedOf allZero levelIn isEntry detailsFit openYearFits halvesOf isMade dueIfMade runsFit halvesMade advancesFit laterHalf laterFits creditFits halvesFit chargeFits accountFits yearFits isRun levelFrom bookedFits advanceFits balanceFits paidBalance withheldFits closingFits ownerOf rangesFit zeroBytesFit nextOf firstEntryOf numberOf userNextFits numberIsNew firstEntryFits entryNextFits ownerFits hits pointersFrom pointersTo pointedOnce levelOf inOrder activationOf openYearOf firstInOrder nextInOrder linksFit goodRecord goodHead faulty sound findBelow findUser newAccount enrolledAs withAccount withEntry applied bookedIn runAmount entryImage settled refusalOf changeOf booked bookAfter refusedBy rulesOf namedBy lookAt hasRoom dayAndOption electionOpen chargeOpen isOpen runOpen orderFits yearOpen words month months sheetOf
+unfolding madeOf calls others sumBelow allBelow anyBelow littleEndian bytesOf part number stored domestic monthlyMethod between above tiers annualTiers meanRate tierRate flatRateOf daysIn isDay
+    notAfter inWindow withdrawnReading injectedReading word headerFits lastWordsFit formFits refused11 limitAt aboveLimit unusedBand strayBand atFault earliest refused13 refused19 monthWithdrawn
+    refused14 costIn costOf singlePrice valueIn valueOf monthInjected withdrawnOver injectedOver exchangedOver monthExchanged annualRate annualFlatRate flatRateOver halfOf yearValues halvesPaid due
+    halvesCount paidOf amountOf accountElected runsIn accountAdvanced accountClosed contributionOf liquidationOf lapsedOf creditAfter balanceOf chargeOf withheldFrom positivePart withheldAtClosing
+    closingWithheld accountCharged accountWithheld get zeros recordAt putRecord written headImage userImage advanceImage closingImage accountIn advanceIn closingIn lengthFits freshBook used firstUser
+    usedFits kindAt hasKind entryKind entryRanges unnamedOf allZero levelIn isEntry detailsFit openYearFits halvesOf isMade dueIfMade runsFit halvesMade advancesFit laterHalf laterFits creditFits
+    halvesFit chargeFits accountFits yearFits isRun levelFrom bookedFits advanceFits balanceFits paidBalance withheldFits closingFits ownerOf rangesFit zeroBytesFit nextOf firstEntryOf numberOf
+    userNextFits numberIsNew firstEntryFits entryNextFits ownerFits hits pointersFrom pointersTo pointedOnce levelOf inOrder activationOf openYearOf firstInOrder nextInOrder linksFit goodRecord
+    goodHead faulty sound findBelow findUser newAccount enrolledAs withAccount withEntry applied bookedIn runAmount entryImage settled refusalOf changeOf booked bookAfter refusedBy rulesOf namedBy
+    lookAt hasRoom dayAndOption electionOpen chargeOpen isOpen runOpen orderFits yearOpen words month months sheetOf
 answered = refl
 
 -- every byte of the sheets is one

@@ -1,4 +1,3 @@
 pub mod Example
-pub mod Follow
-pub mod Possible
+pub mod Steps
 pub mod Theorem

@@ -35,8 +35,7 @@ use Rattle.ledger_agrees.specs.Charged.{ChargesKept}
 use Rattle.ledger_agrees.proofs.Theorem as demand
 use Rattle.theorem.specs.Runs.{Calls}
 use Rattle.theorem.specs.Claims.{Claim, ThirdDemand, EveryList}
-use Rattle.theorem.proofs.Follow.{run-typed, run-leaves, run-answers}
-use Rattle.theorem.proofs.Possible.{possible, made-calls}
+use Rattle.theorem.proofs.Steps.{run-typed, run-leaves, run-answers, possible, made-calls}
 
 -- a number that the list enrolled has a ledger at its end
 posted-some : (c : Call) (l : Ledger) → (k : Ledger) × (posted c (some l) ≡ some k)

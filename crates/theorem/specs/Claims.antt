@@ -11,22 +11,22 @@ use denote.Ref.{now}
 use Rattle.ledger.specs.Ledger.{Ledger}
 use Rattle.ledger.specs.Accounting.{Accounts}
 use Rattle.statements.specs.InnerWalk.{statementIn}
-use Rattle.call_rules.specs.Calls.{Call}
-use Rattle.call_rules.specs.Typed.{AllTyped}
+use Rattle.call_rules.specs.Calls.{Call, AllTyped}
 use Rattle.call_statement.proofs.statement.Reads as statement-of
 use Rattle.check_book.proofs.fresh.Reads as fresh-of
 use Rattle.ledger_agrees.specs.Lists.{Made, callsOf, Runs}
 use Rattle.ledger_agrees.specs.Fed.{ledgerOf, valueOf, Enrols, NoneDamaged}
 use Rattle.ledger_agrees.specs.Charged.{ChargesKept}
-use Rattle.theorem.specs.Runs.{Calls}
+use Rattle.theorem.specs.Runs.{numberBy, Calls}
 
 -- after a list of calls, which left the book b: a number that it enrolled has a ledger, and whatever a call of `statement` for it
 -- answers is right by that ledger, as are what the entries on its chain had withheld and the unpaid rest
 pub record Claim (ms : List Made) (b : List ℕ) (number : ℕ) : Type 1 where
   pub ledger : Ledger
   pub fed : ledgerOf number ms none ≡ some ledger
-  pub statement : (κs : _) (a : _) (r : _) (s : _) → statement-of.Post κs a r s → now (a .0) ≡ b → a .1 .0 .0 ≡ number
-      → (r .reply .refusal ≡ 0) × (r .reply .«record» .0 ≡ 0) × Accounts ledger (valueOf number (ledger .details) ms) (statementIn (r .sums))
+  pub statement : (κs : _) (a : _) (r : _) (s : _) → statement-of.Post κs a r s → now (a .0) ≡ b → numberBy a ≡ number
+      → (r .reply .refusal ≡ 0) × (r .reply .«record» .0 ≡ 0) × Accounts ledger (valueOf number (ledger .details) ms)
+      (statementIn (r .sums))
   pub charges : ChargesKept b number ledger
 
 abbrev pub ThirdDemand : Type 1

@@ -1,5 +1,4 @@
-pub mod Lift
-pub mod Possible
+pub mod Steps
 pub mod Theorem
 pub mod Archives
 pub mod Raises

@@ -20,8 +20,7 @@ use Rattle.ssp.specs.Flat.{flatSums}
 use Rattle.ssp.proofs.Contract.{statement-says}
 use Rattle.ssp.proofs.ssp_statement.Reads as statement-of
 use Rattle.theorem_ssp.specs.Exported.{statementIn, Claim, ThirdDemand, EveryList}
-use Rattle.theorem_ssp.proofs.Lift.{lift}
-use Rattle.theorem_ssp.proofs.Possible.{flat}
+use Rattle.theorem_ssp.proofs.Steps.{lift, flat}
 
 -- a flat answer is the statement of the sums beneath it
 same-statement : (r : ssp.Sums) (refusal named : ℕ) (sums : Sums) → r ≡ flatSums refusal named sums → statementIn r ≡ statements.statementIn sums

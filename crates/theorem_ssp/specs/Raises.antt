@@ -18,11 +18,15 @@ SumKept before after factor band rest =
 
 pub record Raises : Type 1 where
   -- "For each band"
-  pub band1 : (κs : _) (a : _) (r : _) (s : _) → raise-of.Post κs a r s → r .refusal ≡ 0 → SumKept (now (a .0)) (now (s .0)) (a .1 .0) 0 (r .rest1)
-  pub band2 : (κs : _) (a : _) (r : _) (s : _) → raise-of.Post κs a r s → r .refusal ≡ 0 → SumKept (now (a .0)) (now (s .0)) (a .1 .0) 1 (r .rest2)
-  pub band3 : (κs : _) (a : _) (r : _) (s : _) → raise-of.Post κs a r s → r .refusal ≡ 0 → SumKept (now (a .0)) (now (s .0)) (a .1 .0) 2 (r .rest3)
+  pub band1 : (κs : _) (a : _) (r : _) (s : _) → raise-of.Post κs a r s → r .refusal ≡ 0
+      → SumKept (now (a .0)) (now (s .0)) (a .1 .0) 0 (r .rest1)
+  pub band2 : (κs : _) (a : _) (r : _) (s : _) → raise-of.Post κs a r s → r .refusal ≡ 0
+      → SumKept (now (a .0)) (now (s .0)) (a .1 .0) 1 (r .rest2)
+  pub band3 : (κs : _) (a : _) (r : _) (s : _) → raise-of.Post κs a r s → r .refusal ≡ 0
+      → SumKept (now (a .0)) (now (s .0)) (a .1 .0) 2 (r .rest3)
   -- bytes that belong to no injected reading stay, whatever the answer is
-  pub others : (κs : _) (a : _) (r : _) (s : _) → raise-of.Post κs a r s → (k : ℕ) → Elsewhere k → getD (now (s .0)) k 0 ≡ getD (now (a .0)) k 0
+  pub others : (κs : _) (a : _) (r : _) (s : _) → raise-of.Post κs a r s → (k : ℕ) → Elsewhere k
+      → getD (now (s .0)) k 0 ≡ getD (now (a .0)) k 0
   -- a refusal leaves the sheet, and so does a factor of 0
   pub refused : (κs : _) (a : _) (r : _) (s : _) → raise-of.Post κs a r s → (r .refusal ≡ 0 → ⊥) → now (s .0) ≡ now (a .0)
   pub unraised : (κs : _) (a : _) (r : _) (s : _) → raise-of.Post κs a r s → a .1 .0 ≡ 0 → Bytes (now (a .0)) → now (s .0) ≡ now (a .0)

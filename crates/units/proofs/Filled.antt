@@ -1,5 +1,5 @@
 -- An array that a loop fills from the front: what its places below n hold.
-use Prim.Native.Nat.{ℕ, _+_, _<_}
+use Prim.Native.Nat.{ℕ, _+_, _≤_, _<_}
 use mathlib.Core.Path.{_≡_, _∙_}
 use mathlib.Core.List.{List}
 use native.Mathlib.Omega.{arith}
@@ -17,3 +17,15 @@ module _ {A : Type 0} (d : A) (f : ℕ → A) where
       below-more (λ m. getD (set a n v) m d ≡ f m) n
       (λ m b. let other : m ≡ n → ⊥ = omega arith in getD-set-other a n m v d other ∙ h m b)
       (getD-set-same a n v d l ∙ e)
+
+  -- so many places, of which those below n hold what they are to hold
+  pub record Filling (places n : ℕ) (a : List A) : Type 0 where
+    pub within : n ≤ places
+    pub long : length a ≡ places
+    pub filled : Filled n a
+
+-- a slice that so many turns write into: after i of them it is what is told
+pub record Written (turns i : ℕ) (before after told : List ℕ) : Type 0 where
+  pub within : i ≤ turns
+  pub same : length after ≡ length before
+  pub written : after ≡ told

@@ -84,6 +84,12 @@ all-next n p a b = ap₂ _&&_ a b ∙ sym (all-step n p)
 pub any-next : (n : ℕ) (p : ℕ → Bool) {acc t : Bool} → acc ≡ anyBelow n p → t ≡ p n → (acc || t) ≡ anyBelow (n + 1) p
 any-next n p a b = ap₂ _||_ a b ∙ sym (any-step n p)
 
+-- a running sum of so many numbers, after i of them: it is small
+pub record Summing (f : ℕ → ℕ) (count most i sum : ℕ) : Type 0 where
+  pub within : i ≤ count
+  pub bounded : sum ≤ most
+  pub sums : sum ≡ sumBelow i f
+
 -- what holds below n and at n holds below suc n
 pub below-suc : (P : ℕ → Type 0) (n : ℕ) → ((i : ℕ) → i < n → P i) → P n → (i : ℕ) → i < suc n → P i
 below-suc P n h l i b = either (decLt i n)

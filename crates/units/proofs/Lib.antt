@@ -3,3 +3,4 @@ pub mod Bools
 pub mod Ranges
 pub mod Folds
 pub mod Filled
+pub mod Derived

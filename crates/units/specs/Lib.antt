@@ -1,3 +1,4 @@
 pub mod Units
 pub mod Limits
+pub mod Derived
 pub mod Folds

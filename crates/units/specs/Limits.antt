@@ -54,5 +54,8 @@ abbrev pub mostYears : ℕ
 mostYears = lastOpenYear - firstActivation
 
 -- "Book": "Records of 80 bytes, 2 to 800 of them"
+abbrev pub recordLength : ℕ
+recordLength = 80
+
 abbrev pub mostRecords : ℕ
 mostRecords = 800

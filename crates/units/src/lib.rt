@@ -23,10 +23,46 @@ pub struct UserNumber(pub u32);
 // The place of a record in the book.
 pub struct RecordIndex(pub u32);
 
-// The limits of a year sheet's numbers (document 01, "Year sheet").
+// THE LIMITS, in the order of specs/Limits.antt, which quotes their sentences. Those that follow from others are worked from them.
+
+// Of a year sheet's numbers.
 pub const MAX_KWH: u32 = 20_000_000;
 
 pub const MAX_PRICE: u64 = 500_000;
+
+const MAX_TIER_RATE: u64 = 2 * MAX_PRICE;
+
+// Of kWh: of a half year, and of a year.
+pub const MAX_HALF_KWH: u32 = 18 * MAX_KWH;
+
+const MAX_YEAR_KWH: u64 = 36 * (MAX_KWH as u64);
+
+// In ticks: C, O, a liquidation, an advance; F; a contribution; the advances of a half; a year's charge.
+pub const MAX_YEAR: u64 = MAX_YEAR_KWH * MAX_PRICE;
+
+pub const MAX_FLAT_RATE: u64 = MAX_YEAR_KWH * MAX_TIER_RATE;
+
+pub const MAX_CONTRIBUTION: u64 = MAX_YEAR + MAX_FLAT_RATE;
+
+pub const MAX_HALF: u64 = MAX_YEAR / 2;
+
+pub const MAX_CHARGE: u64 = 4_500_000;
+
+// Of a user's details, and of its open year.
+pub const MAX_POWER: u32 = 200_000;
+
+pub const FIRST_ACTIVATION: u16 = 2013;
+
+pub const LAST_ACTIVATION: u16 = 2099;
+
+pub const LAST_OPEN_YEAR: u16 = LAST_ACTIVATION + 1;
+
+// Of a book: the bytes of a record, and its records.
+pub const RECORD_LENGTH: usize = 80;
+
+pub const LEAST_RECORDS: usize = 2;
+
+pub const MOST_RECORDS: usize = 800;
 
 // The smaller and the larger of two energies.
 pub fn smaller(a: Kwh, b: Kwh) -> Kwh

@@ -32,14 +32,16 @@ plus-requires-4 c κs =
     let s = c .before .before .before .before in
     let x = s .args .sums in
     let h = s .pre in
-    credit-room x h (c .before .before .before .plus .result) (c .before .before .before .plus .ensures) (c .before .before .less .result) (c .before .before .less .ensures) (c .before .plus2 .result) (c .before .plus2 .ensures) (c .plus3 .result) (c .plus3 .ensures)
+    credit-room x h (c .before .before .before .plus .result) (c .before .before .before .plus .ensures) (c .before .before .less .result) (c .before .before .less .ensures) (c .before .plus2 .result)
+    (c .before .plus2 .ensures) (c .plus3 .result) (c .plus3 .ensures)
 
 returns : tie.Need-returns
 returns c =
     let s = c .before .before .before .before .before in
     let x = s .args .sums in
     let h = s .pre in
-    summed x h (c .before .before .before .before .plus .result) (c .before .before .before .before .plus .ensures) (c .before .before .before .less .result) (c .before .before .before .less .ensures) (c .before .before .plus2 .result) (c .before .before .plus2 .ensures) (c .before .plus3 .result) (c .before .plus3 .ensures) (c .plus4 .result) (c .plus4 .ensures)
+    summed x h (c .before .before .before .before .plus .result) (c .before .before .before .before .plus .ensures) (c .before .before .before .less .result) (c .before .before .before .less .ensures)
+    (c .before .before .plus2 .result) (c .before .before .plus2 .ensures) (c .before .plus3 .result) (c .before .plus3 .ensures) (c .plus4 .result) (c .plus4 .ensures)
 
 pub conserved-sum-spec : {M : Type 1} → statement M
 conserved-sum-spec =

@@ -1,4 +1,4 @@
--- By the outcome's two cases.
+-- `credit_after` is held to `creditIn`: by the outcome's two cases.
 use mathlib.Core.Path.{ap, sym}
 use Rattle.account_steps.specs.Account.{creditIn}
 use borrow.Author.Needs.{needs}

@@ -1,4 +1,4 @@
--- By the outcome's two cases.
+-- `lapsed_in` is held to `lapsedIn`: by the outcome's two cases.
 use mathlib.Core.Path.{ap, sym}
 use Rattle.account_steps.specs.Account.{lapsedIn}
 use borrow.Author.Needs.{needs}

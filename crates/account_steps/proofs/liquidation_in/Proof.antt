@@ -1,4 +1,4 @@
--- By the outcome's two cases.
+-- `liquidation_in` is held to `liquidationIn`: by the outcome's two cases.
 use mathlib.Core.Path.{ap, sym}
 use Rattle.account_steps.specs.Account.{liquidationIn}
 use borrow.Author.Needs.{needs}

@@ -34,7 +34,8 @@ returns c =
     let a = c .before .before .before .before .before .before .args in
     let first = ap (λ (t : Ticks). t .0) (c .before .before .before .before .withheld-from .ensures) in
     let second = ap (λ (t : Ticks). t .0) (c .before .before .withheld-from2 .ensures) in
-    ap ticks (closing-parts (a .rest .0) (a .contribution .0) (a .advances .0) (a .liquidation .0) (c .before .before .before .before .before .excess .ensures) first (c .before .before .before .excess2 .ensures) second)
+    ap ticks (closing-parts (a .rest .0) (a .contribution .0) (a .advances .0) (a .liquidation .0) (c .before .before .before .before .before .excess .ensures) first
+    (c .before .before .before .excess2 .ensures) second)
 
 pub withheld-at-closing-spec : {M : Type 1} → statement M
 withheld-at-closing-spec =

@@ -13,7 +13,8 @@ paid-balance-requires : tie.Need-paid-balance-requires
 paid-balance-requires c κs = search needs
 
 add-t7 : tie.Need-add-t7
-add-t7 c = omega (arith, c .before .before .before .before .before .pre, c .before .before .paid-balance .ensures, balance-most (c .before .before .before .before .before .args .closing .sums .balance .0))
+add-t7 c =
+    omega (arith, c .before .before .before .before .before .pre, c .before .before .paid-balance .ensures, balance-most (c .before .before .before .before .before .args .closing .sums .balance .0))
 
 excess-requires : tie.Need-excess-requires
 excess-requires c κs = search needs

@@ -47,7 +47,8 @@ returns c =
     let paid = c .before .before .before .before .before .before .before .before .before .payments-of in
     let yearly = c .before .before .before .charge-of in
     let ofOpen = c .before .before .charge-of-open in
-    charges-are (now (a .book)) (a .user .0) (s .pre .0) (s .pre .1 .0) (s .pre .1 .1) (account .result) (account .ensures) (paid .result) (paid .ensures) (yearly .result) (ofOpen .result) (yearly .ensures .0) (ofOpen .ensures) (c .charge-of-each .result) (c .charge-of-each .ensures)
+    charges-are (now (a .book)) (a .user .0) (s .pre .0) (s .pre .1 .0) (s .pre .1 .1) (account .result) (account .ensures) (paid .result) (paid .ensures) (yearly .result) (ofOpen .result)
+    (yearly .ensures .0) (ofOpen .ensures) (c .charge-of-each .result) (c .charge-of-each .ensures)
 
 pub charges-of-spec : {M : Type 1} → statement M
 charges-of-spec =

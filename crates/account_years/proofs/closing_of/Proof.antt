@@ -46,7 +46,8 @@ loop-again c =
     let a = c .before .before .before .before .before .before .before .before .args in
     let l = c .before .before .before .before .before .loop in
     subst (λ k. Seeking (now (a .book)) (a .year) (c .before .before .before .before .before .before .first-entry-of .result .0) (k .0)) (sym (c .next-of .ensures))
-    (seek-on (now (a .book)) (a .year) (c .before .before .before .before .before .before .first-entry-of .result .0) (l .at .0) (l .inv) (c .before .before .before .if1 .taken) (sym (c .before .before .is-closing-of .ensures) ∙ c .before .if2 .left))
+    (seek-on (now (a .book)) (a .year) (c .before .before .before .before .before .before .first-entry-of .result .0) (l .at .0) (l .inv) (c .before .before .before .if1 .taken)
+    (sym (c .before .before .is-closing-of .ensures) ∙ c .before .if2 .left))
 
 returns-2 : tie.Need-returns-2 Inv-loop μ-loop
 returns-2 c =

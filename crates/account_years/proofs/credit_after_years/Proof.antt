@@ -42,8 +42,11 @@ loop-less c = search needs
 loop-again : tie.Need-loop-again Inv-loop μ-loop
 loop-again c =
     let a = c .before .before .before .before .before .args in
-    let l = c .before .before .before .loop in
-    (search needs, credit-on (now (a .book)) (a .user .0) (l .n) (l .credit .0) (l .inv .1) (c .before .closing-after .result) (c .before .closing-after .ensures) (c .next-credit .result .0) (c .next-credit .ensures))
+    let l = c .before .before .before .loop in (
+      search needs,
+      credit-on (now (a .book)) (a .user .0) (l .n) (l .credit .0) (l .inv .1) (c .before .closing-after .result) (c .before .closing-after .ensures) (c .next-credit .result .0)
+          (c .next-credit .ensures),
+    )
 
 returns : tie.Need-returns Inv-loop μ-loop
 returns c =

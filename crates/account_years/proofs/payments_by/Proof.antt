@@ -24,7 +24,8 @@ returns c =
     let bytes = c .before .before .before .before .before .before .«record» in
     let advance = c .before .before .before .before .before .advance-of in
     let is = c .before .before .before .before .is-advance in
-    its-advance (now (a .book)) (a .first) (a .last) (a .entry .0) (now (bytes .result)) (bytes .ensures) (advance .result) (advance .ensures) (is .result) (is .ensures) (c .before .if1 .taken) (c .by-advance .result) (c .by-advance .ensures)
+    its-advance (now (a .book)) (a .first) (a .last) (a .entry .0) (now (bytes .result)) (bytes .ensures) (advance .result) (advance .ensures) (is .result) (is .ensures) (c .before .if1 .taken)
+    (c .by-advance .result) (c .by-advance .ensures)
 
 closing-of-requires : tie.Need-closing-of-requires
 closing-of-requires c κs = search needs
@@ -40,7 +41,10 @@ by-closing-requires c κs =
     let is = c .before .before .before .before .before .before .before .before .is-advance in
     let closing = c .before .before .before .before .closing-of in
     let ends = c .before .before .before .is-closing in
-    closing-in-range (now (a .book)) (a .first) (a .last) (a .entry .0) (now (bytes .result)) (bytes .ensures) (advance .result) (advance .ensures) (is .result) (is .ensures) (c .before .before .before .before .before .if1 .left) (closing .result) (closing .ensures) (ends .result) (ends .ensures) (sound-faultless (now (a .book)) (c .before .before .before .before .before .before .before .before .before .before .before .before .pre .0) (c .before .before .before .before .before .before .before .before .before .before .before .before .pre .1)) (c .if2 .taken)
+    closing-in-range (now (a .book)) (a .first) (a .last) (a .entry .0) (now (bytes .result)) (bytes .ensures) (advance .result) (advance .ensures) (is .result) (is .ensures)
+    (c .before .before .before .before .before .if1 .left) (closing .result) (closing .ensures) (ends .result) (ends .ensures)
+    (sound-faultless (now (a .book)) (c .before .before .before .before .before .before .before .before .before .before .before .before .pre .0)
+    (c .before .before .before .before .before .before .before .before .before .before .before .before .pre .1)) (c .if2 .taken)
 
 returns-2 : tie.Need-returns-2
 returns-2 c =
@@ -50,7 +54,9 @@ returns-2 c =
     let is = c .before .before .before .before .before .before .before .before .before .is-advance in
     let closing = c .before .before .before .before .before .closing-of in
     let ends = c .before .before .before .before .is-closing in
-    its-closing (now (a .book)) (a .first) (a .last) (a .entry .0) (now (bytes .result)) (bytes .ensures) (advance .result) (advance .ensures) (is .result) (is .ensures) (c .before .before .before .before .before .before .if1 .left) (closing .result) (closing .ensures) (ends .result) (ends .ensures) (c .before .if2 .taken) (c .by-closing .result) (c .by-closing .ensures)
+    its-closing (now (a .book)) (a .first) (a .last) (a .entry .0) (now (bytes .result)) (bytes .ensures) (advance .result) (advance .ensures) (is .result) (is .ensures)
+    (c .before .before .before .before .before .before .if1 .left) (closing .result) (closing .ensures) (ends .result) (ends .ensures) (c .before .if2 .taken) (c .by-closing .result)
+    (c .by-closing .ensures)
 
 returns-3 : tie.Need-returns-3
 returns-3 c =
@@ -60,7 +66,8 @@ returns-3 c =
     let is = c .before .before .before .before .before .before .before .before .is-advance in
     let closing = c .before .before .before .before .closing-of in
     let ends = c .before .before .before .is-closing in
-    neither (now (a .book)) (a .first) (a .last) (a .entry .0) (now (bytes .result)) (bytes .ensures) (advance .result) (advance .ensures) (is .result) (is .ensures) (c .before .before .before .before .before .if1 .left) (closing .result) (closing .ensures) (ends .result) (ends .ensures) (c .if2 .left)
+    neither (now (a .book)) (a .first) (a .last) (a .entry .0) (now (bytes .result)) (bytes .ensures) (advance .result) (advance .ensures) (is .result) (is .ensures)
+    (c .before .before .before .before .before .if1 .left) (closing .result) (closing .ensures) (ends .result) (ends .ensures) (c .if2 .left)
 
 pub payments-by-spec : {M : Type 1} → statement M
 payments-by-spec =

@@ -30,21 +30,30 @@ add-t11 c =
     let a = c .before .before .before .before .before .before .before .before .args in
     let l = c .before .before .before .before .before .loop in
     let part = c .before .before .payments-by in
-    record { fits = pay-room (now (a .book)) (a .first) (a .last) (c .before .before .before .before .before .before .first-entry-of .result .0) (l .advances .0) (l .withheld .0) (l .paid .0) (l .at .0) (l .inv) (c .before .before .before .if1 .taken) (part .result) (part .ensures) .advances }
+    record {
+      fits = pay-room (now (a .book)) (a .first) (a .last) (c .before .before .before .before .before .before .first-entry-of .result .0) (l .advances .0) (l .withheld .0) (l .paid .0)
+          (l .at .0) (l .inv) (c .before .before .before .if1 .taken) (part .result) (part .ensures) .advances;
+    }
 
 add-t11-2 : tie.Need-add-t11-2 Inv-loop μ-loop
 add-t11-2 c =
     let a = c .before .before .before .before .before .before .before .before .before .before .args in
     let l = c .before .before .before .before .before .before .before .loop in
     let part = c .before .before .before .before .payments-by in
-    record { fits = pay-room (now (a .book)) (a .first) (a .last) (c .before .before .before .before .before .before .before .before .first-entry-of .result .0) (l .advances .0) (l .withheld .0) (l .paid .0) (l .at .0) (l .inv) (c .before .before .before .before .before .if1 .taken) (part .result) (part .ensures) .withheld }
+    record {
+      fits = pay-room (now (a .book)) (a .first) (a .last) (c .before .before .before .before .before .before .before .before .first-entry-of .result .0) (l .advances .0) (l .withheld .0)
+          (l .paid .0) (l .at .0) (l .inv) (c .before .before .before .before .before .if1 .taken) (part .result) (part .ensures) .withheld;
+    }
 
 add-t11-3 : tie.Need-add-t11-3 Inv-loop μ-loop
 add-t11-3 c =
     let a = c .before .before .before .before .before .before .before .before .before .before .before .before .args in
     let l = c .before .before .before .before .before .before .before .before .before .loop in
     let part = c .before .before .before .before .before .before .payments-by in
-    record { fits = pay-room (now (a .book)) (a .first) (a .last) (c .before .before .before .before .before .before .before .before .before .before .first-entry-of .result .0) (l .advances .0) (l .withheld .0) (l .paid .0) (l .at .0) (l .inv) (c .before .before .before .before .before .before .before .if1 .taken) (part .result) (part .ensures) .paid }
+    record {
+      fits = pay-room (now (a .book)) (a .first) (a .last) (c .before .before .before .before .before .before .before .before .before .before .first-entry-of .result .0) (l .advances .0)
+          (l .withheld .0) (l .paid .0) (l .at .0) (l .inv) (c .before .before .before .before .before .before .before .if1 .taken) (part .result) (part .ensures) .paid;
+    }
 
 next-of-requires : tie.Need-next-of-requires Inv-loop μ-loop
 next-of-requires c κs = search needs
@@ -52,14 +61,16 @@ next-of-requires c κs = search needs
 loop-less : tie.Need-loop-less Inv-loop μ-loop
 loop-less c =
     let l = c .before .before .before .before .before .before .before .before .before .before .loop in
-    subst (λ k. k .0 < l .at .0) (sym (c .next-of .ensures)) (next-falls (now (c .before .before .before .before .before .before .before .before .before .before .before .before .before .args .book)) (l .at .0) (l .inv .ahead) (c .before .before .before .before .before .before .before .before .if1 .taken))
+    subst (λ k. k .0 < l .at .0) (sym (c .next-of .ensures)) (next-falls (now (c .before .before .before .before .before .before .before .before .before .before .before .before .before .args .book))
+    (l .at .0) (l .inv .ahead) (c .before .before .before .before .before .before .before .before .if1 .taken))
 
 loop-again : tie.Need-loop-again Inv-loop μ-loop
 loop-again c =
     let a = c .before .before .before .before .before .before .before .before .before .before .before .before .before .args in
     let l = c .before .before .before .before .before .before .before .before .before .before .loop in
     let part = c .before .before .before .before .before .before .before .payments-by in
-    pay-on (now (a .book)) (a .first) (a .last) (c .before .before .before .before .before .before .before .before .before .before .before .first-entry-of .result .0) (l .advances .0) (l .withheld .0) (l .paid .0) (l .at .0) (l .inv) (c .before .before .before .before .before .before .before .before .if1 .taken) (part .result) (part .ensures) (c .next-of .result) (c .next-of .ensures)
+    pay-on (now (a .book)) (a .first) (a .last) (c .before .before .before .before .before .before .before .before .before .before .before .first-entry-of .result .0) (l .advances .0) (l .withheld .0)
+    (l .paid .0) (l .at .0) (l .inv) (c .before .before .before .before .before .before .before .before .if1 .taken) (part .result) (part .ensures) (c .next-of .result) (c .next-of .ensures)
 
 returns : tie.Need-returns Inv-loop μ-loop
 returns c =

@@ -1,4 +1,4 @@
--- Field by field.
+-- `year_of` is held to `yearOf`: field by field.
 use Prim.Native.Nat.{_+_}
 use mathlib.Core.Path.{ap}
 use native.Mathlib.Omega.{arith}
@@ -50,7 +50,10 @@ returns c =
     let bytes = c .before .before .before .before .before .before .before .before .before .before .before .«record» in
     let closing = c .before .before .before .before .before .before .before .before .before .before .closing-of in
     let year = ap (λ y. y + a .n) (c .before .before .before .before .before .before .before .before .before .before .before .before .before .activation-of .ensures) in
-    year-is b (a .user .0) (a .n) (c .before .before .before .before .before .before .before .before .before .before .before .before .before .activation-of .result + a .n) year (entry .result) (entry .ensures) (now (bytes .result)) (bytes .ensures) (closing .result) (closing .ensures) (c .before .before .before .before .before .before .before .before .before .payments-of .result) (c .before .before .before .before .before .before .before .before .credit-after-years .result) (c .before .before .before .before .before .before .before .before .before .payments-of .ensures) (c .before .before .before .before .before .before .before .before .credit-after-years .ensures)
+    year-is b (a .user .0) (a .n) (c .before .before .before .before .before .before .before .before .before .before .before .before .before .activation-of .result + a .n) year (entry .result)
+    (entry .ensures) (now (bytes .result)) (bytes .ensures) (closing .result) (closing .ensures) (c .before .before .before .before .before .before .before .before .before .payments-of .result)
+    (c .before .before .before .before .before .before .before .before .credit-after-years .result) (c .before .before .before .before .before .before .before .before .before .payments-of .ensures)
+    (c .before .before .before .before .before .before .before .before .credit-after-years .ensures)
 
 pub year-of-spec : {M : Type 1} → statement M
 year-of-spec =

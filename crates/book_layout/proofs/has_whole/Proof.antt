@@ -3,9 +3,9 @@ use mathlib.Core.Path.{ap}
 use denote.Ref.{now}
 use lib.Dec.{leb}
 use lib.ListN.{length}
-use Rattle.book_layout.specs.Fields.{recordLength}
 use Prim.Native.Nat.{ℕ, _+_}
 use borrow.Author.Needs.{needs}
+use Rattle.units.specs.Limits.{recordLength}
 use Rattle.book_layout.proofs.has_whole.Statement.{statement}
 use Rattle.book_layout.proofs.has_whole.Tie as tie
 

@@ -4,8 +4,9 @@ use mathlib.Core.Path.{ap, ap₂, _∙_}
 use mathlib.Core.List.{List}
 use denote.Ref.{now}
 use lib.ListN.{take, drop}
+use Rattle.units.specs.Limits.{recordLength}
 use Rattle.codec.specs.Bytes.{part}
-use Rattle.book_layout.specs.Fields.{recordLength, recordAt}
+use Rattle.book_layout.specs.Fields.{recordAt}
 use Rattle.book_layout.proofs.Places.{part-clipped}
 use borrow.Author.Needs.{needs}
 use Rattle.book_layout.proofs.record.Statement.{statement}

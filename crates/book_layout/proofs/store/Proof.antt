@@ -7,8 +7,9 @@ use native.Mathlib.Omega.{arith}
 use denote.Ref.{now}
 use lib.ListN.{length, drop, take, set, getD}
 use lib.Seq.{paste, paste-zero, paste-suc, length-paste, take-all}
+use Rattle.units.specs.Limits.{recordLength}
 use Rattle.codec.specs.Bytes.{stored}
-use Rattle.book_layout.specs.Fields.{recordLength, putRecord}
+use Rattle.book_layout.specs.Fields.{putRecord}
 use borrow.Author.Needs.{needs}
 use Rattle.book_layout.proofs.store.Statement.{statement}
 use Rattle.book_layout.proofs.store.Tie as tie

@@ -2,8 +2,8 @@
 use native.Mathlib.Omega.{arith}
 use denote.Ref.{now}
 use lib.Seq.{take-all}
-use Rattle.book_layout.specs.Fields.{recordLength}
 use borrow.Author.Needs.{needs}
+use Rattle.units.specs.Limits.{recordLength}
 use Rattle.book_layout.proofs.whole.Statement.{statement}
 use Rattle.book_layout.proofs.whole.Tie as tie
 

@@ -4,8 +4,9 @@ use mathlib.Core.Path.{_≡_, ap}
 use native.Mathlib.Omega.{arith}
 use denote.Ref.{now}
 use lib.ListN.{take, drop}
+use Rattle.units.specs.Limits.{recordLength}
 use Rattle.codec.specs.Bytes.{part}
-use Rattle.book_layout.specs.Fields.{recordLength, recordAt}
+use Rattle.book_layout.specs.Fields.{recordAt}
 use borrow.Author.Needs.{needs}
 use Rattle.book_layout.proofs.whole_record.Statement.{statement}
 use Rattle.book_layout.proofs.whole_record.Tie as tie

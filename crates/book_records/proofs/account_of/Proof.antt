@@ -1,4 +1,4 @@
--- Field by field. Each name stands for the place after its field is read.
+-- `account_of` is held to `accountIn`: field by field. Each name stands for the place after its field is read.
 use Rattle.units.specs.Units.{kwh, ticks}
 use Rattle.book_layout.specs.Fields.{get}
 use Rattle.book_records.specs.Records.{accountIn}

@@ -1,4 +1,4 @@
--- Field by field. Each name stands for the place after its field is read.
+-- `advance_of` is held to `advanceIn`: field by field. Each name stands for the place after its field is read.
 use Rattle.book_layout.specs.Fields.{get}
 use Rattle.book_records.specs.Records.{advanceIn}
 use borrow.Author.Needs.{needs}

@@ -1,4 +1,4 @@
--- Field by field.
+-- `charge_of` is held to `accountIn`: field by field.
 use Rattle.units.specs.Units.{ticks}
 use Rattle.book_layout.specs.Fields.{get}
 use Rattle.book_records.specs.Records.{accountIn}

@@ -1,4 +1,4 @@
--- The part is the record.
+-- `read_account` is held to `accountIn`: the part is the record.
 use mathlib.Core.Path.{ap, _∙_}
 use Rattle.book_records.specs.Records.{accountIn}
 use borrow.Author.Needs.{needs}

@@ -1,4 +1,4 @@
--- The part is the record.
+-- `read_advance` is held to `advanceIn`: the part is the record.
 use mathlib.Core.Path.{ap, _∙_}
 use Rattle.book_records.specs.Records.{advanceIn}
 use borrow.Author.Needs.{needs}

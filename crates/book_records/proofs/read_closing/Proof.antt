@@ -1,4 +1,4 @@
--- The part is the record.
+-- `read_closing` is held to `closingIn`: the part is the record.
 use mathlib.Core.Path.{ap, _∙_}
 use Rattle.book_records.specs.Records.{closingIn}
 use borrow.Author.Needs.{needs}

@@ -1,4 +1,4 @@
--- The cells are written in their order. Each name stands for the place after its field is written.
+-- `user_image` is held to `userImage`: the cells are written in their order. Each name stands for the place after its field is written.
 use Rattle.book_layout.specs.Fields.{written}
 use Rattle.book_records.specs.Records.{userImage}
 use borrow.Author.Needs.{needs}

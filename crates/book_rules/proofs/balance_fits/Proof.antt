@@ -1,4 +1,4 @@
--- The rule, test by test.
+-- `balance_fits` is held to `balanceFits`: the rule, test by test.
 use Rattle.book_rules.specs.Book.{balanceFits}
 use mathlib.Core.Path.{refl}
 use Rattle.book_rules.proofs.balance_fits.Statement.{statement}

@@ -1,4 +1,4 @@
--- The rule, test by test.
+-- `booked_fits` is held to `bookedFits`: the rule, test by test.
 use mathlib.Core.Path.{refl}
 use Rattle.book_rules.specs.Book.{bookedFits}
 use borrow.Author.Needs.{needs}

@@ -1,4 +1,4 @@
--- The rule, test by test.
+-- `charge_fits` is held to `chargeFits`: the rule, test by test.
 use Prim.Native.Nat.{ℕ, _+_, _*_}
 use mathlib.Core.Path.{ap}
 use mathlib.Core.Bool.{_&&_}

@@ -1,4 +1,4 @@
--- The rule, test by test.
+-- `closing_fits` is held to `closingFits`: the rule, test by test.
 use Rattle.book_rules.specs.Book.{yearFits, closingFits}
 use borrow.Author.Needs.{needs}
 use Rattle.book_rules.proofs.closing_fits.Statement.{statement}

@@ -1,4 +1,4 @@
--- The rule, test by test.
+-- `credit_fits` is held to `creditFits`: the rule, test by test.
 use Rattle.book_rules.specs.Book.{creditFits}
 use borrow.Author.Needs.{needs}
 use Rattle.book_rules.proofs.credit_fits.Statement.{statement}

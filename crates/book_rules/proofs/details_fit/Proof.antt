@@ -1,4 +1,4 @@
--- The rule, test by test.
+-- `details_fit` is held to `detailsFit`: the rule, test by test.
 use Rattle.book_rules.specs.Book.{detailsFit}
 use mathlib.Core.Path.{refl}
 use Rattle.book_rules.proofs.details_fit.Statement.{statement}

@@ -1,4 +1,4 @@
--- The rule, test by test.
+-- `due_if_made` is held to `dueIfMade`: the rule, test by test.
 use Rattle.book_rules.specs.Book.{dueIfMade}
 use borrow.Author.Needs.{needs}
 use Rattle.book_rules.proofs.due_if_made.Statement.{statement}

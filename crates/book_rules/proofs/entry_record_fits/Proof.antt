@@ -70,7 +70,8 @@ returns c =
     let w = k .before .before .before in
     let a = w .before .before .before .args in
     let o = now (a .owner) in
-    let ranges = by-years advanceFits o (k .before .before .activation-year-of .ensures) (k .before .open-year-of .ensures) (c .before .before .read-advance .ensures) (c .before .advance-fits .ensures) in
+    let ranges = by-years advanceFits o (k .before .before .activation-year-of .ensures) (k .before .open-year-of .ensures) (c .before .before .read-advance .ensures)
+    (c .before .advance-fits .ensures) in
     let rest = c .advance-rest-zero .ensures in
     subst (λ (r : List ℕ). (c .before .advance-fits .result && c .advance-rest-zero .result) ≡ own o r) (w .whole .ensures)
     (rw (ranges, rest) (of-advance o (now (w .whole .result)) (k .kind-of .ensures) (c .before .before .before .match .keys1)))
@@ -81,7 +82,8 @@ returns-2 c =
     let w = k .before .before .before in
     let a = w .before .before .before .args in
     let o = now (a .owner) in
-    let ranges = by-years closingFits o (k .before .before .activation-year-of .ensures) (k .before .open-year-of .ensures) (c .before .before .read-closing .ensures) (c .before .closing-fits .ensures) in
+    let ranges = by-years closingFits o (k .before .before .activation-year-of .ensures) (k .before .open-year-of .ensures) (c .before .before .read-closing .ensures)
+    (c .before .closing-fits .ensures) in
     let rest = c .closing-rest-zero .ensures in
     subst (λ (r : List ℕ). (c .before .closing-fits .result && c .closing-rest-zero .result) ≡ own o r) (w .whole .ensures)
     (rw (ranges, rest) (of-closing o (now (w .whole .result)) (k .kind-of .ensures) (c .before .before .before .match .keys2)))

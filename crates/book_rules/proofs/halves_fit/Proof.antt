@@ -1,4 +1,4 @@
--- The rule, test by test.
+-- `halves_fit` is held to `halvesFit`: the rule, test by test.
 use Rattle.book_rules.specs.Book.{halvesFit}
 use mathlib.Core.Path.{refl}
 use Rattle.book_rules.proofs.halves_fit.Statement.{statement}

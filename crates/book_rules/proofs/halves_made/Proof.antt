@@ -1,4 +1,4 @@
--- By whether the run is booked.
+-- `halves_made` is held to `halvesMade`: by whether the run is booked.
 use mathlib.Core.Path.{_∙_, ap, sym}
 use Rattle.calendar.specs.ElectionAndAdvances.{halvesCount}
 use Rattle.calendar.proofs.Amounts.{halves-at-most}

@@ -1,4 +1,4 @@
--- The rule, test by test.
+-- `halves_of` is held to `halvesOf`: the rule, test by test.
 use Rattle.book_rules.specs.Book.{halvesOf}
 use borrow.Author.Needs.{needs}
 use Rattle.book_rules.proofs.halves_of.Statement.{statement}

@@ -1,4 +1,4 @@
--- The rule, test by test.
+-- `is_made` is held to `isMade`: the rule, test by test.
 use Rattle.book_rules.specs.Book.{isMade}
 use mathlib.Core.Path.{refl}
 use borrow.Author.Needs.{needs}

@@ -1,4 +1,4 @@
--- The rule, test by test.
+-- `is_run` is held to `isRun`: the rule, test by test.
 use Rattle.book_rules.specs.Book.{isRun}
 use mathlib.Core.Path.{refl}
 use Rattle.book_rules.proofs.is_run.Statement.{statement}

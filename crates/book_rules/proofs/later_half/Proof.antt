@@ -1,4 +1,4 @@
--- By whether the run is booked.
+-- `later_half` is held to `laterHalf`: by whether the run is booked.
 use mathlib.Core.Path.{_∙_, sym}
 use Rattle.book_rules.specs.Book.{laterHalf}
 use borrow.Author.Needs.{needs}

@@ -1,4 +1,4 @@
--- The rule, test by test.
+-- `length_fits` is held to `lengthFits`: the rule, test by test.
 use Rattle.book_rules.specs.Book.{lengthFits}
 use mathlib.Core.Path.{refl}
 use Rattle.book_rules.proofs.length_fits.Statement.{statement}

@@ -1,4 +1,4 @@
--- The rule, test by test.
+-- `open_year_fits` is held to `openYearFits`: the rule, test by test.
 use Rattle.book_rules.specs.Book.{openYearFits}
 use mathlib.Core.Path.{refl}
 use Rattle.book_rules.proofs.open_year_fits.Statement.{statement}

@@ -1,4 +1,4 @@
--- The rule, test by test.
+-- `runs_fit` is held to `runsFit`: the rule, test by test.
 use Rattle.book_rules.specs.Book.{runsFit}
 use borrow.Author.Needs.{needs}
 use Rattle.book_rules.proofs.runs_fit.Statement.{statement}

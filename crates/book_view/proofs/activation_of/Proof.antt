@@ -1,4 +1,4 @@
--- The field of the record.
+-- `activation_of` is held to `activationOf`: the field of the record.
 use Rattle.book_rules.specs.Book.{activationOf}
 use borrow.Author.Needs.{needs}
 use Rattle.book_view.proofs.activation_of.Statement.{statement}

@@ -1,4 +1,4 @@
--- The field of the record.
+-- `first_entry_of` is held to `firstEntryOf`: the field of the record.
 use Rattle.book_rules.specs.Book.{firstEntryOf}
 use borrow.Author.Needs.{needs}
 use Rattle.book_view.proofs.first_entry_of.Statement.{statement}

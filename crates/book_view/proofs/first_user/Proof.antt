@@ -1,4 +1,4 @@
--- The field of the record.
+-- `first_user` is held to `firstUser`: the field of the record.
 use Rattle.book_rules.specs.Book.{firstUser}
 use borrow.Author.Needs.{needs}
 use Rattle.book_view.proofs.first_user.Statement.{statement}

@@ -1,4 +1,4 @@
--- The rule, test by test.
+-- `has_kind` is held to `hasKind`: the rule, test by test.
 use Rattle.book_rules.specs.Book.{hasKind}
 use borrow.Author.Needs.{needs}
 use Rattle.book_view.proofs.has_kind.Statement.{statement}

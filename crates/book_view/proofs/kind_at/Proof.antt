@@ -1,4 +1,4 @@
--- The field of the record.
+-- `kind_at` is held to `kindAt`: the field of the record.
 use Rattle.book_rules.specs.Book.{kindAt}
 use borrow.Author.Needs.{needs}
 use Rattle.book_view.proofs.kind_at.Statement.{statement}

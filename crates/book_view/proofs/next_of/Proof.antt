@@ -1,4 +1,4 @@
--- The field of the record.
+-- `next_of` is held to `nextOf`: the field of the record.
 use Rattle.book_rules.specs.Book.{nextOf}
 use borrow.Author.Needs.{needs}
 use Rattle.book_view.proofs.next_of.Statement.{statement}

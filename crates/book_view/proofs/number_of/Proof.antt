@@ -1,4 +1,4 @@
--- The field of the record.
+-- `number_of` is held to `numberOf`: the field of the record.
 use Rattle.book_rules.specs.Book.{numberOf}
 use borrow.Author.Needs.{needs}
 use Rattle.book_view.proofs.number_of.Statement.{statement}

@@ -1,4 +1,4 @@
--- The field of the record.
+-- `open_year_of` is held to `openYearOf`: the field of the record.
 use Rattle.book_rules.specs.Book.{openYearOf}
 use borrow.Author.Needs.{needs}
 use Rattle.book_view.proofs.open_year_of.Statement.{statement}

@@ -1,4 +1,4 @@
--- The field of the record.
+-- `owner_of` is held to `ownerOf`: the field of the record.
 use Rattle.book_rules.specs.Book.{ownerOf}
 use borrow.Author.Needs.{needs}
 use Rattle.book_view.proofs.owner_of.Statement.{statement}

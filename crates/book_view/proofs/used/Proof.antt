@@ -1,4 +1,4 @@
--- The field of the record.
+-- `used` is held to `usedIn`: the field of the record.
 use Rattle.book_rules.specs.Book.{used}
 use borrow.Author.Needs.{needs}
 use Rattle.book_view.proofs.used.Statement.{statement}

@@ -1,4 +1,4 @@
--- The rule, test by test.
+-- `used_fits` is held to `usedFits`: the rule, test by test.
 use Rattle.book_rules.specs.Book.{usedFits}
 use borrow.Author.Needs.{needs}
 use Rattle.book_view.proofs.used_fits.Statement.{statement}

@@ -1,4 +1,4 @@
--- The code's tests are the definition's.
+-- `is_day` is held to `isDay`: the code's tests are the definition's.
 use borrow.Author.Needs.{needs}
 use Rattle.calendar.specs.ElectionAndAdvances.{isDay}
 use Rattle.calendar.proofs.is_day.Statement.{statement}

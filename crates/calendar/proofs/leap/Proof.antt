@@ -1,4 +1,4 @@
--- The code's tests are the definition's.
+-- `leap` is held to `leap`: the code's tests are the definition's.
 use mathlib.Core.Path.{refl}
 use Rattle.calendar.specs.ElectionAndAdvances.{leap}
 use Rattle.calendar.proofs.leap.Statement.{statement}

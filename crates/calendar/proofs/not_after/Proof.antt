@@ -1,4 +1,4 @@
--- The code's tests are the definition's.
+-- `not_after` is held to `notAfter`: the code's tests are the definition's.
 use mathlib.Core.Path.{refl}
 use Rattle.calendar.specs.ElectionAndAdvances.{notAfter}
 use Rattle.calendar.proofs.not_after.Statement.{statement}

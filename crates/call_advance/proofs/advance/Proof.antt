@@ -19,7 +19,8 @@ returns : tie.Need-returns
 returns c =
     let a = c .before .before .before .before .before .before .args in
     let some = c .if1 .taken in
-    leaves (now (a .book)) (a .number .0) (a .year) (a .run) (a .price .0) (a .estimate1 .0) (a .estimate2 .0) (c .before .before .before .look .result .reply) some (damaged (now (a .book)) (calls.advance (a .number .0) (a .year) (a .run) (a .price .0) (a .estimate1 .0) (a .estimate2 .0)) 0 (c .before .before .before .look .ensures) some)
+    leaves (now (a .book)) (a .number .0) (a .year) (a .run) (a .price .0) (a .estimate1 .0) (a .estimate2 .0) (c .before .before .before .look .result .reply) some
+    (damaged (now (a .book)) (calls.advance (a .number .0) (a .year) (a .run) (a .price .0) (a .estimate1 .0) (a .estimate2 .0)) 0 (c .before .before .before .look .ensures) some)
 
 refused-requires : tie.Need-refused-requires
 refused-requires c κs = search needs
@@ -33,7 +34,9 @@ returns-2 c =
     let looked = c .before .before .before .before .before .before .before .look .ensures in
     let none = c .before .before .before .before .if1 .left in
     let reply = c .refused in
-    leaves (now (a .book)) (a .number .0) (a .year) (a .run) (a .price .0) (a .estimate1 .0) (a .estimate2 .0) (reply .result) (refuses 6 (reply .result) (reply .ensures) (omega arith)) (advance-absent (now (a .book)) (a .number .0) (a .year) (a .run) (a .price .0) (a .estimate1 .0) (a .estimate2 .0) (looked .is-sound none) _ (looked .found none) (c .before .if2 .taken) (reply .result) (reply .ensures))
+    leaves (now (a .book)) (a .number .0) (a .year) (a .run) (a .price .0) (a .estimate1 .0) (a .estimate2 .0) (reply .result) (refuses 6 (reply .result) (reply .ensures) (omega arith))
+    (advance-absent (now (a .book)) (a .number .0) (a .year) (a .run) (a .price .0) (a .estimate1 .0) (a .estimate2 .0) (looked .is-sound none) _ (looked .found none) (c .before .if2 .taken)
+    (reply .result) (reply .ensures))
 
 account-at-requires : tie.Need-account-at-requires
 account-at-requires c κs =
@@ -63,7 +66,11 @@ returns-3 c =
     let left = c .before .before .before .has-room in
     let judged = c .before .before .advance-objection in
     let reply = c .refused2 in
-    leaves (now (a .book)) (a .number .0) (a .year) (a .run) (a .price .0) (a .estimate1 .0) (a .estimate2 .0) (reply .result) (refuses (judged .result) (reply .result) (reply .ensures) (c .before .if3 .taken)) (advance-refused (now (a .book)) (a .number .0) (a .year) (a .run) (a .price .0) (a .estimate1 .0) (a .estimate2 .0) (looked .is-sound none) _ (looked .found none) (c .before .before .before .before .before .before .before .if2 .left) (read .result) (read .ensures) (left .result) (left .ensures) (judged .result) (judged .ensures) (c .before .if3 .taken) (reply .result) (reply .ensures))
+    leaves (now (a .book)) (a .number .0) (a .year) (a .run) (a .price .0) (a .estimate1 .0) (a .estimate2 .0) (reply .result)
+    (refuses (judged .result) (reply .result) (reply .ensures) (c .before .if3 .taken))
+    (advance-refused (now (a .book)) (a .number .0) (a .year) (a .run) (a .price .0) (a .estimate1 .0) (a .estimate2 .0) (looked .is-sound none) _ (looked .found none)
+    (c .before .before .before .before .before .before .before .if2 .left) (read .result) (read .ensures) (left .result) (left .ensures) (judged .result) (judged .ensures) (c .before .if3 .taken)
+    (reply .result) (reply .ensures))
 
 run-amount-requires : tie.Need-run-amount-requires
 run-amount-requires c κs =
@@ -72,8 +79,13 @@ run-amount-requires c κs =
     let none = c .before .before .before .before .before .before .before .before .before .if1 .left in
     let read = c .before .before .before .before .account-at in
     let left = c .before .before .has-room in
-    let judged = c .before .advance-objection in
-    (halves-fit (now (a .book)) (a .number .0) (a .year) (a .run) (a .price .0) (a .estimate1 .0) (a .estimate2 .0) (looked .is-sound none) _ (looked .found none) (c .before .before .before .before .before .before .if2 .left) (read .result) (read .ensures) (left .result) (left .ensures) (judged .result) (judged .ensures) (c .if3 .left), order-fits (now (a .book)) (a .number .0) (a .year) (a .run) (a .price .0) (a .estimate1 .0) (a .estimate2 .0) (looked .is-sound none) _ (looked .found none) (c .before .before .before .before .before .before .if2 .left) (read .result) (read .ensures) (left .result) (left .ensures) (judged .result) (judged .ensures) (c .if3 .left))
+    let judged = c .before .advance-objection in (
+      halves-fit (now (a .book)) (a .number .0) (a .year) (a .run) (a .price .0) (a .estimate1 .0) (a .estimate2 .0) (looked .is-sound none) _ (looked .found none)
+          (c .before .before .before .before .before .before .if2 .left) (read .result) (read .ensures) (left .result) (left .ensures) (judged .result) (judged .ensures) (c .if3 .left),
+      order-fits
+          (now (a .book)) (a .number .0) (a .year) (a .run) (a .price .0) (a .estimate1 .0) (a .estimate2 .0) (looked .is-sound none) _ (looked .found none)
+          (c .before .before .before .before .before .before .if2 .left) (read .result) (read .ensures) (left .result) (left .ensures) (judged .result) (judged .ensures) (c .if3 .left),
+    )
 
 book-run-requires : tie.Need-book-run-requires
 book-run-requires c κs =
@@ -83,7 +95,9 @@ book-run-requires c κs =
     let read = c .before .before .before .before .before .before .account-at in
     let left = c .before .before .before .before .has-room in
     let judged = c .before .before .before .advance-objection in
-    run-fits (now (a .book)) (a .number .0) (a .year) (a .run) (a .price .0) (a .estimate1 .0) (a .estimate2 .0) (looked .is-sound none) _ (looked .found none) (c .before .before .before .before .before .before .before .before .if2 .left) (read .result) (read .ensures) (left .result) (left .ensures) (judged .result) (judged .ensures) (c .before .before .if3 .left) (c .before .run-amount .result) (c .before .run-amount .ensures)
+    run-fits (now (a .book)) (a .number .0) (a .year) (a .run) (a .price .0) (a .estimate1 .0) (a .estimate2 .0) (looked .is-sound none) _ (looked .found none)
+    (c .before .before .before .before .before .before .before .before .if2 .left) (read .result) (read .ensures) (left .result) (left .ensures) (judged .result) (judged .ensures)
+    (c .before .before .if3 .left) (c .before .run-amount .result) (c .before .run-amount .ensures)
 
 same-length-4 : tie.Need-same-length-4
 same-length-4 c = search needs
@@ -96,8 +110,15 @@ returns-4 c =
     let read = c .before .before .before .before .before .before .before .before .before .account-at in
     let left = c .before .before .before .before .before .before .before .has-room in
     let judged = c .before .before .before .before .before .before .advance-objection in
-    let paid = c .before .before .before .before .run-amount in
-    (advance-booked (now (a .book)) (a .number .0) (a .year) (a .run) (a .price .0) (a .estimate1 .0) (a .estimate2 .0) (looked .is-sound none) _ (looked .found none) (c .before .before .before .before .before .before .before .before .before .before .before .if2 .left) (read .result) (read .ensures) (left .result) (left .ensures) (judged .result) (judged .ensures) (c .before .before .before .before .before .if3 .left) (paid .result) (paid .ensures) _ (c .before .before .book-run .ensures), ticks-answered (now (a .book)) (a .number .0) (a .year) (a .run) (a .price .0) (a .estimate1 .0) (a .estimate2 .0) (looked .is-sound none) _ (looked .found none) (c .before .before .before .before .before .before .before .before .before .before .before .if2 .left) (read .result) (read .ensures) (left .result) (left .ensures) (judged .result) (judged .ensures) (c .before .before .before .before .before .if3 .left) (paid .result) (paid .ensures))
+    let paid = c .before .before .before .before .run-amount in (
+      advance-booked (now (a .book)) (a .number .0) (a .year) (a .run) (a .price .0) (a .estimate1 .0) (a .estimate2 .0) (looked .is-sound none) _ (looked .found none)
+          (c .before .before .before .before .before .before .before .before .before .before .before .if2 .left) (read .result) (read .ensures) (left .result) (left .ensures) (judged .result)
+          (judged .ensures) (c .before .before .before .before .before .if3 .left) (paid .result) (paid .ensures) _ (c .before .before .book-run .ensures),
+      ticks-answered (now (a .book)) (a .number .0)
+          (a .year) (a .run) (a .price .0) (a .estimate1 .0) (a .estimate2 .0) (looked .is-sound none) _ (looked .found none)
+          (c .before .before .before .before .before .before .before .before .before .before .before .if2 .left) (read .result) (read .ensures) (left .result) (left .ensures) (judged .result)
+          (judged .ensures) (c .before .before .before .before .before .if3 .left) (paid .result) (paid .ensures),
+    )
 
 pub advance-spec : {M : Type 1} → statement M
 advance-spec =

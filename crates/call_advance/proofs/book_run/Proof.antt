@@ -1,4 +1,4 @@
--- The entry in front of the chain, and the account after it.
+-- `book_run` is held to `applied`: the entry in front of the chain, and the account after it.
 use denote.Ref.{now}
 use mathlib.Core.Path.{ap, _∙_}
 use native.Mathlib.Omega.{arith}
@@ -33,7 +33,8 @@ withheld-requires : tie.Need-withheld-requires
 withheld-requires c κs =
     let a = c .before .before .before .before .before .before .before .before .before .args in
     let next = c .before .advanced in
-    within-rest (a .account) (a .year) (a .run) (a .paid) (c .before .before .before .before .before .before .withheld-from .result) (c .before .before .before .before .before .before .withheld-from .ensures) (next .result) (next .ensures)
+    within-rest (a .account) (a .year) (a .run) (a .paid) (c .before .before .before .before .before .before .withheld-from .result)
+    (c .before .before .before .before .before .before .withheld-from .ensures) (next .result) (next .ensures)
 
 write-entry-requires : tie.Need-write-entry-requires
 write-entry-requires c κs =

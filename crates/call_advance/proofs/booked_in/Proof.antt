@@ -1,4 +1,4 @@
--- By the year: the open one or the one after it.
+-- `booked_in` is held to `bookedIn`: by the year: the open one or the one after it.
 use borrow.Author.Tests.{eq-eqb, ne-eqb}
 use Rattle.call_rules.specs.Changes.{bookedIn}
 use borrow.Author.Needs.{needs}

@@ -20,12 +20,15 @@ amount-of-requires : tie.Need-amount-of-requires
 amount-of-requires c κs =
     let s = c .before .before .before in
     let a = s .args in
-    run-within (a .a) (a .price .0) (a .estimate1 .0) (a .estimate2 .0) (s .pre .0 .1) (s .pre .1) (c .before .before .half-or-estimate .result .0) (c .before .half-or-estimate2 .result .0) (c .before .before .half-or-estimate .ensures) (c .before .half-or-estimate2 .ensures)
+    run-within (a .a) (a .price .0) (a .estimate1 .0) (a .estimate2 .0) (s .pre .0 .1) (s .pre .1) (c .before .before .half-or-estimate .result .0) (c .before .half-or-estimate2 .result .0)
+    (c .before .before .half-or-estimate .ensures) (c .before .half-or-estimate2 .ensures)
 
 returns : tie.Need-returns
 returns c =
     let a = c .before .before .before .before .args in
-    run-paid (a .a) (a .price .0) (a .estimate1 .0) (a .estimate2 .0) (a .year) (a .run) (c .before .before .before .half-or-estimate .result .0) (c .before .before .half-or-estimate2 .result .0) (c .before .before .before .half-or-estimate .ensures) (c .before .before .half-or-estimate2 .ensures) (c .before .halves-in .result) (c .before .halves-in .ensures) (c .amount-of .result) (c .amount-of .ensures .0)
+    run-paid (a .a) (a .price .0) (a .estimate1 .0) (a .estimate2 .0) (a .year) (a .run) (c .before .before .before .half-or-estimate .result .0) (c .before .before .half-or-estimate2 .result .0)
+    (c .before .before .before .half-or-estimate .ensures) (c .before .before .half-or-estimate2 .ensures) (c .before .halves-in .result) (c .before .halves-in .ensures) (c .amount-of .result)
+    (c .amount-of .ensures .0)
 
 pub run-amount-spec : {M : Type 1} → statement M
 run-amount-spec =

@@ -56,7 +56,8 @@ returns-3 c =
     let none = c .before .before .before .before .before .before .before .before .if1 .left in
     let read = c .before .before .before .account-at in
     let judged = c .before .before .charge-objection in
-    charge-refused (now (a .book)) (looked .is-sound none) (a .number .0) _ (looked .found none) (c .before .before .before .before .before .if2 .left) (read .result) (read .ensures) (judged .result) (judged .ensures) (c .before .if3 .taken) (c .refused2 .result) (c .refused2 .ensures)
+    charge-refused (now (a .book)) (looked .is-sound none) (a .number .0) _ (looked .found none) (c .before .before .before .before .before .if2 .left) (read .result) (read .ensures) (judged .result)
+    (judged .ensures) (c .before .if3 .taken) (c .refused2 .result) (c .refused2 .ensures)
 
 charged-requires : tie.Need-charged-requires
 charged-requires c κs =
@@ -66,7 +67,8 @@ charged-requires c κs =
     let none = t .before .before .before .before .before .before .before .if1 .left in
     let read = t .before .before .account-at in
     let judged = t .before .charge-objection in
-    rest-room (now (a .book)) (looked .is-sound none) (a .number .0) _ (looked .found none) (t .before .before .before .before .if2 .left) (read .result) (read .ensures) (judged .result) (judged .ensures) (t .if3 .left)
+    rest-room (now (a .book)) (looked .is-sound none) (a .number .0) _ (looked .found none) (t .before .before .before .before .if2 .left) (read .result) (read .ensures) (judged .result)
+    (judged .ensures) (t .if3 .left)
 
 write-account-requires : tie.Need-write-account-requires
 write-account-requires c κs =
@@ -85,7 +87,9 @@ returns-4 c =
     let none = c .before .before .before .before .before .before .before .before .before .before .before .before .if1 .left in
     let read = c .before .before .before .before .before .before .before .account-at in
     let judged = c .before .before .before .before .before .before .charge-objection in
-    charge-booked (now (a .book)) (looked .is-sound none) (a .number .0) _ (looked .found none) (c .before .before .before .before .before .before .before .before .before .if2 .left) (read .result) (read .ensures) (judged .result) (judged .ensures) (c .before .before .before .before .before .if3 .left) (c .before .before .before .before .charged .result) (c .before .before .before .before .charged .ensures) _ (c .before .before .write-account .ensures)
+    charge-booked (now (a .book)) (looked .is-sound none) (a .number .0) _ (looked .found none) (c .before .before .before .before .before .before .before .before .before .if2 .left) (read .result)
+    (read .ensures) (judged .result) (judged .ensures) (c .before .before .before .before .before .if3 .left) (c .before .before .before .before .charged .result)
+    (c .before .before .before .before .charged .ensures) _ (c .before .before .write-account .ensures)
 
 pub charge-spec : {M : Type 1} → statement M
 charge-spec =

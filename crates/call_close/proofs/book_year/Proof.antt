@@ -1,4 +1,4 @@
--- The entry in front of the chain, and the account after it.
+-- `book_year` is held to `applied`: the entry in front of the chain, and the account after it.
 use denote.Ref.{now}
 use mathlib.Core.Path.{ap, _∙_}
 use lib.ListN.{length}

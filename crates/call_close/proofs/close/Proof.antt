@@ -35,7 +35,8 @@ returns c =
     let b = now (a .book) in
     let s = now (a .s) in
     let some = c .before .if1 .taken in
-    leaves b s (looked .result .reply) _ some (damaged b (calls.close s) 0 (looked .ensures) some) (untold-before s _ (omega (arith, looked .ensures .to-2))) (c .without-sums .result) (c .without-sums .ensures)
+    leaves b s (looked .result .reply) _ some (damaged b (calls.close s) 0 (looked .ensures) some) (untold-before s _ (omega (arith, looked .ensures .to-2))) (c .without-sums .result)
+    (c .without-sums .ensures)
 
 header-wrong-requires : tie.Need-header-wrong-requires
 header-wrong-requires c κs = search needs
@@ -81,7 +82,8 @@ returns-3 c =
     let right = sym (h .before .header-wrong .ensures) ∙ h .if2 .left in
     let there = looked .found none ∙ ap (λ (n : UserNumber). recordIndex (findUser b (n .0))) (h .before .before .before .before .before .before .user .ensures) in
     let reply = c .before .refused2 in
-    leaves-early b s 6 (omega arith) (omega arith) (reply .result) (reply .ensures) (close-absent b s (looked .is-sound none) right _ there (c .before .before .if3 .taken) (reply .result) (reply .ensures))
+    leaves-early b s 6 (omega arith) (omega arith) (reply .result) (reply .ensures)
+    (close-absent b s (looked .is-sound none) right _ there (c .before .before .if3 .taken) (reply .result) (reply .ensures))
     (c .without-sums3 .result) (c .without-sums3 .ensures)
 
 account-at-requires : tie.Need-account-at-requires
@@ -94,11 +96,15 @@ has-room-requires : tie.Need-has-room-requires
 has-room-requires c κs = search needs
 
 whole-requires : tie.Need-whole-requires
-whole-requires c κs = passed-length (now (c .before .before .before .before .before .before .before .before .before .before .before .before .before .before .before .before .before .args .s)) (sym (c .before .before .before .before .before .before .before .before .header-wrong .ensures) ∙ c .before .before .before .before .before .before .before .if2 .left)
+whole-requires c κs =
+    passed-length (now (c .before .before .before .before .before .before .before .before .before .before .before .before .before .before .before .before .before .args .s))
+    (sym (c .before .before .before .before .before .before .before .before .header-wrong .ensures) ∙ c .before .before .before .before .before .before .before .if2 .left)
 
 close-objection-requires : tie.Need-close-objection-requires
 close-objection-requires c κs =
-    ap length (c .whole .ensures) ∙ passed-length (now (c .before .before .before .before .before .before .before .before .before .before .before .before .before .before .before .before .before .before .args .s)) (sym (c .before .before .before .before .before .before .before .before .before .header-wrong .ensures) ∙ c .before .before .before .before .before .before .before .before .if2 .left)
+    ap length (c .whole .ensures) ∙ passed-length
+    (now (c .before .before .before .before .before .before .before .before .before .before .before .before .before .before .before .before .before .before .args .s)) (sym
+    (c .before .before .before .before .before .before .before .before .before .header-wrong .ensures) ∙ c .before .before .before .before .before .before .before .before .if2 .left)
 
 refused-requires-3 : tie.Need-refused-requires-3
 refused-requires-3 c κs = search needs
@@ -124,7 +130,8 @@ returns-4 c =
     let left = q .before .before .has-room in
     let judged = q .close-objection in
     let reply = c .before .refused3 in
-    close-refused b s (looked .is-sound none) right _ there (q .before .before .before .before .before .before .if3 .left) (read .result) (read .ensures) (left .result) (left .ensures) _ (q .before .whole .ensures) (judged .result .refusal) (judged .ensures .0)
+    close-refused b s (looked .is-sound none) right _ there (q .before .before .before .before .before .before .if3 .left) (read .result) (read .ensures) (left .result) (left .ensures) _
+    (q .before .whole .ensures) (judged .result .refusal) (judged .ensures .0)
     (c .before .before .if4 .taken) (judged .result .position) (judged .ensures .1) (reply .result) (reply .ensures) (c .without-sums4 .result) (c .without-sums4 .ensures)
 
 year-values-requires : tie.Need-year-values-requires
@@ -141,7 +148,8 @@ year-values-requires c κs =
     let read = q .before .before .before .before .account-at in
     let left = q .before .before .has-room in
     let judged = q .close-objection in
-    passed b s (looked .is-sound none) right _ there (q .before .before .before .before .before .before .if3 .left) (read .result) (read .ensures) (left .result) (left .ensures) _ (q .before .whole .ensures) (judged .result .refusal) (judged .ensures .0)
+    passed b s (looked .is-sound none) right _ there (q .before .before .before .before .before .before .if3 .left) (read .result) (read .ensures) (left .result) (left .ensures) _
+    (q .before .whole .ensures) (judged .result .refusal) (judged .ensures .0)
     (c .if4 .left)
 
 book-year-requires : tie.Need-book-year-requires
@@ -159,7 +167,8 @@ book-year-requires c κs =
     let left = q .before .before .has-room in
     let judged = q .close-objection in
     let values = c .before .year-values in
-    year-fits b s (looked .is-sound none) right _ there (q .before .before .before .before .before .before .if3 .left) (read .result) (read .ensures) (left .result) (left .ensures) _ (q .before .whole .ensures) (judged .result .refusal) (judged .ensures .0)
+    year-fits b s (looked .is-sound none) right _ there (q .before .before .before .before .before .before .if3 .left) (read .result) (read .ensures) (left .result) (left .ensures) _
+    (q .before .whole .ensures) (judged .result .refusal) (judged .ensures .0)
     (c .before .before .if4 .left) (values .result) (values .ensures)
 
 same-length-5 : tie.Need-same-length-5
@@ -181,7 +190,8 @@ returns-5 c =
     let judged = q .close-objection in
     let values = c .before .before .before .before .year-values in
     let booked = c .before .before .book-year in
-    close-booked b s (looked .is-sound none) right _ there (q .before .before .before .before .before .before .if3 .left) (read .result) (read .ensures) (left .result) (left .ensures) _ (q .before .whole .ensures) (judged .result .refusal) (judged .ensures .0)
+    close-booked b s (looked .is-sound none) right _ there (q .before .before .before .before .before .before .if3 .left) (read .result) (read .ensures) (left .result) (left .ensures) _
+    (q .before .whole .ensures) (judged .result .refusal) (judged .ensures .0)
     (c .before .before .before .before .before .if4 .left) (values .result) (values .ensures) _ (booked .ensures .0) (booked .result) (booked .ensures .1)
 
 pub close-spec : {M : Type 1} → statement M

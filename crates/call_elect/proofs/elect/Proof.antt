@@ -30,7 +30,8 @@ returns-2 c =
     let a = c .before .before .before .before .before .before .before .before .before .before .args in
     let looked = c .before .before .before .before .before .before .before .look .ensures in
     let none = c .before .before .before .before .if1 .left in
-    elect-absent (now (a .book)) (looked .is-sound none) (a .number .0) (a .option) (a .year) (a .month) (a .day) _ (looked .found none) (c .before .if2 .taken) (c .refused .result) (c .refused .ensures)
+    elect-absent (now (a .book)) (looked .is-sound none) (a .number .0) (a .option) (a .year) (a .month) (a .day) _ (looked .found none) (c .before .if2 .taken) (c .refused .result)
+    (c .refused .ensures)
 
 account-at-requires : tie.Need-account-at-requires
 account-at-requires c κs =
@@ -55,7 +56,8 @@ returns-3 c =
     let none = c .before .before .before .before .before .before .before .before .if1 .left in
     let read = c .before .before .before .account-at in
     let judged = c .before .before .elect-objection in
-    elect-refused (now (a .book)) (looked .is-sound none) (a .number .0) (a .option) (a .year) (a .month) (a .day) _ (looked .found none) (c .before .before .before .before .before .if2 .left) (read .result) (read .ensures) (judged .result) (judged .ensures) (c .before .if3 .taken) (c .refused2 .result) (c .refused2 .ensures)
+    elect-refused (now (a .book)) (looked .is-sound none) (a .number .0) (a .option) (a .year) (a .month) (a .day) _ (looked .found none) (c .before .before .before .before .before .if2 .left)
+    (read .result) (read .ensures) (judged .result) (judged .ensures) (c .before .if3 .taken) (c .refused2 .result) (c .refused2 .ensures)
 
 elected-requires : tie.Need-elected-requires
 elected-requires c κs = search needs
@@ -77,7 +79,9 @@ returns-4 c =
     let none = c .before .before .before .before .before .before .before .before .before .before .before .before .if1 .left in
     let read = c .before .before .before .before .before .before .before .account-at in
     let judged = c .before .before .before .before .before .before .elect-objection in
-    elect-booked (now (a .book)) (looked .is-sound none) (a .number .0) (a .option) (a .year) (a .month) (a .day) _ (looked .found none) (c .before .before .before .before .before .before .before .before .before .if2 .left) (read .result) (read .ensures) (judged .result) (judged .ensures) (c .before .before .before .before .before .if3 .left) (c .before .before .before .elected .result) (c .before .before .before .elected .ensures) _ (c .before .before .write-account .ensures)
+    elect-booked (now (a .book)) (looked .is-sound none) (a .number .0) (a .option) (a .year) (a .month) (a .day) _ (looked .found none)
+    (c .before .before .before .before .before .before .before .before .before .if2 .left) (read .result) (read .ensures) (judged .result) (judged .ensures)
+    (c .before .before .before .before .before .if3 .left) (c .before .before .before .elected .result) (c .before .before .before .elected .ensures) _ (c .before .before .write-account .ensures)
 
 pub elect-spec : {M : Type 1} → statement M
 elect-spec =

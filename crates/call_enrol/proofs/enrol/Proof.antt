@@ -38,7 +38,8 @@ returns-2 c =
     let none = c .before .before .before .before .before .if1 .left in
     let left = c .before .before .before .has-room in
     let judged = c .before .before .enrol-objection in
-    enrol-refused (now (a .book)) (looked .is-sound none) (a .number .0) (a .details) (a .option) _ (left .result) (looked .found none) (left .ensures) (judged .result) (judged .ensures) (c .before .if2 .taken) (c .refused .result) (c .refused .ensures)
+    enrol-refused (now (a .book)) (looked .is-sound none) (a .number .0) (a .details) (a .option) _ (left .result) (looked .found none) (left .ensures) (judged .result) (judged .ensures)
+    (c .before .if2 .taken) (c .refused .result) (c .refused .ensures)
 
 used-requires : tie.Need-used-requires
 used-requires c κs = search needs
@@ -53,7 +54,8 @@ write-user-requires c κs =
     let none = c .before .before .before .before .before .before .before .before .if1 .left in
     let left = c .before .before .before .before .before .before .has-room in
     let judged = c .before .before .before .before .before .enrol-objection in
-    enrol-room (now (a .book)) (looked .is-sound none) (a .number .0) (a .details) (a .option) _ (left .result) (looked .found none) (left .ensures) (judged .result) (judged .ensures) (c .before .before .before .before .if2 .left)
+    enrol-room (now (a .book)) (looked .is-sound none) (a .number .0) (a .details) (a .option) _ (left .result) (looked .found none) (left .ensures) (judged .result) (judged .ensures)
+    (c .before .before .before .before .if2 .left)
 
 same-length-3 : tie.Need-same-length-3
 same-length-3 c = search needs
@@ -65,7 +67,9 @@ returns-3 c =
     let none = c .before .before .before .before .before .before .before .before .before .before .before .if1 .left in
     let left = c .before .before .before .before .before .before .before .before .before .has-room in
     let judged = c .before .before .before .before .before .before .before .before .enrol-objection in
-    enrol-booked (now (a .book)) (looked .is-sound none) (a .number .0) (a .details) (a .option) _ (left .result) (looked .found none) (left .ensures) (judged .result) (judged .ensures) (c .before .before .before .before .before .before .before .if2 .left) (c .before .before .before .before .before .used .result) (c .before .before .before .before .before .used .ensures) (c .before .before .before .new-account .result) (c .before .before .before .new-account .ensures) _ (c .before .before .write-user .ensures)
+    enrol-booked (now (a .book)) (looked .is-sound none) (a .number .0) (a .details) (a .option) _ (left .result) (looked .found none) (left .ensures) (judged .result) (judged .ensures)
+    (c .before .before .before .before .before .before .before .if2 .left) (c .before .before .before .before .before .used .result) (c .before .before .before .before .before .used .ensures)
+    (c .before .before .before .new-account .result) (c .before .before .before .new-account .ensures) _ (c .before .before .write-user .ensures)
 
 pub enrol-spec : {M : Type 1} → statement M
 enrol-spec =

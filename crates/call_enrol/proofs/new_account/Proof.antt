@@ -1,4 +1,4 @@
--- Field by field.
+-- `new_account` is held to `newAccount`: field by field.
 use mathlib.Core.Path.{refl}
 use Rattle.call_rules.specs.Changes.{newAccount}
 use Rattle.call_enrol.proofs.new_account.Statement.{statement}

@@ -32,7 +32,8 @@ returns-3 : tie.Need-returns-3
 returns-3 c =
     let a = c .before .before .before .before .before .before .before .args in
     let fault = c .before .before .before .before .before .sheet-fault in
-    by-field (now (a .s)) (a .month) (a .band) (fault .result) (fault .ensures) (omega (arith, c .before .if2 .left)) (sym (c .before .before .before .before .has-field .ensures) ∙ c .before .before .before .if1 .left) (c .unplaced .result) (c .unplaced .ensures)
+    by-field (now (a .s)) (a .month) (a .band) (fault .result) (fault .ensures) (omega (arith, c .before .if2 .left))
+    (sym (c .before .before .before .before .has-field .ensures) ∙ c .before .before .before .if1 .left) (c .unplaced .result) (c .unplaced .ensures)
 
 pub field-objection-spec : {M : Type 1} → statement M
 field-objection-spec =

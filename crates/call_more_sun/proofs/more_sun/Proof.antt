@@ -45,7 +45,8 @@ returns-2 c =
     let looked = e .before .before .before .look .ensures in
     let none = e .if1 .left in
     let reply = c .before .refused in
-    leaves-unread b s (a .month) (a .band) (looked .is-sound none) (sym (c .before .before .before .header-wrong .ensures) ∙ c .before .before .if2 .taken) (reply .result) (reply .ensures) (c .nothing-added2 .result) (c .nothing-added2 .ensures)
+    leaves-unread b s (a .month) (a .band) (looked .is-sound none) (sym (c .before .before .before .header-wrong .ensures) ∙ c .before .before .if2 .taken) (reply .result) (reply .ensures)
+    (c .nothing-added2 .result) (c .nothing-added2 .ensures)
 
 refused-requires-2 : tie.Need-refused-requires-2
 refused-requires-2 c κs = search needs
@@ -64,11 +65,13 @@ returns-3 c =
     let there = looked .found none ∙ ap (λ (n : UserNumber). recordIndex (findUser b (n .0))) (e .before .before .before .before .user .ensures) in
     let right = sym (c .before .before .before .before .before .before .header-wrong .ensures) ∙ c .before .before .before .before .before .if2 .left in
     let reply = c .before .refused2 in
-    leaves-absent b s (a .month) (a .band) (looked .is-sound none) right _ there (c .before .before .if3 .taken) (reply .result) (reply .ensures) (c .nothing-added3 .result) (c .nothing-added3 .ensures)
+    leaves-absent b s (a .month) (a .band) (looked .is-sound none) right _ there (c .before .before .if3 .taken) (reply .result) (reply .ensures) (c .nothing-added3 .result)
+    (c .nothing-added3 .ensures)
 
 field-objection-requires : tie.Need-field-objection-requires
 field-objection-requires c κs =
-    passed-length (now (c .before .before .before .before .before .before .before .before .before .before .before .before .args .s)) (sym (c .before .before .before .before .header-wrong .ensures) ∙ c .before .before .before .if2 .left)
+    passed-length (now (c .before .before .before .before .before .before .before .before .before .before .before .before .args .s))
+    (sym (c .before .before .before .before .header-wrong .ensures) ∙ c .before .before .before .if2 .left)
 
 refused-requires-3 : tie.Need-refused-requires-3
 refused-requires-3 c κs = search needs
@@ -114,7 +117,8 @@ sub-more-sun c =
     let f = c .before .before .before in
     let right = sym (f .before .before .before .before .before .header-wrong .ensures) ∙ f .before .before .before .before .if2 .left in
     let some = f .before .if3 .left in
-    has s (a .month) (a .band) (field-met b s (a .month) (a .band) (looked .is-sound none) right _ there some (f .field-objection .result .refusal) (f .field-objection .ensures .0) (c .before .if4 .left)) .month-from
+    has s (a .month) (a .band) (field-met b s (a .month) (a .band) (looked .is-sound none) right _ there some (f .field-objection .result .refusal) (f .field-objection .ensures .0)
+    (c .before .if4 .left)) .month-from
 
 sub-more-sun-2 : tie.Need-sub-more-sun-2
 sub-more-sun-2 c =
@@ -128,7 +132,8 @@ sub-more-sun-2 c =
     let f = c .before .before .before in
     let right = sym (f .before .before .before .before .before .header-wrong .ensures) ∙ f .before .before .before .before .if2 .left in
     let some = f .before .if3 .left in
-    has s (a .month) (a .band) (field-met b s (a .month) (a .band) (looked .is-sound none) right _ there some (f .field-objection .result .refusal) (f .field-objection .ensures .0) (c .before .if4 .left)) .band-from
+    has s (a .month) (a .band) (field-met b s (a .month) (a .band) (looked .is-sound none) right _ there some (f .field-objection .result .refusal) (f .field-objection .ensures .0)
+    (c .before .if4 .left)) .band-from
 
 more-sun-requires : tie.Need-more-sun-requires
 more-sun-requires c κs =
@@ -142,8 +147,11 @@ more-sun-requires c κs =
     let f = c .before .before .before in
     let right = sym (f .before .before .before .before .before .header-wrong .ensures) ∙ f .before .before .before .before .if2 .left in
     let some = f .before .if3 .left in
-    let z = c .before .if4 .left in
-    (passed b s (a .month) (a .band) (looked .is-sound none) right _ there some (f .field-objection .result .refusal) (f .field-objection .ensures .0) z, field-stands s (a .month) (a .band) (field-met b s (a .month) (a .band) (looked .is-sound none) right _ there some (f .field-objection .result .refusal) (f .field-objection .ensures .0) z))
+    let z = c .before .if4 .left in (
+      passed b s (a .month) (a .band) (looked .is-sound none) right _ there some (f .field-objection .result .refusal) (f .field-objection .ensures .0) z,
+      field-stands s (a .month) (a .band)
+          (field-met b s (a .month) (a .band) (looked .is-sound none) right _ there some (f .field-objection .result .refusal) (f .field-objection .ensures .0) z),
+    )
 
 returns-5 : tie.Need-returns-5
 returns-5 c =

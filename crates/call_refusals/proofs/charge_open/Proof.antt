@@ -1,4 +1,4 @@
--- The rule, test by test.
+-- `charge_open` is held to `chargeOpen`: the rule, test by test.
 use Rattle.call_rules.specs.Refusals.{chargeOpen}
 use mathlib.Core.Path.{refl}
 use Rattle.call_refusals.proofs.charge_open.Statement.{statement}

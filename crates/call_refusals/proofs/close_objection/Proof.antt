@@ -1,4 +1,4 @@
--- In the order of the call.
+-- `close_objection` is held to `refusedBy`: in the order of the call.
 use Prim.Native.Nat.{ℕ}
 use mathlib.Core.Path.{_≡_, refl, sym, ap, _∙_}
 use mathlib.Core.Bool.{Bool, true, false, cond}
@@ -101,7 +101,8 @@ returns-3 c =
     let s = now (a .s) in
     let is-open = open-is (a .a) s (y .before .year .ensures) (y .year-open .ensures) (not-false _ (d .before .before .before .before .if1 .left)) in
     plain (a .a) (a .room) s 14 (untold s 14 refl)
-    (past-fault (a .a) (a .room) s is-open (fault .result) (fault .ensures) (d .before .if2 .left) true (sym (d .domestic-excess .ensures) ∙ c .before .if3 .taken)) (c .unplaced2 .result) (c .unplaced2 .ensures)
+    (past-fault (a .a) (a .room) s is-open (fault .result) (fault .ensures) (d .before .if2 .left) true (sym (d .domestic-excess .ensures) ∙ c .before .if3 .taken)) (c .unplaced2 .result)
+    (c .unplaced2 .ensures)
 
 refuse-requires : tie.Need-refuse-requires
 refuse-requires c κs = search needs

@@ -1,4 +1,4 @@
--- The rule, test by test.
+-- `day_and_option` is held to `dayAndOption`: the rule, test by test.
 use Rattle.call_rules.specs.Refusals.{dayAndOption}
 use borrow.Author.Needs.{needs}
 use Rattle.call_refusals.proofs.day_and_option.Statement.{statement}

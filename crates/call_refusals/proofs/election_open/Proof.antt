@@ -1,4 +1,4 @@
--- The rule, test by test.
+-- `election_open` is held to `electionOpen`: the rule, test by test.
 use Rattle.call_rules.specs.Refusals.{electionOpen}
 use borrow.Author.Needs.{needs}
 use Rattle.call_refusals.proofs.election_open.Statement.{statement}

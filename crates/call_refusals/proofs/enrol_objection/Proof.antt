@@ -1,4 +1,4 @@
--- In the order of the call.
+-- `enrol_objection` is held to `refusedBy`: in the order of the call.
 use Rattle.call_rules.specs.Rules.{refusedBy}
 use Rattle.call_rules.specs.Calls.{rulesOf}
 use borrow.Author.Needs.{needs}

@@ -1,4 +1,4 @@
--- The rule, test by test.
+-- `has_room` is held to `hasRoom`: the rule, test by test.
 use Rattle.call_rules.specs.Refusals.{hasRoom}
 use borrow.Author.Needs.{needs}
 use Rattle.call_refusals.proofs.has_room.Statement.{statement}

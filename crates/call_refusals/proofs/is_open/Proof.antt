@@ -1,4 +1,4 @@
--- The rule, test by test.
+-- `is_open` is held to `isOpen`: the rule, test by test.
 use mathlib.Core.Path.{refl}
 use Rattle.call_rules.specs.Refusals.{isOpen}
 use borrow.Author.Needs.{needs}

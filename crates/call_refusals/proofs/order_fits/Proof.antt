@@ -1,4 +1,4 @@
--- The rule, test by test.
+-- `order_fits` is held to `orderFits`: the rule, test by test.
 use Rattle.call_rules.specs.Refusals.{orderFits}
 use mathlib.Core.Path.{refl}
 use Rattle.call_refusals.proofs.order_fits.Statement.{statement}

@@ -1,4 +1,4 @@
--- The rule, test by test.
+-- `run_named` is held to `isOpen`: the rule, test by test.
 use borrow.Author.Needs.{needs}
 use Rattle.call_refusals.proofs.run_named.Statement.{statement}
 use Rattle.call_refusals.proofs.run_named.Tie as tie

@@ -1,4 +1,4 @@
--- The rule, test by test.
+-- `year_open` is held to `yearOpen`: the rule, test by test.
 use Rattle.call_rules.specs.Refusals.{yearOpen}
 use mathlib.Core.Path.{refl}
 use Rattle.call_refusals.proofs.year_open.Statement.{statement}

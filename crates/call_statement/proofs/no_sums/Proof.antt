@@ -1,4 +1,4 @@
--- Field by field.
+-- `no_sums` is held to `noSums`: field by field.
 use mathlib.Core.Path.{refl}
 use Rattle.call_statement.specs.Stated.{noSums}
 use Rattle.call_statement.proofs.no_sums.Statement.{statement}

@@ -18,7 +18,8 @@ returns : tie.Need-returns
 returns c =
     let a = c .before .before .before .before .before .before .args in
     let some = c .before .if1 .taken in
-    leaves (now (a .book)) (a .number .0) (c .before .before .before .before .look .result .reply) some (damaged (now (a .book)) (calls.statement (a .number .0)) 0 (c .before .before .before .before .look .ensures) some) (c .no-sums .result) (c .no-sums .ensures)
+    leaves (now (a .book)) (a .number .0) (c .before .before .before .before .look .result .reply) some
+    (damaged (now (a .book)) (calls.statement (a .number .0)) 0 (c .before .before .before .before .look .ensures) some) (c .no-sums .result) (c .no-sums .ensures)
 
 refused-requires : tie.Need-refused-requires
 refused-requires c κs = search needs
@@ -32,7 +33,9 @@ returns-2 c =
     let looked = c .before .before .before .before .before .before .before .before .look .ensures in
     let none = c .before .before .before .before .before .if1 .left in
     let reply = c .before .refused in
-    leaves (now (a .book)) (a .number .0) (reply .result) (refuses 6 (reply .result) (reply .ensures) (omega arith)) (unknown (now (a .book)) (a .number .0) (looked .is-sound none) _ (looked .found none) (c .before .before .if2 .taken) (reply .result) (reply .ensures)) (c .no-sums2 .result) (c .no-sums2 .ensures)
+    leaves (now (a .book)) (a .number .0) (reply .result) (refuses 6 (reply .result) (reply .ensures) (omega arith))
+    (unknown (now (a .book)) (a .number .0) (looked .is-sound none) _ (looked .found none) (c .before .before .if2 .taken) (reply .result) (reply .ensures)) (c .no-sums2 .result)
+    (c .no-sums2 .ensures)
 
 statement-of-requires : tie.Need-statement-of-requires
 statement-of-requires c κs =
@@ -45,8 +48,11 @@ returns-3 : tie.Need-returns-3
 returns-3 c =
     let a = c .before .before .before .before .before .before .before .before .before .args in
     let looked = c .before .before .before .before .before .before .before .look .ensures in
-    let none = c .before .before .before .before .if1 .left in
-    (known (now (a .book)) (a .number .0) (looked .is-sound none) _ (looked .found none) (c .before .if2 .left), sums-stated (now (a .book)) (a .number .0) (looked .is-sound none) _ (looked .found none) (c .before .if2 .left) (c .statement-of .result) (c .statement-of .ensures))
+    let none = c .before .before .before .before .if1 .left in (
+      known (now (a .book)) (a .number .0) (looked .is-sound none) _ (looked .found none) (c .before .if2 .left),
+      sums-stated (now (a .book)) (a .number .0) (looked .is-sound none) _
+          (looked .found none) (c .before .if2 .left) (c .statement-of .result) (c .statement-of .ensures),
+    )
 
 pub statement-spec : {M : Type 1} → statement M
 statement-spec =

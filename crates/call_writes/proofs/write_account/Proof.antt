@@ -1,4 +1,4 @@
--- Record by record, as the definition puts them.
+-- `write_account` is held to `withAccount`: record by record, as the definition puts them.
 use Rattle.call_rules.specs.Changes.{withAccount}
 use borrow.Author.Needs.{needs}
 use Rattle.call_writes.proofs.write_account.Statement.{statement}

@@ -1,4 +1,4 @@
--- Record by record, as the definition puts them.
+-- `write_entry` is held to `withEntry`: record by record, as the definition puts them.
 use denote.Ref.{now}
 use Rattle.call_writes.proofs.Written.{entry-written}
 use borrow.Author.Needs.{needs}
@@ -38,7 +38,10 @@ same-length c = search needs
 returns : tie.Need-returns
 returns c =
     let a = c .before .before .before .before .before .before .before .before .before .before .before .before .before .before .before .before .before .before .before .before .before .args in
-    entry-written (now (a .book)) _ _ _ (a .entry) _ _ (a .user .0) (c .before .before .before .before .before .before .before .before .before .before .before .before .before .before .before .before .before .before .used .result) (a .account) (c .before .before .before .before .before .before .before .before .before .before .before .before .before .before .next-of .result) (c .before .before .before .before .before .before .before .before .before .before .before .before .before .before .before .before .first-user .result)
+    entry-written (now (a .book)) _ _ _ (a .entry) _ _ (a .user .0)
+    (c .before .before .before .before .before .before .before .before .before .before .before .before .before .before .before .before .before .before .used .result) (a .account)
+    (c .before .before .before .before .before .before .before .before .before .before .before .before .before .before .next-of .result)
+    (c .before .before .before .before .before .before .before .before .before .before .before .before .before .before .before .before .first-user .result)
     (c .before .before .before .before .before .before .before .before .before .before .before .before .before .before .before .before .before .before .used .ensures)
     (c .before .before .before .before .before .before .before .before .before .before .before .before .before .before .before .before .first-user .ensures)
     (c .before .before .before .before .before .before .before .before .before .before .before .before .before .before .next-of .ensures)

@@ -1,4 +1,4 @@
--- Record by record, as the definition puts them.
+-- `write_user` is held to `enrolledAs`: record by record, as the definition puts them.
 use Rattle.call_rules.specs.Changes.{enrolledAs}
 use borrow.Author.Needs.{needs}
 use Rattle.call_writes.proofs.write_user.Statement.{statement}

@@ -59,25 +59,34 @@ module _ {M : Type 1} (𝓤 : URA M) (H : Heap 𝓤) (A : Atoms 𝓤) (W : Given
   exits : ent 𝓤 (onEntry 𝓤 H A chain-at.signature (κ, tt) (q, tt) (s, (i, tt)) (values s i)) (Post (T′.lowered made))
   exits =
       qed W ((‵ (flft κ q) ⊛ ‵ ftrue) ∷ ‵ (Passed κ s i) ∷ []) ∵
-      suffices ! _ (ends-at 𝓤 H A chain-at.ended stayed (chain-at.clauses 𝓤 H A mem run) W (((κ, tt), (q, tt), tt, (s, (i, tt)), values s i), tt) (T′.lowered made) made (tt, (tt, tt)) (tt, (tt, tt))) $ says ! (refl, refl) $
+      suffices ! _ (ends-at 𝓤 H A chain-at.ended stayed (chain-at.clauses 𝓤 H A mem run) W (((κ, tt), (q, tt), tt, (s, (i, tt)), values s i), tt) (T′.lowered made) made (tt, (tt, tt)) (tt, (tt, tt)))
+      $ says ! (refl, refl) $
       frame ! $ use1 W (‵ (Passed κ s i) ⊛ ‵ (Passed κ s i)) (passed-twice κ s i 𝓤 H A W) $ split ! $ frame ! $ by ! (own-shut 𝓤 H A W (T.the-type α) (T′.the-laws α) (s, (i, tt)))
 
   module _ (C : Calls 𝓤 H) (Λ : Loops 𝓤 H) where
-    walk : Is (ShrSlice (named 0) κ u8) s (book-value s ∷ []) → Holds (hasTy I′.mir (index-value i)) × WT (index-value i) → ent 𝓤 (onEntry 𝓤 H A chain-at.signature (κ, tt) (q, tt) (s, (i, tt)) (values s i)) (WpFn 𝓤 H C Λ code.function (book-value s ∷ index-value i ∷ []) Post)
+    walk : Is (ShrSlice (named 0) κ u8) s (book-value s ∷ []) → Holds (hasTy I′.mir (index-value i)) × WT (index-value i)
+        → ent 𝓤 (onEntry 𝓤 H A chain-at.signature (κ, tt) (q, tt) (s, (i, tt)) (values s i)) (WpFn 𝓤 H C Λ code.function (book-value s ∷ index-value i ∷ []) Post)
     walk p wt =
         qed W (raw (onEntry 𝓤 H A chain-at.signature (κ, tt) (q, tt) (s, (i, tt)) (values s i)) ∷ []) ∵ enter ! C Λ code.function (book-value s ∷ index-value i ∷ []) _ $
-        alloc1 ! (λ l₀. alloc1 ! (λ l₁. alloc1 ! (λ l₂. alloc0 ! $ params1 ! $ pass1 ! (init ! 2 refl (shr-slice-lawful 𝓤 H A W (named 0) κ u8 .typed s (book-value s ∷ []) p .0)) $ pass1 ! (init ! 0 refl wt) $ pass0 ! $
-        assigns ! (agg ! (and-then ! (load ! (from ! (stop !)) (look ! 2 refl)) (and-then ! (load ! (from ! (stop !)) (look ! 0 refl)) (no-more !)))) (from ! (stop !)) (init ! 4 refl (tt, (shr-slice-lawful 𝓤 H A W (named 0) κ u8 .typed s (book-value s ∷ []) p .0 .1, (wt .1, tt)))) $
+        alloc1 ! (λ l₀. alloc1 ! (λ l₁. alloc1 ! (λ l₂. alloc0 ! $ params1 ! $ pass1 ! (init ! 2 refl (shr-slice-lawful 𝓤 H A W (named 0) κ u8 .typed s (book-value s ∷ []) p .0)) $ pass1 !
+        (init ! 0 refl wt) $ pass0 ! $
+        assigns ! (agg ! (and-then ! (load ! (from ! (stop !)) (look ! 2 refl)) (and-then ! (load ! (from ! (stop !)) (look ! 0 refl)) (no-more !)))) (from ! (stop !))
+        (init ! 4 refl (tt, (shr-slice-lawful 𝓤 H A W (named 0) κ u8 .typed s (book-value s ∷ []) p .0 .1, (wt .1, tt)))) $
         returns ! (look ! 4 refl) $ forget ! 0 refl $ forget ! 2 refl $ forget ! 4 refl $ move ! (4 ∷ 5 ∷ []) $ free1 ! $ move ! (2 ∷ 3 ∷ []) $ free1 ! $ free1 ! $ free0 ! $ by ! exits)))
 
 module _ {M : Type 1} (𝓤 : URA M) (H : Heap 𝓤) (A : Atoms 𝓤) (W : Given 𝓤 H A) (mem : Memory → SProp 𝓤) (run : Routine → Fun 𝓤) where
   chain-at-walks : (C : Calls 𝓤 H) (Λ : Loops 𝓤 H) → Walks 𝓤 H A chain-at.ended stayed (WpFn 𝓤 H C Λ code.function) (chain-at.clauses 𝓤 H A mem run)
-  chain-at-walks C Λ = walked 𝓤 H A chain-at.ended stayed (chain-at.clauses 𝓤 H A mem run) (WpFn 𝓤 H C Λ code.function) (λ κs. (slice-vals, (LL.vals I.the-type I′.the-laws, tt))) (λ κs. (shr-slice-tells (named 0) (κs .0) u8, (LL.tells I.the-type I′.the-laws, tt)))
-      (λ κs qs bounds a g are. via 𝓤 _ (fst∗ 𝓤 _ (emp 𝓤)) (walk 𝓤 H A W mem run (κs .0) (qs .0) (a .0) (a .1 .0) C Λ (are .0) (LL.lawful I.the-type I′.the-laws 𝓤 H A W .typed (a .1 .0) _ (are .1 .0) .0)))
+  chain-at-walks C Λ =
+      walked 𝓤 H A chain-at.ended stayed (chain-at.clauses 𝓤 H A mem run) (WpFn 𝓤 H C Λ code.function) (λ κs. (slice-vals, (LL.vals I.the-type I′.the-laws, tt)))
+      (λ κs. (shr-slice-tells (named 0) (κs .0) u8, (LL.tells I.the-type I′.the-laws, tt)))
+      (λ κs qs bounds a g are. via 𝓤 _ (fst∗ 𝓤 _ (emp 𝓤)) (walk 𝓤 H A W mem run (κs .0) (qs .0) (a .0) (a .1 .0) C Λ (are .0)
+      (LL.lawful I.the-type I′.the-laws 𝓤 H A W .typed (a .1 .0) _ (are .1 .0) .0)))
 
 chain-at-meets : {M : Type 1} (𝓤 : URA M) (H : Heap 𝓤) (A : Atoms 𝓤) → Given 𝓤 H A → (mem : Memory → SProp 𝓤) (run : Routine → Fun 𝓤) (𝓣 : Tables 𝓤 H)
     → Meets 𝓤 H A chain-at.signature (WpFn 𝓤 H (𝓣 .C) (𝓣 .Λ) code.function) (chain-at.spec 𝓤 H A mem run)
-chain-at-meets 𝓤 H A W mem run 𝓣 = walk-meets 𝓤 H A chain-at.ended stayed W (goes-none-slice 𝓤 H A W 1 (0 ∷ []) tt (plain (λ _. u8)) yes, (goes-none 𝓤 H A W 1 (λ _. I.the-row) yes (λ κs x f. refl), tt)) (chain-at.clauses 𝓤 H A mem run) (WpFn 𝓤 H (𝓣 .C) (𝓣 .Λ) code.function) (WpFn-mono 𝓤 H (W .laws) 𝓣 code.function) (chain-at-walks 𝓤 H A W mem run (𝓣 .C) (𝓣 .Λ))
+chain-at-meets 𝓤 H A W mem run 𝓣 =
+    walk-meets 𝓤 H A chain-at.ended stayed W (goes-none-slice 𝓤 H A W 1 (0 ∷ []) tt (plain (λ _. u8)) yes, (goes-none 𝓤 H A W 1 (λ _. I.the-row) yes (λ κs x f. refl), tt))
+    (chain-at.clauses 𝓤 H A mem run) (WpFn 𝓤 H (𝓣 .C) (𝓣 .Λ) code.function) (WpFn-mono 𝓤 H (W .laws) 𝓣 code.function) (chain-at-walks 𝓤 H A W mem run (𝓣 .C) (𝓣 .Λ))
 
 pub chain-at-spec : {M : Type 1} → stated.statement M
 unfolding code.routine tablesOf

@@ -115,22 +115,29 @@ module _ {M : Type 1} (𝓤 : URA M) (H : Heap 𝓤) (A : Atoms 𝓤) (W : Given
       suffices ! _ (ends-at 𝓤 H A follow.ended stayed (follow.clauses 𝓤 H A mem run) W (((κ, tt), (q, tt), tt, (s, (i, tt)), values s i), tt) u t (tt, (tt, tt)) (tt, (tt, tt))) $ says ! e $
       move ! (1 ∷ []) $ frame ! $ move ! (1 ∷ []) $ frame ! $ done !
 
-  module _ (C : Calls 𝓤 H) (Λ : Loops 𝓤 H) (fm : FmC 𝓤 H (W .laws) C) (known-chain-at : Triple 𝓤 (C #chain-at) (ChainAt 𝓤 H A mem run)) (known-following : Triple 𝓤 (C #following) (Following 𝓤 H A mem run)) where
-    walk : Is (ShrSlice (named 0) κ u8) s (book-value s ∷ []) → Holds (hasTy I′.mir (index-value i)) × WT (index-value i) → ent 𝓤 (onEntry 𝓤 H A follow.signature (κ, tt) (q, tt) (s, (i, tt)) (values s i)) (WpFn 𝓤 H C Λ code.function (book-value s ∷ index-value i ∷ []) Post)
+  module _ (C : Calls 𝓤 H) (Λ : Loops 𝓤 H) (fm : FmC 𝓤 H (W .laws) C) (known-chain-at : Triple 𝓤 (C #chain-at) (ChainAt 𝓤 H A mem run))
+      (known-following : Triple 𝓤 (C #following) (Following 𝓤 H A mem run)) where
+    walk : Is (ShrSlice (named 0) κ u8) s (book-value s ∷ []) → Holds (hasTy I′.mir (index-value i)) × WT (index-value i)
+        → ent 𝓤 (onEntry 𝓤 H A follow.signature (κ, tt) (q, tt) (s, (i, tt)) (values s i)) (WpFn 𝓤 H C Λ code.function (book-value s ∷ index-value i ∷ []) Post)
     walk p wt =
         qed W (raw (onEntry 𝓤 H A follow.signature (κ, tt) (q, tt) (s, (i, tt)) (values s i)) ∷ []) ∵ enter ! C Λ code.function (book-value s ∷ index-value i ∷ []) _ $
-        alloc1 ! (λ l₀. alloc1 ! (λ l₁. alloc1 ! (λ l₂. alloc1 ! (λ l₃. alloc0 ! $ params1 ! $ pass1 ! (init ! 4 refl (shr-slice-lawful 𝓤 H A W (named 0) κ u8 .typed s (book-value s ∷ []) p .0)) $ pass1 ! (init ! 2 refl wt) $ pass0 ! $
+        alloc1 ! (λ l₀. alloc1 ! (λ l₁. alloc1 ! (λ l₂. alloc1 ! (λ l₃. alloc0 ! $ params1 ! $ pass1 ! (init ! 4 refl (shr-slice-lawful 𝓤 H A W (named 0) κ u8 .typed s (book-value s ∷ []) p .0)) $
+        pass1 ! (init ! 2 refl wt) $ pass0 ! $
         move ! (8 ∷ []) $ use1 W (raw (ChainAt 𝓤 H A mem run .pre to-chain-at) ⊛ ‵ (Passed κ s i)) goes-chain-at $ split ! $
-        calls-at ! fm (ChainAt 𝓤 H A mem run) known-chain-at to-chain-at (and-then ! (load ! (from ! (stop !)) (look ! 6 refl)) (and-then ! (load ! (from ! (stop !)) (look ! 4 refl)) (no-more !))) (λ u.
-        use1 W (later (some (λ (r : Chain). ((‵ (flft κ q) ⊛ ‵ ftrue) ⊛ ‵ (B (κ, tt) .own r (u ∷ []))) ⊛ raw (ensured 𝓤 H A chain-at.ended (chain-at.clauses 𝓤 H A mem run) (κ, tt) (s, (i, tt)) tt r)))) (id⊢ 𝓤 _) $ await ! tt $ pick ! (λ r.
+        calls-at ! fm (ChainAt 𝓤 H A mem run) known-chain-at to-chain-at (and-then ! (load ! (from ! (stop !)) (look ! 6 refl)) (and-then ! (load ! (from ! (stop !)) (look ! 4 refl)) (no-more !)))
+        (λ u.
+        use1 W (later (some (λ (r : Chain). ((‵ (flft κ q) ⊛ ‵ ftrue) ⊛ ‵ (B (κ, tt) .own r (u ∷ []))) ⊛ raw
+        (ensured 𝓤 H A chain-at.ended (chain-at.clauses 𝓤 H A mem run) (κ, tt) (s, (i, tt)) tt r)))) (id⊢ 𝓤 _) $ await ! tt $ pick ! (λ r.
         split ! $ move ! (1 ∷ []) $ use1 W (raw (fact 𝓤 ((r .book ≡ s) × (r .at ≡ i)))) (chain-at-said r) $ heard ! ((r .book ≡ s) × (r .at ≡ i)) (λ e. split ! $ move ! (1 ∷ []) $
         -- [what the struct owns; the token; what is passed owns; room for _3; …; _2; …; _1; …; room for _0; …]
         peeks ! (B (κ, tt)) (Is (B (κ, tt))) (shows 𝓤 H A (B (κ, tt))) r (u ∷ []) (λ is.
         land ! (from ! (stop !)) (init ! 3 refl (LL.lawful (T.the-type αᵉ) (T′.the-laws αᵉ) 𝓤 H A W .typed r _ is .0)) $
         use2 W (raw (Following 𝓤 H A mem run .pre (to-following r u))) (goes-following r u) $
         calls-at ! fm (Following 𝓤 H A mem run) known-following (to-following r u) (and-then ! (load ! (from ! (stop !)) (look ! 2 refl)) (no-more !)) (λ u′.
-        use1 W (later (some (λ (t : Link). ((‵ (flft κ q) ⊛ ‵ ftrue) ⊛ ‵ (S.the-row .own t (u′ ∷ []))) ⊛ raw (ensured 𝓤 H A following.ended (following.clauses 𝓤 H A mem run) (κ, tt) (r, tt) tt t)))) (id⊢ 𝓤 _) $ await ! tt $ pick ! (λ t.
-        split ! $ move ! (1 ∷ []) $ use1 W (raw (fact 𝓤 (t ≡ linkAt (now (r .book)) (r .at .0)))) (following-said r t) $ heard ! (t ≡ linkAt (now (r .book)) (r .at .0)) (λ e′. split ! $ move ! (1 ∷ []) $
+        use1 W (later (some (λ (t : Link). ((‵ (flft κ q) ⊛ ‵ ftrue) ⊛ ‵ (S.the-row .own t (u′ ∷ []))) ⊛ raw (ensured 𝓤 H A following.ended (following.clauses 𝓤 H A mem run) (κ, tt) (r, tt) tt t))))
+        (id⊢ 𝓤 _) $ await ! tt $ pick ! (λ t.
+        split ! $ move ! (1 ∷ []) $ use1 W (raw (fact 𝓤 (t ≡ linkAt (now (r .book)) (r .at .0)))) (following-said r t) $ heard ! (t ≡ linkAt (now (r .book)) (r .at .0))
+        (λ e′. split ! $ move ! (1 ∷ []) $
         -- [the result; the token; what is passed owns; _3; …; _2; …; _1; …; room for _0; …]
         peeks ! S.the-row (Is S.the-row) (shows 𝓤 H A S.the-row) t (u′ ∷ []) (λ is′.
         land ! (from ! (stop !)) (init ! 9 refl (LL.lawful S.the-type S′.the-laws 𝓤 H A W .typed t _ is′ .0)) $
@@ -141,13 +148,18 @@ module _ {M : Type 1} (𝓤 : URA M) (H : Heap 𝓤) (A : Atoms 𝓤) (W : Given
 module _ {M : Type 1} (𝓤 : URA M) (H : Heap 𝓤) (A : Atoms 𝓤) (W : Given 𝓤 H A) (mem : Memory → SProp 𝓤) (run : Routine → Fun 𝓤) where
   follow-walks : (C : Calls 𝓤 H) (Λ : Loops 𝓤 H) → FmC 𝓤 H (W .laws) C → Triple 𝓤 (C #chain-at) (ChainAt 𝓤 H A mem run) → Triple 𝓤 (C #following) (Following 𝓤 H A mem run)
       → Walks 𝓤 H A follow.ended stayed (WpFn 𝓤 H C Λ code.function) (follow.clauses 𝓤 H A mem run)
-  follow-walks C Λ fm known-chain-at known-following = walked 𝓤 H A follow.ended stayed (follow.clauses 𝓤 H A mem run) (WpFn 𝓤 H C Λ code.function) (λ κs. (slice-vals, (LL.vals I.the-type I′.the-laws, tt))) (λ κs. (shr-slice-tells (named 0) (κs .0) u8, (LL.tells I.the-type I′.the-laws, tt)))
-      (λ κs qs bounds a g are. via 𝓤 _ (fst∗ 𝓤 _ (emp 𝓤)) (walk 𝓤 H A W mem run (κs .0) (qs .0) (a .0) (a .1 .0) C Λ fm known-chain-at known-following (are .0) (LL.lawful I.the-type I′.the-laws 𝓤 H A W .typed (a .1 .0) _ (are .1 .0) .0)))
+  follow-walks C Λ fm known-chain-at known-following =
+      walked 𝓤 H A follow.ended stayed (follow.clauses 𝓤 H A mem run) (WpFn 𝓤 H C Λ code.function) (λ κs. (slice-vals, (LL.vals I.the-type I′.the-laws, tt)))
+      (λ κs. (shr-slice-tells (named 0) (κs .0) u8, (LL.tells I.the-type I′.the-laws, tt)))
+      (λ κs qs bounds a g are. via 𝓤 _ (fst∗ 𝓤 _ (emp 𝓤)) (walk 𝓤 H A W mem run (κs .0) (qs .0) (a .0) (a .1 .0) C Λ fm known-chain-at known-following (are .0)
+      (LL.lawful I.the-type I′.the-laws 𝓤 H A W .typed (a .1 .0) _ (are .1 .0) .0)))
 
 follow-meets : {M : Type 1} (𝓤 : URA M) (H : Heap 𝓤) (A : Atoms 𝓤) (W : Given 𝓤 H A) (mem : Memory → SProp 𝓤) (run : Routine → Fun 𝓤) (𝓣 : Tables 𝓤 H)
     → Triple 𝓤 (𝓣 .C #chain-at) (ChainAt 𝓤 H A mem run) → Triple 𝓤 (𝓣 .C #following) (Following 𝓤 H A mem run)
     → Meets 𝓤 H A follow.signature (WpFn 𝓤 H (𝓣 .C) (𝓣 .Λ) code.function) (follow.spec 𝓤 H A mem run)
-follow-meets 𝓤 H A W mem run 𝓣 known-chain-at known-following = walk-meets 𝓤 H A follow.ended stayed W (goes-none-slice 𝓤 H A W 1 (0 ∷ []) tt (plain (λ _. u8)) yes, (goes-none 𝓤 H A W 1 (λ _. I.the-row) yes (λ κs x f. refl), tt)) (follow.clauses 𝓤 H A mem run) (WpFn 𝓤 H (𝓣 .C) (𝓣 .Λ) code.function) (WpFn-mono 𝓤 H (W .laws) 𝓣 code.function)
+follow-meets 𝓤 H A W mem run 𝓣 known-chain-at known-following =
+    walk-meets 𝓤 H A follow.ended stayed W (goes-none-slice 𝓤 H A W 1 (0 ∷ []) tt (plain (λ _. u8)) yes, (goes-none 𝓤 H A W 1 (λ _. I.the-row) yes (λ κs x f. refl), tt)) (follow.clauses 𝓤 H A mem run)
+    (WpFn 𝓤 H (𝓣 .C) (𝓣 .Λ) code.function) (WpFn-mono 𝓤 H (W .laws) 𝓣 code.function)
     (follow-walks 𝓤 H A W mem run (𝓣 .C) (𝓣 .Λ) (fmOf 𝓤 H (W .laws) 𝓣) known-chain-at known-following)
 
 pub follow-spec : {M : Type 1} → stated.statement M

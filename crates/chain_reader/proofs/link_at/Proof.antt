@@ -5,7 +5,8 @@ use mathlib.Core.List.{List}
 use borrow.Author.Tests.{leb-true}
 use denote.Ref.{now}
 use lib.ListN.{length}
-use Rattle.book_layout.specs.Fields.{recordLength, recordAt}
+use Rattle.units.specs.Limits.{recordLength}
+use Rattle.book_layout.specs.Fields.{recordAt}
 use Rattle.book_rules.specs.Book.{nextOf, kindAt}
 use Rattle.chain_reader.specs.InnerLink.{linkIn, linkAt}
 use borrow.Author.Needs.{needs}

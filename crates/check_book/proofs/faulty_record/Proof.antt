@@ -2,8 +2,9 @@
 use borrow.Author.Needs.{needs}
 use Prim.Native.Nat.{ℕ, _+_, _-_, _≤_, _<_}
 use mathlib.Core.Path.{_≡_, refl, sym, ap, _∙_}
-use mathlib.Core.Bool.{true, not, _&&_}
+use mathlib.Core.Bool.{Bool, true, not, _&&_}
 use mathlib.Core.Logic.{⊎-elim}
+use mathlib.Core.List.{List}
 use denote.Ref.{now}
 use native.Mathlib.Omega.{arith}
 use borrow.Author.Tests.{not-true, not-false, ltb-true, eqb-false}
@@ -17,7 +18,8 @@ use Rattle.book_rules.proofs.Faults.{used-counted}
 use Rattle.book_rules.proofs.RecordKinds.{entry-no-user}
 use Rattle.check_owners.specs.InnerOwners.{NextOwned}
 use Rattle.check_numbers.specs.InnerHeld.{places}
-use Rattle.check_book.proofs.Homes.{home-user, home-other, Homes, homes-sooner, homes-next, Bad, bad-first, bad-here, EntriesMet, entries-none, entry-here, entry-place, entries-next, entries-left, entries-ended, entry-after, ahead, ahead-less, stray-bad, judged}
+use Rattle.check_book.proofs.Homes.{home-user, home-other, Homes, homes-sooner, homes-next, Bad, bad-first, bad-here, EntriesMet, entries-none, entry-here, entry-place, entries-next}
+use Rattle.check_book.proofs.Homes.{entries-left, entries-ended, entry-after, ahead, ahead-less, stray-bad, judged}
 use Rattle.check_book.proofs.SeenNumbers.{Seen, has-number, seen-none, seen-other, seen-new, seen-next}
 use Rattle.check_book.proofs.faulty_record.Statement.{statement}
 use Rattle.check_book.proofs.faulty_record.Tie as tie
@@ -28,9 +30,18 @@ Inv-entries book broken counts entries records seen all-seen bad₀ i new e₀ b
 abbrev μ-entries : tie.MeasureT-entries
 μ-entries book broken counts entries records seen all-seen bad₀ i new e₀ bad e = ahead records e
 
+-- the users before i have had their turn
+record UsersMet (book : List ℕ) (broken : ℕ) (table : List ℕ) (all-seen : Bool) (bad i : ℕ) : Type 0 where
+  pub from : 1 ≤ i
+  pub before : i ≤ bad
+  pub most : bad ≤ broken
+  pub is : Bad book bad
+  pub long : length table ≡ places
+  pub seen : all-seen ≡ true → Seen book i table
+  pub homes : Homes book bad i
+
 abbrev Inv-users : tie.InvT-users
-Inv-users book broken counts entries records seen₀ all-seen₀ bad₀ i₀ seen all-seen bad i =
-    ((1 ≤ i) × ((i ≤ bad) × (bad ≤ broken))) × (Bad book bad × (((length seen ≡ places) × (all-seen ≡ true → Seen book i seen)) × Homes book bad i))
+Inv-users book broken counts entries records seen₀ all-seen₀ bad₀ i₀ seen all-seen bad i = UsersMet book broken seen all-seen bad i
 
 abbrev μ-users : tie.MeasureT-users
 μ-users book broken counts entries records seen₀ all-seen₀ bad₀ i₀ seen all-seen bad i = records - i
@@ -53,10 +64,19 @@ users-holds c =
     let s = c .before .before .before .before in
     let b = now (s .args .book) in
     let p = s .pre .1 .1 in
-    ((search needs, (p .from, omega arith)), (bad-first b (s .args .broken) p, ((refl, λ _. seen-none b _), λ j q h. let z : ⊥ = omega arith in absurd z)))
+    record {
+      from = search needs;
+      before = p .from;
+      most = omega arith;
+      is = bad-first b (s .args .broken) p;
+      long = refl;
+      seen = λ _. seen-none b _;
+      homes = λ j q h. let z : ⊥ = omega arith in absurd z;
+    }
 
 -- the record whose turn it is has its places in the book and in the arrays
-place : (c : tie.In-users Inv-entries μ-entries Inv-users μ-users) → (c .before .users .i < used (now (c .before .before .before .before .before .before .args .book))) × (c .before .users .i < mostRecords)
+place : (c : tie.In-users Inv-entries μ-entries Inv-users μ-users)
+    → (c .before .users .i < used (now (c .before .before .before .before .before .before .args .book))) × (c .before .users .i < mostRecords)
 place c =
     let a = c .before in
     let s = a .before .before .before .before .before in
@@ -67,7 +87,7 @@ place c =
 
 -- it stands before `bad`
 under : (c : tie.Else1 Inv-entries μ-entries Inv-users μ-users) → c .before .before .users .i < c .before .before .users .bad
-under c = omega (arith, c .before .before .users .inv .0 .1 .0, c .if1 .left)
+under c = omega (arith, c .before .before .users .inv .before, c .if1 .left)
 
 is-user-requires : tie.Need-is-user-requires Inv-entries μ-entries Inv-users μ-users
 is-user-requires c κs = search needs
@@ -86,16 +106,16 @@ insert-requires c κs =
     let s = a .before .before .before .before .before in
     let i = a .users .i in
     let user = sym (r .is-user .ensures) ∙ c .before .before .if2 .taken in
-    let own = s .pre .1 .1 .own i (a .users .inv .0 .0) (omega (arith, under n, a .users .inv .0 .1 .1)) in
+    let own = s .pre .1 .1 .own i (a .users .inv .from) (omega (arith, under n, a .users .inv .most)) in
     let some = has-number (now (s .args .book)) i user own in
-    (omega (arith, a .users .inv .1 .1 .0 .0), omega (arith, some, ap (λ (n : UserNumber). n .0) (c .before .number-of .ensures)))
+    (omega (arith, a .users .inv .long), omega (arith, some, ap (λ (n : UserNumber). n .0) (c .before .number-of .ensures)))
 
 is-new-requires : tie.Need-is-new-requires Inv-entries μ-entries Inv-users μ-users
 is-new-requires c κs =
     let a = c .before .before .before .before .before .before .before .before in
     let b = now (a .before .before .before .before .before .args .book) in
     let number = ap (λ (n : UserNumber). n .0) (c .before .before .before .number-of .ensures) in
-    seen-new b (a .users .i) (a .users .all-seen) (c .before .insert .result) (a .users .inv .1 .1 .0 .1) number (c .before .insert .ensures .1)
+    seen-new b (a .users .i) (a .users .all-seen) (c .before .insert .result) (a .users .inv .seen) number (c .before .insert .ensures .inserted)
 
 cast-good-record : tie.Need-cast-good-record Inv-entries μ-entries Inv-users μ-users
 cast-good-record c = search needs
@@ -112,8 +132,8 @@ good-record-requires c κs =
     let a = n .before .before in
     let s = a .before .before .before .before .before in
     let i = a .users .i in
-    let own = s .pre .1 .1 .own i (a .users .inv .0 .0) (omega (arith, under n, a .users .inv .0 .1 .1)) in
-    (a .before .before .before .counts .ensures i (a .users .inv .0 .0) (place (n .before) .1), (λ _. c .is-new .ensures, (own, (s .pre .1 .0, place (n .before) .0))))
+    let own = s .pre .1 .1 .own i (a .users .inv .from) (omega (arith, under n, a .users .inv .most)) in
+    (a .before .before .before .counts .ensures i (a .users .inv .from) (place (n .before) .1), (λ _. c .is-new .ensures, (own, (s .pre .1 .0, place (n .before) .0))))
 
 cast-e : tie.Need-cast-e Inv-entries μ-entries Inv-users μ-users
 cast-e c = search needs
@@ -137,7 +157,9 @@ e-some e bad t = (eqb-false e 0 (not-true _ (and-left (not (eqb e 0)) (ltb e bad
 
 -- so has the entry that is met
 entry-there : (c : tie.In-entries Inv-entries μ-entries Inv-users μ-users)
-    → ((1 ≤ c .before .entries .e) × (c .before .entries .e < used (now (c .before .before .before .before .before .before .before .before .before .before .before .before .before .before .before .before .before .before .before .args .book)))) × (c .before .entries .e < mostRecords)
+    → ((1 ≤ c .before .entries .e) × (c .before .entries .e < used
+    (now (c .before .before .before .before .before .before .before .before .before .before .before .before .before .before .before .before .before .before .before .args .book)))) ×
+    (c .before .entries .e < mostRecords)
 entry-there c =
     let l = c .before in
     let a = c .before .before .before .before .before .before .before .before .before .before .before .before .before .before in
@@ -166,7 +188,7 @@ good-record-requires-2 c κs =
     let e = l .entries .e in
     let at = entry-there c in
     let test = e-some e (l .entries .bad) (c .entries-test .taken) in
-    let own = s .pre .1 .1 .own e (at .0 .0) (omega (arith, test .1, l .entries .inv .0, a .users .inv .0 .1 .1)) in
+    let own = s .pre .1 .1 .own e (at .0 .0) (omega (arith, test .1, l .entries .inv .0, a .users .inv .most)) in
     let entry = entry-here b (a .users .bad) (a .users .i) e (l .entries .inv .1) (test .0) in
     (a .before .before .before .counts .ensures e (at .0 .0) (at .1), (λ user. absurd (entry-no-user b e entry user), (own, (s .pre .1 .0, at .0 .1))))
 
@@ -180,12 +202,16 @@ element-copy-out-e-2 : tie.Need-element-copy-out-e-2 Inv-entries μ-entries Inv-
 element-copy-out-e-2 c = entry-there (c .before .before) .1
 
 -- the next one is that after it of the same user
-entry-next : (c : tie.In-entries Inv-entries μ-entries Inv-users μ-users) → NextOwned (now (c .before .before .before .before .before .before .before .before .before .before .before .before .before .before .before .before .before .before .before .args .book)) (c .before .before .before .before .before .before .before .before .before .before .before .before .before .before .users .i) (c .before .entries .e + 1) (getD (c .before .before .before .before .before .before .before .before .before .before .before .before .before .before .before .before .by-owner .result .later) (c .before .entries .e) 0)
+entry-next : (c : tie.In-entries Inv-entries μ-entries Inv-users μ-users)
+    → NextOwned (now (c .before .before .before .before .before .before .before .before .before .before .before .before .before .before .before .before .before .before .before .args .book))
+    (c .before .before .before .before .before .before .before .before .before .before .before .before .before .before .users .i) (c .before .entries .e + 1)
+    (getD (c .before .before .before .before .before .before .before .before .before .before .before .before .before .before .before .before .by-owner .result .later) (c .before .entries .e) 0)
 entry-next c =
     let a = c .before .before .before .before .before .before .before .before .before .before .before .before .before .before in
     let l = c .before in
     let some = e-some (l .entries .e) (l .entries .bad) (c .entries-test .taken) .0 in
-    a .before .before .by-owner .ensures .later (a .users .i) (l .entries .e) (place (c .before .before .before .before .before .before .before .before .before .before .before .before .before) .0) (l .entries .inv .1 .here some)
+    a .before .before .by-owner .ensures .later (a .users .i) (l .entries .e) (place (c .before .before .before .before .before .before .before .before .before .before .before .before .before) .0)
+    (l .entries .inv .1 .here some)
 
 entries-less : tie.Need-entries-less Inv-entries μ-entries Inv-users μ-users
 entries-less c =
@@ -221,20 +247,24 @@ users-again c =
     let bad = a .users .bad in
     let b = now (a .before .before .before .before .before .args .book) in
     let user = sym (c .before .is-user .ensures) in
-    let is = a .users .inv .1 .0 in
-    let to = a .users .inv .0 .1 .1 in
-    let before = a .users .inv .1 .1 .0 in
-    let homes = a .users .inv .1 .1 .1 in
+    let is = a .users .inv .is in
+    let to = a .users .inv .most in
+    let homes = a .users .inv .homes in
     let below = under (c .before .before) in
     ⊎-elim
     (λ w.
     let number = ap (λ (n : UserNumber). n .0) (w .1 .ensures) in
     let same : c .if2 .bad ≡ bad = w .13 ∙ w .9 .inv .0 in
     let here = home-user b bad i (user ∙ w .0 .taken) (sym (w .6 .ensures) ∙ not-false _ (w .7 .left)) (entries-ended b bad i (w .9 .e) (w .9 .inv .1) (rw (w .9 .inv .0) at (w .10 .left))) in
-    rw (w .11, w .12, same) (
-      (search needs, (omega (arith, below), to)),
-      (is, ((w .3 .ensures .0 ∙ before .0, seen-next b i (a .users .all-seen) (w .3 .result) (before .1) number (w .3 .ensures .1)), homes-next b bad i homes here)),
-    ))
+    rw (w .11, w .12, same) (record {
+      from = search needs;
+      before = omega (arith, below);
+      most = to;
+      is = is;
+      long = w .3 .ensures .size ∙ a .users .inv .long;
+      seen = seen-next b i (a .users .all-seen) (w .3 .result) (a .users .inv .seen) number (w .3 .ensures .inserted);
+      homes = homes-next b bad i homes here;
+    }))
     (⊎-elim
     (λ w.
     let number = ap (λ (n : UserNumber). n .0) (w .1 .ensures) in
@@ -245,21 +275,26 @@ users-again c =
     let behind = entry-after b bad i e homes is-user (met .here (test .0)) in
     let inside = entry-place b bad i e met (test .0) in
     let here = home-user b e i is-user (sym (w .6 .ensures) ∙ not-false _ (w .7 .left)) (entries-left b bad i e met (test .0) e (omega (arith, test .1)) (omega arith)) in
-    rw (w .13, w .14, w .15) (
-      (search needs, (omega (arith, behind), omega (arith, to, test .1))),
-      (
-        bad-here b e (inside .0) (inside .1) (sym (w .11 .ensures) ∙ not-true _ (w .12 .taken)),
-        (
-          (w .3 .ensures .0 ∙ before .0, seen-next b i (a .users .all-seen) (w .3 .result) (before .1) number (w .3 .ensures .1)),
-          homes-next b e i (homes-sooner b bad e i (omega (arith, test .1)) homes) here,
-        ),
-      ),
-    ))
+    rw (w .13, w .14, w .15) (record {
+      from = search needs;
+      before = omega (arith, behind);
+      most = omega (arith, to, test .1);
+      is = bad-here b e (inside .0) (inside .1) (sym (w .11 .ensures) ∙ not-true _ (w .12 .taken));
+      long = w .3 .ensures .size ∙ a .users .inv .long;
+      seen = seen-next b i (a .users .all-seen) (w .3 .result) (a .users .inv .seen) number (w .3 .ensures .inserted);
+      homes = homes-next b e i (homes-sooner b bad e i (omega (arith, test .1)) homes) here;
+    }))
     (λ w.
-    rw (w .3, w .4, w .5) (
-      (search needs, (omega (arith, below), to)),
-      (is, ((before .0, λ all. seen-other b i (user ∙ w .0 .left) (before .1 all)), homes-next b bad i homes (home-other b bad i (user ∙ w .0 .left) (sym (w .1 .ensures) ∙ not-false _ (w .2 .left))))),
-    )))
+    rw (w .3, w .4, w .5) (record {
+      from = search needs;
+      before = omega (arith, below);
+      most = to;
+      is = is;
+      long = a .users .inv .long;
+      seen = λ all. seen-other b i (user ∙ w .0 .left) (a .users .inv .seen all);
+      homes = homes-next b bad i homes
+          (home-other b bad i (user ∙ w .0 .left) (sym (w .1 .ensures) ∙ not-false _ (w .2 .left)));
+    })))
     (c .if2 .came)
 
 -- by the way that the loops were left
@@ -268,15 +303,16 @@ returns c =
     let a = c .before in
     let inv = a .users .inv in
     let records = a .before .used .ensures in
-    let to = inv .1 .0 .to in
-    judged (now (a .before .before .before .before .before .args .book)) (a .users .bad) (a .users .i) (omega (arith, inv .0 .1 .0, to)) (omega (arith, to, records, c .users-test .left)) (inv .1 .0) (inv .1 .1 .1)
+    let to = inv .is .to in
+    judged (now (a .before .before .before .before .before .args .book)) (a .users .bad) (a .users .i) (omega (arith, inv .before, to)) (omega (arith, to, records, c .users-test .left)) (inv .is)
+    (inv .homes)
 
 returns-2 : tie.Need-returns-2 Inv-entries μ-entries Inv-users μ-users
 returns-2 c =
     let a = c .before .before in
     let inv = a .users .inv in
-    let to = inv .1 .0 .to in
-    judged (now (a .before .before .before .before .before .args .book)) (a .users .bad) (a .users .i) (omega (arith, inv .0 .1 .0, to)) (omega (arith, c .if1 .taken)) (inv .1 .0) (inv .1 .1 .1)
+    let to = inv .is .to in
+    judged (now (a .before .before .before .before .before .args .book)) (a .users .bad) (a .users .i) (omega (arith, inv .before, to)) (omega (arith, c .if1 .taken)) (inv .is) (inv .homes)
 
 returns-3 : tie.Need-returns-3 Inv-entries μ-entries Inv-users μ-users
 returns-3 c =
@@ -287,7 +323,7 @@ returns-3 c =
     let i = a .users .i in
     let at = place u .0 in
     let bad = sym (c .before .good-record .ensures) ∙ not-true _ (c .if3 .taken) in
-    judged b i i (omega (arith, at)) (omega arith) (bad-here b i (inv .0 .0) at bad) (homes-sooner b (a .users .bad) i i (inv .0 .1 .0) (inv .1 .1 .1))
+    judged b i i (omega (arith, at)) (omega arith) (bad-here b i (inv .from) at bad) (homes-sooner b (a .users .bad) i i (inv .before) (inv .homes))
 
 returns-4 : tie.Need-returns-4 Inv-entries μ-entries Inv-users μ-users
 returns-4 c =
@@ -297,8 +333,8 @@ returns-4 c =
     let b = now (a .before .before .before .before .before .args .book) in
     let i = a .users .i in
     let at = place u .0 in
-    let bad = stray-bad b i (inv .0 .0) at (sym (c .before .before .before .is-user .ensures) ∙ c .before .before .if2 .left) (sym (c .before .owned .ensures) ∙ not-true _ (c .if5 .taken)) in
-    judged b i i (omega (arith, at)) (omega arith) (bad-here b i (inv .0 .0) at bad) (homes-sooner b (a .users .bad) i i (inv .0 .1 .0) (inv .1 .1 .1))
+    let bad = stray-bad b i (inv .from) at (sym (c .before .before .before .is-user .ensures) ∙ c .before .before .if2 .left) (sym (c .before .owned .ensures) ∙ not-true _ (c .if5 .taken)) in
+    judged b i i (omega (arith, at)) (omega arith) (bad-here b i (inv .from) at bad) (homes-sooner b (a .users .bad) i i (inv .before) (inv .homes))
 
 pub faulty-record-spec : {M : Type 1} → statement M
 faulty-record-spec =

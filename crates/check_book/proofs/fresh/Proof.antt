@@ -12,6 +12,7 @@ use lib.ListN.{length, set, drop, replicate, length-set, drop-of-length-le}
 use Rattle.check_book.specs.Verdicts.{freshAnswer, freshAfter}
 use Rattle.book_rules.proofs.Lengths.{length-least}
 use borrow.Author.Needs.{needs}
+use Rattle.units.proofs.Filled.{Written}
 use Rattle.check_book.proofs.fresh.Statement.{statement}
 use Rattle.check_book.proofs.fresh.Tie as tie
 
@@ -30,7 +31,7 @@ cleared b book k p e f =
     ∙ all-zero (length b) p
 
 abbrev Inv-loop : tie.InvT-loop
-Inv-loop book₀ k₀ k-end book k = (k ≤ length book₀) × ((length book ≡ length book₀) × (book ≡ replicate k 0 ++ drop k book₀))
+Inv-loop book₀ k₀ k-end book k = Written (length book₀) k book₀ book (replicate k 0 ++ drop k book₀)
 
 abbrev μ-loop : tie.MeasureT-loop
 μ-loop book₀ k₀ k-end book k = length book₀ - k
@@ -49,7 +50,7 @@ returns c =
     (rw unfit, rw unfit)
 
 loop-holds : tie.Need-loop-holds Inv-loop μ-loop
-loop-holds c = (search needs, (refl, fill-none (now (c .before .before .before .before .args .book)) 0))
+loop-holds c = record { within = search needs; same = refl; written = fill-none (now (c .before .before .before .before .args .book)) 0 }
 
 slice-write-book : tie.Need-slice-write-book Inv-loop μ-loop
 slice-write-book c = search needs
@@ -64,16 +65,20 @@ loop-again : tie.Need-loop-again Inv-loop μ-loop
 loop-again c =
     let l = c .before .loop in
     let b = now (c .before .before .before .before .before .before .args .book) in
-    (search needs, (simp length-set (l .inv .1 .0), ap (λ (s : List ℕ). set s (l .k) 0) (l .inv .1 .1) ∙ fill-more (l .k) 0 b (search needs)))
+    record {
+      within = search needs;
+      same = simp length-set (l .inv .same);
+      written = ap (λ (s : List ℕ). set s (l .k) 0) (l .inv .written) ∙ fill-more (l .k) 0 b (search needs);
+    }
 
 slice-write-book-2 : tie.Need-slice-write-book-2 Inv-loop μ-loop
 slice-write-book-2 c =
     let s = c .before .before in
     let b = now (s .before .before .before .before .args .book) in
-    omega (arith, c .before .loop .inv .1 .0, length-least b (sym (s .before .length-fits .ensures) ∙ not-false _ (s .if1 .left)))
+    omega (arith, c .before .loop .inv .same, length-least b (sym (s .before .length-fits .ensures) ∙ not-false _ (s .if1 .left)))
 
 same-length-2 : tie.Need-same-length-2 Inv-loop μ-loop
-same-length-2 c = simp length-set (c .before .loop .inv .1 .0)
+same-length-2 c = simp length-set (c .before .loop .inv .same)
 
 returns-2 : tie.Need-returns-2 Inv-loop μ-loop
 unfolding freshAnswer freshAfter
@@ -83,7 +88,7 @@ returns-2 c =
     let b = now (s .before .before .before .before .args .book) in
     let fit : lengthFits b ≡ true = sym (s .before .length-fits .ensures) ∙ not-false _ (s .if1 .left) in
     let end : l .k ≡ length b = omega arith in
-    (rw fit, rw fit (cleared b (l .book) (l .k) (omega (arith, length-least b fit)) end (l .inv .1 .1)))
+    (rw fit, rw fit (cleared b (l .book) (l .k) (omega (arith, length-least b fit)) end (l .inv .written)))
 
 pub fresh-spec : {M : Type 1} → statement M
 fresh-spec =

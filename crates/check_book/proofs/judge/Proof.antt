@@ -43,8 +43,10 @@ find-user-requires c κs = search needs
 returns-2 : tie.Need-returns-2
 returns-2 c =
     let f = c .before .before .before .before in
-    let s = f .before .before in
-    (accepted (now (s .args .book)) (s .pre .0) (s .pre .1 .0) (s .pre .1 .1 .0) _ (f .faulty-record .ensures) (omega (arith, c .before .if1 .left, c .before .before .before .used .ensures)), c .find-user .ensures)
+    let s = f .before .before in (
+      accepted (now (s .args .book)) (s .pre .0) (s .pre .1 .0) (s .pre .1 .1 .0) _ (f .faulty-record .ensures) (omega (arith, c .before .if1 .left, c .before .before .before .used .ensures)),
+      c .find-user .ensures,
+    )
 
 pub judge-spec : {M : Type 1} → statement M
 judge-spec =

@@ -1,4 +1,4 @@
--- The rule, test by test.
+-- `owned` is held to `isEntry`: the rule, test by test.
 use borrow.Author.Needs.{needs}
 use Rattle.check_book.proofs.owned.Statement.{statement}
 use Rattle.check_book.proofs.owned.Tie as tie

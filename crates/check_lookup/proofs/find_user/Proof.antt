@@ -1,4 +1,4 @@
--- From the last record down.
+-- `find_user` is held to `findUser`: from the last record down.
 use native.Mathlib.Omega.{arith}
 use denote.Ref.{now}
 use Rattle.check_lookup.proofs.Search.{Searched, search-begins, found-here, search-on, found-nowhere}

@@ -32,7 +32,7 @@ start-of-requires : tie.Need-start-of-requires Inv-loop2 μ-loop2 Inv-loop μ-lo
 start-of-requires c κs = rw (c .before .before .loop .inv .same) (c .before .before .before .before .pre .0)
 
 loop2-holds : tie.Need-loop2-holds Inv-loop2 μ-loop2 Inv-loop μ-loop
-loop2-holds c = first-step (c .before .before .before .loop .inv) (c .before .remix .ensures) (c .start-of .ensures .0) (c .start-of .ensures .1)
+loop2-holds c = first-step (c .before .before .before .loop .inv) (c .before .remix .ensures) (c .start-of .ensures .is) (c .start-of .ensures .within)
 
 mul-there : tie.Need-mul-there Inv-loop2 μ-loop2 Inv-loop μ-loop
 mul-there c = omega (arith, length-kept (c .before .before .before .before .before .loop .inv) (c .before .loop2 .inv))
@@ -58,7 +58,10 @@ returns c =
     let l = c .before .before .before in
     let b = l .before .before .before .before .loop .inv in
     let start = l .before .before .before .before .before .before in
-    (rw length-set (length-kept b (l .loop2 .inv)), λ r. put-at-step b (l .loop2 .inv) (search needs) (start .pre .1) (c .if1 .taken))
+    record {
+      size = rw length-set (length-kept b (l .loop2 .inv));
+      inserted = λ r. put-at-step b (l .loop2 .inv) (search needs) (start .pre .1) (c .if1 .taken);
+    }
 
 same-length-2 : tie.Need-same-length-2 Inv-loop2 μ-loop2 Inv-loop μ-loop
 same-length-2 c = search needs
@@ -66,7 +69,7 @@ same-length-2 c = search needs
 returns-2 : tie.Need-returns-2 Inv-loop2 μ-loop2 Inv-loop μ-loop
 returns-2 c =
     let l = c .before .before .before .before .before in
-    (length-kept (l .before .before .before .before .loop .inv) (l .loop2 .inv), λ r. absurd (false≢true r))
+    record { size = length-kept (l .before .before .before .before .loop .inv) (l .loop2 .inv); inserted = λ r. absurd (false≢true r) }
 
 place-after-requires : tie.Need-place-after-requires Inv-loop2 μ-loop2 Inv-loop μ-loop
 place-after-requires c κs = search needs
@@ -81,7 +84,7 @@ loop2-again : tie.Need-loop2-again Inv-loop2 μ-loop2 Inv-loop μ-loop
 loop2-again c =
     let l = c .before .before .before .before .before .before in
     let after = c .place-after .ensures in
-    next-step (l .loop2 .inv) (search needs) (after .0) (after .1) (c .before .before .before .if1 .left) (c .before .if2 .left)
+    next-step (l .loop2 .inv) (search needs) (after .is) (after .within) (c .before .before .before .if1 .left) (c .before .if2 .left)
 
 add-run : tie.Need-add-run Inv-loop2 μ-loop2 Inv-loop μ-loop
 add-run c = search needs
@@ -98,7 +101,7 @@ same-length-3 : tie.Need-same-length-3 Inv-loop2 μ-loop2 Inv-loop μ-loop
 same-length-3 c = search needs
 
 returns-3 : tie.Need-returns-3 Inv-loop2 μ-loop2 Inv-loop μ-loop
-returns-3 c = (ap length (c .before .loop .inv .same), λ r. absurd (false≢true r))
+returns-3 c = record { size = ap length (c .before .loop .inv .same); inserted = λ r. absurd (false≢true r) }
 
 pub insert-spec : {M : Type 1} → statement M
 insert-spec =

@@ -14,12 +14,12 @@ add-result : tie.Need-add-result
 add-result c = search needs
 
 returns : tie.Need-returns
-returns c = (sym (mod-eq-of-lt (c .if1 .taken)), search needs)
+returns c = record { is = sym (mod-eq-of-lt (c .if1 .taken)); within = search needs }
 
 returns-2 : tie.Need-returns-2
 returns-2 c =
     let all : c .before .args .at + 1 ≡ c .before .args .places = omega arith in
-    (rw (all, mod-self), search needs)
+    record { is = rw (all, mod-self); within = search needs }
 
 pub place-after-spec : {M : Type 1} → statement M
 place-after-spec = tie.close (tie.spec add-if1 add-result returns returns-2)

@@ -19,7 +19,7 @@ unfolding startOf
 returns c =
     let s = c .before .before .args in
     let least : c .before .if1 .starts ≡ min (s .places) word = ⊎-elim (λ w. omega arith) (λ w. omega arith) (c .before .if1 .came) in
-    rw least (refl, start-inside (s .places) (search needs) (search needs))
+    rw least (record { is = refl; within = start-inside (s .places) (search needs) (search needs) })
 
 pub start-of-spec : {M : Type 1} → statement M
 start-of-spec = tie.close (tie.spec mul-result returns)

@@ -38,9 +38,14 @@ module _ (b : List ℕ) (n : ℕ) {r : List ℕ} (whole : r ≡ recordAt b n) wh
 one-down : (b : List ℕ) (left : ℕ) (firsts laters : List ℕ) → 1 < left → LinkedFrom b left firsts laters → LinkedFrom b (left - 1 + 1) firsts laters
 one-down b left firsts laters some linked = let same : left ≡ left - 1 + 1 = omega arith in subst (λ n. LinkedFrom b n firsts laters) same linked
 
+record Linking (book : List ℕ) (records : ℕ) (first later : List ℕ) (left : ℕ) : Type 0 where
+  pub within : left ≤ records
+  pub firsts : length first ≡ mostRecords
+  pub laters : length later ≡ mostRecords
+  pub linked : LinkedFrom book left first later
+
 abbrev Inv-loop : tie.InvT-loop
-Inv-loop book first₀ later₀ records left₀ first later left =
-    (left ≤ records) × (((length first ≡ mostRecords) × (length later ≡ mostRecords)) × LinkedFrom book left first later)
+Inv-loop book first₀ later₀ records left₀ first later left = Linking book records first later left
 
 abbrev μ-loop : tie.MeasureT-loop
 μ-loop book first₀ later₀ records left₀ first later left = left
@@ -69,7 +74,7 @@ used-requires c κs = search needs
 loop-holds : tie.Need-loop-holds Inv-loop μ-loop
 loop-holds c =
     let s = c .before .before in
-    (search needs, ((refl, refl), linked-none (now (s .args .book)) _ _ (c .used .ensures) (s .pre .0)))
+    record { within = search needs; firsts = refl; laters = refl; linked = linked-none (now (s .args .book)) _ _ (c .used .ensures) (s .pre .0) }
 
 sub-e : tie.Need-sub-e Inv-loop μ-loop
 sub-e c = search needs
@@ -129,9 +134,13 @@ loop-again c =
     let b = now (l .before .before .before .args .book) in
     let f = found-here c in
     let is = read-here (c .before) in
-    let sizes = l .loop .inv .1 .0 in
-    let linked = one-down b (l .loop .left) _ _ (t .loop-test .taken) (l .loop .inv .1 .1) in
-    (search needs, ((simp length-set (sizes .0), simp length-set (sizes .1)), linked-entry b (l .loop .left - 1) linked (sym (is .0) ∙ f .0) (is .1) (omega arith) (omega arith)))
+    let linked = one-down b (l .loop .left) _ _ (t .loop-test .taken) (l .loop .inv .linked) in
+    record {
+      within = search needs;
+      firsts = simp length-set (l .loop .inv .firsts);
+      laters = simp length-set (l .loop .inv .laters);
+      linked = linked-entry b (l .loop .left - 1) linked (sym (is .0) ∙ f .0) (is .1) (omega arith) (omega arith);
+    }
 
 loop-less-2 : tie.Need-loop-less-2 Inv-loop μ-loop
 loop-less-2 c = search needs
@@ -142,13 +151,18 @@ loop-again-2 c =
     let l = t .before in
     let b = now (l .before .before .before .args .book) in
     let is = read-here (c .before) in
-    let linked = one-down b (l .loop .left) _ _ (t .loop-test .taken) (l .loop .inv .1 .1) in
-    (search needs, (l .loop .inv .1 .0, linked-other b (l .loop .left - 1) linked (is .0) (is .1) (l .before .used .ensures) (c .if1 .left)))
+    let linked = one-down b (l .loop .left) _ _ (t .loop-test .taken) (l .loop .inv .linked) in
+    record {
+      within = search needs;
+      firsts = l .loop .inv .firsts;
+      laters = l .loop .inv .laters;
+      linked = linked-other b (l .loop .left - 1) linked (is .0) (is .1) (l .before .used .ensures) (c .if1 .left);
+    }
 
 returns : tie.Need-returns Inv-loop μ-loop
 returns c =
     let l = c .before in
-    linked-all (now (l .before .before .before .args .book)) (l .loop .left) _ (omega (arith, c .loop-test .left)) (l .loop .inv .1 .1)
+    linked-all (now (l .before .before .before .args .book)) (l .loop .left) _ (omega (arith, c .loop-test .left)) (l .loop .inv .linked)
 
 pub by-owner-spec : {M : Type 1} → statement M
 by-owner-spec =

@@ -1,4 +1,4 @@
--- By whether a state is known.
+-- `entry_due` is held to `entryDue`: by whether a state is known.
 use borrow.Author.Tests.{eq-eqb, ne-eqb}
 use Rattle.check_pass.specs.InnerSteps.{entryDue}
 use borrow.Author.Needs.{needs}

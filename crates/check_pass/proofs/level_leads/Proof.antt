@@ -1,4 +1,4 @@
--- From the answers to the tests.
+-- `level_leads` is held to `EntryLeads`: from the answers to the tests.
 use native.Mathlib.Omega.{arith}
 use denote.Ref.{now}
 use Rattle.book_layout.specs.Fields.{get, kindField}

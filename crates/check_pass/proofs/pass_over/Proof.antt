@@ -1,4 +1,4 @@
--- From the last record down.
+-- `pass_over` is held to `PassedOver`: from the last record down.
 use Prim.Native.Nat.{ℕ, _+_, _-_, _≤_, _<_}
 use mathlib.Core.Path.{_≡_, sym, ap, _∙_}
 use mathlib.Core.Bool.{true, false, _||_, _&&_, false≢true}
@@ -66,12 +66,6 @@ stated c =
     let s = c .before .before .before .before .before .before .before .before in
     counted (now (s .args .book)) (c .before .loop .inv) (c .before .loop .left - 1) (at c .0) (at c .1) (s .pre .1 .1 .1 .0 .room)
 
--- the tables keep their sizes
-kept : (c : tie.In-loop Inv-loop μ-loop)
-    → (length (c .before .loop .states) ≡ length (now (c .before .before .before .before .before .before .before .before .args .states)))
-    × (length (c .before .loop .seen) ≡ length (now (c .before .before .before .before .before .before .before .before .args .seen)))
-kept c = (c .before .loop .inv .states-size, c .before .loop .inv .seen-size)
-
 sub-last : tie.Need-sub-last Inv-loop μ-loop
 sub-last c = search needs
 
@@ -93,9 +87,12 @@ user-record-fits-requires c κs =
     whole (now (s .args .book)) (t .before .loop .inv) (t .before .loop .left - 1) (at t .0) (at t .1) (s .pre .1 .0) (c .before .before .whole-record .ensures)
 
 -- the rules of a user, as tested
-user-rules : (c : tie.After-user-record-fits Inv-loop μ-loop) → ownRulesFit (now (c .before .before .before .before .before .before .before .before .before .before .before .before .args .book)) (c .before .before .before .before .before .loop .left - 1) ≡ c .user-record-fits .result
+user-rules : (c : tie.After-user-record-fits Inv-loop μ-loop)
+    → ownRulesFit (now (c .before .before .before .before .before .before .before .before .before .before .before .before .args .book)) (c .before .before .before .before .before .loop .left - 1)
+    ≡ c .user-record-fits .result
 user-rules c =
-    user-own (now (c .before .before .before .before .before .before .before .before .before .before .before .before .args .book)) (c .before .before .before .before .before .loop .left - 1) (c .before .before .before .whole-record .ensures) (c .before .before .kind-of .ensures) (c .before .if1 .taken) ∙ sym (c .user-record-fits .ensures)
+    user-own (now (c .before .before .before .before .before .before .before .before .before .before .before .before .args .book)) (c .before .before .before .before .before .loop .left - 1)
+    (c .before .before .before .whole-record .ensures) (c .before .before .kind-of .ensures) (c .before .if1 .taken) ∙ sym (c .user-record-fits .ensures)
 
 cast-state : tie.Need-cast-state Inv-loop μ-loop
 cast-state c = search needs
@@ -115,7 +112,8 @@ number-of-requires c κs = search needs
 insert-requires : tie.Need-insert-requires Inv-loop μ-loop
 insert-requires c κs =
     let u = c .before .before .before .before .before in
-    let some = number-some (now (c .before .before .before .before .before .before .before .before .whole-record .result)) (sym (u .user-record-fits .ensures) ∙ c .before .before .before .before .if2 .taken) in
+    let some = number-some (now (c .before .before .before .before .before .before .before .before .whole-record .result))
+    (sym (u .user-record-fits .ensures) ∙ c .before .before .before .before .if2 .taken) in
     let size = c .before .before .before .before .before .before .before .before .before .before .loop .inv .seen-size in
     let room = c .before .before .before .before .before .before .before .before .before .before .before .before .before .before .before .before .before .pre .1 .1 .1 .0 .places in
     (omega arith, omega (arith, ap (λ (i : UserNumber). i .0) (c .before .number-of .ensures)))
@@ -127,12 +125,18 @@ same-length : tie.Need-same-length Inv-loop μ-loop
 same-length c = c .before .before .before .before .before .before .before .before .before .before .before .before .before .before .before .before .loop .inv .states-size
 
 same-length-2 : tie.Need-same-length-2 Inv-loop μ-loop
-same-length-2 c = c .before .before .before .before .before .insert .ensures .0 ∙ c .before .before .before .before .before .before .before .before .before .before .before .before .before .before .before .before .loop .inv .seen-size
+same-length-2 c =
+    c .before .before .before .before .before .insert .ensures .size
+    ∙ c .before .before .before .before .before .before .before .before .before .before .before .before .before .before .before .before .loop .inv .seen-size
 
 returns : tie.Need-returns Inv-loop μ-loop
 returns c =
-    let t = c .before .before .before .before .before .before .before .before .before .before .before .before .before .before .before in
-    (parted (now (t .before .before .before .before .before .before .before .before .args .book)) (t .before .loop .inv) (t .before .loop .left - 1) (at t .0) (at t .1) (c .before .if4 .taken) (c .apart .ensures), (t .before .loop .inv .states-size, c .before .before .before .before .before .insert .ensures .0 ∙ t .before .loop .inv .seen-size))
+    let t = c .before .before .before .before .before .before .before .before .before .before .before .before .before .before .before in record {
+      said = parted (now (t .before .before .before .before .before .before .before .before .args .book)) (t .before .loop .inv) (t .before .loop .left - 1) (at t .0) (at t .1) (c .before .if4 .taken)
+          (c .apart .ensures);
+      states-size = t .before .loop .inv .states-size;
+      seen-size = c .before .before .before .before .before .insert .ensures .size ∙ t .before .loop .inv .seen-size;
+    }
 
 last-met-requires : tie.Need-last-met-requires Inv-loop μ-loop
 last-met-requires c κs = search needs
@@ -151,8 +155,12 @@ same-length-4 c = c .before .before .before .before .before .before .before .bef
 
 returns-2 : tie.Need-returns-2 Inv-loop μ-loop
 returns-2 c =
-    let t = c .before .before .before .before .before .before .before in
-    (parted (now (t .before .before .before .before .before .before .before .before .args .book)) (t .before .loop .inv) (t .before .loop .left - 1) (at t .0) (at t .1) (c .before .if5 .taken) (c .apart2 .ensures), kept t)
+    let t = c .before .before .before .before .before .before .before in record {
+      said = parted (now (t .before .before .before .before .before .before .before .before .args .book)) (t .before .loop .inv) (t .before .loop .left - 1) (at t .0) (at t .1) (c .before .if5 .taken)
+          (c .apart2 .ensures);
+      states-size = t .before .loop .inv .states-size;
+      seen-size = t .before .loop .inv .seen-size;
+    }
 
 owner-of-requires : tie.Need-owner-of-requires Inv-loop μ-loop
 owner-of-requires c κs = search needs
@@ -168,14 +176,19 @@ same-length-6 c = c .before .before .before .before .before .before .before .bef
 
 returns-3 : tie.Need-returns-3 Inv-loop μ-loop
 returns-3 c =
-    let t = c .before .before .before .before .before .before .before .before .before in
-    (parted (now (t .before .before .before .before .before .before .before .before .args .book)) (t .before .loop .inv) (t .before .loop .left - 1) (at t .0) (at t .1) (c .before .if7 .taken) (c .apart3 .ensures), kept t)
+    let t = c .before .before .before .before .before .before .before .before .before in record {
+      said = parted (now (t .before .before .before .before .before .before .before .before .args .book)) (t .before .loop .inv) (t .before .loop .left - 1) (at t .0) (at t .1) (c .before .if7 .taken)
+          (c .apart3 .ensures);
+      states-size = t .before .loop .inv .states-size;
+      seen-size = t .before .loop .inv .seen-size;
+    }
 
 cast-whole-record-2 : tie.Need-cast-whole-record-2 Inv-loop μ-loop
 cast-whole-record-2 c = search needs
 
 -- the owner has its places too
-home-place : (c : tie.Else6 Inv-loop μ-loop) → (1 ≤ c .before .before .before .owner-of .result .0) × (c .before .before .before .owner-of .result .0 < c .before .before .before .before .before .before .before .before .loop .left - 1)
+home-place : (c : tie.Else6 Inv-loop μ-loop)
+    → (1 ≤ c .before .before .before .owner-of .result .0) × (c .before .before .before .owner-of .result .0 < c .before .before .before .before .before .before .before .before .loop .left - 1)
 home-place c = below (c .before .before .before .owner-of .result .0) (c .before .before .before .before .before .before .before .before .loop .left - 1) (c .if6 .left)
 
 home-small : (c : tie.Else6 Inv-loop μ-loop) → c .before .before .before .owner-of .result .0 < mostRecords
@@ -192,12 +205,18 @@ entry-record-fits-requires : tie.Need-entry-record-fits-requires Inv-loop μ-loo
 entry-record-fits-requires c κs =
     let t = c .before .before .before .before .before .before .before .before .before in
     let s = t .before .before .before .before .before .before .before .before in
-    whole (now (s .args .book)) (t .before .loop .inv) (t .before .loop .left - 1) (at t .0) (at t .1) (s .pre .1 .0) (c .before .before .before .before .before .before .before .before .whole-record .ensures)
+    whole (now (s .args .book)) (t .before .loop .inv) (t .before .loop .left - 1) (at t .0) (at t .1) (s .pre .1 .0)
+    (c .before .before .before .before .before .before .before .before .whole-record .ensures)
 
 -- the rules of an entry, as tested
-entry-rules : (c : tie.After-entry-record-fits Inv-loop μ-loop) → ownRulesFit (now (c .before .before .before .before .before .before .before .before .before .before .before .before .before .before .before .before .before .before .args .book)) (c .before .before .before .before .before .before .before .before .before .before .before .loop .left - 1) ≡ c .entry-record-fits .result
+entry-rules : (c : tie.After-entry-record-fits Inv-loop μ-loop)
+    → ownRulesFit (now (c .before .before .before .before .before .before .before .before .before .before .before .before .before .before .before .before .before .before .args .book))
+    (c .before .before .before .before .before .before .before .before .before .before .before .loop .left - 1) ≡ c .entry-record-fits .result
 entry-rules c =
-    entry-own (now (c .before .before .before .before .before .before .before .before .before .before .before .before .before .before .before .before .before .before .args .book)) (c .before .before .before .before .before .before .before .before .before .before .before .loop .left - 1) (c .before .before .before .before .before .before .before .before .before .whole-record .ensures) (c .before .before .before .before .before .before .before .before .kind-of .ensures) (c .before .before .before .before .before .before .before .if1 .left)
+    entry-own (now (c .before .before .before .before .before .before .before .before .before .before .before .before .before .before .before .before .before .before .args .book))
+    (c .before .before .before .before .before .before .before .before .before .before .before .loop .left - 1)
+    (c .before .before .before .before .before .before .before .before .before .whole-record .ensures) (c .before .before .before .before .before .before .before .before .kind-of .ensures)
+    (c .before .before .before .before .before .before .before .if1 .left)
     (ap (λ (k : RecordIndex). k .0) (c .before .before .before .before .before .before .owner-of .ensures)) (c .before .whole-record2 .ensures) ∙ sym (c .entry-record-fits .ensures)
 
 cast-state-2 : tie.Need-cast-state-2 Inv-loop μ-loop
@@ -207,7 +226,9 @@ mul-state-2 : tie.Need-mul-state-2 Inv-loop μ-loop
 mul-state-2 c = omega (arith, home-small (c .before .before .before .before .before))
 
 slice-read-state-2 : tie.Need-slice-read-state-2 Inv-loop μ-loop
-slice-read-state-2 c = let h = home-place (c .before .before .before .before .before .before) in omega (arith, stated (c .before .before .before .before .before .before .before .before .before .before .before .before .before))
+slice-read-state-2 c =
+    let h = home-place (c .before .before .before .before .before .before) in omega
+    (arith, stated (c .before .before .before .before .before .before .before .before .before .before .before .before .before))
 
 entry-leads-requires : tie.Need-entry-leads-requires Inv-loop μ-loop
 entry-leads-requires c κs = search needs
@@ -228,7 +249,9 @@ mul-states : tie.Need-mul-states Inv-loop μ-loop
 mul-states c = omega (arith, home-small (c .before .before .before .before .before .before .before .before .before .before .before))
 
 slice-write-states : tie.Need-slice-write-states Inv-loop μ-loop
-slice-write-states c = let h = home-place (c .before .before .before .before .before .before .before .before .before .before .before) in omega (arith, stated (c .before .before .before .before .before .before .before .before .before .before .before .before .before .before .before .before .before .before))
+slice-write-states c =
+    let h = home-place (c .before .before .before .before .before .before .before .before .before .before .before) in omega
+    (arith, stated (c .before .before .before .before .before .before .before .before .before .before .before .before .before .before .before .before .before .before))
 
 apart-requires-4 : tie.Need-apart-requires-4 Inv-loop μ-loop
 apart-requires-4 c κs = search needs
@@ -241,8 +264,12 @@ same-length-8 c = c .before .before .before .before .before .before .before .bef
 
 returns-4 : tie.Need-returns-4 Inv-loop μ-loop
 returns-4 c =
-    let t = c .before .before .before .before .before .before .before .before .before .before .before .before .before .before .before .before .before in
-    (parted (now (t .before .before .before .before .before .before .before .before .args .book)) (t .before .loop .inv) (t .before .loop .left - 1) (at t .0) (at t .1) (c .before .if10 .taken) (c .apart4 .ensures), kept t)
+    let t = c .before .before .before .before .before .before .before .before .before .before .before .before .before .before .before .before .before in record {
+      said = parted (now (t .before .before .before .before .before .before .before .before .args .book)) (t .before .loop .inv) (t .before .loop .left - 1) (at t .0) (at t .1)
+          (c .before .if10 .taken) (c .apart4 .ensures);
+      states-size = t .before .loop .inv .states-size;
+      seen-size = t .before .loop .inv .seen-size;
+    }
 
 apart-requires-5 : tie.Need-apart-requires-5 Inv-loop μ-loop
 apart-requires-5 c κs = search needs
@@ -255,8 +282,12 @@ same-length-10 c = c .before .before .before .before .before .before .before .be
 
 returns-5 : tie.Need-returns-5 Inv-loop μ-loop
 returns-5 c =
-    let t = c .before .before .before .before .before .before .before .before .before .before .before .before .before in
-    (parted (now (t .before .before .before .before .before .before .before .before .args .book)) (t .before .loop .inv) (t .before .loop .left - 1) (at t .0) (at t .1) (c .before .if11 .taken) (c .apart5 .ensures), kept t)
+    let t = c .before .before .before .before .before .before .before .before .before .before .before .before .before in record {
+      said = parted (now (t .before .before .before .before .before .before .before .before .args .book)) (t .before .loop .inv) (t .before .loop .left - 1) (at t .0) (at t .1)
+          (c .before .if11 .taken) (c .apart5 .ensures);
+      states-size = t .before .loop .inv .states-size;
+      seen-size = t .before .loop .inv .seen-size;
+    }
 
 loop-less : tie.Need-loop-less Inv-loop μ-loop
 loop-less c = search needs
@@ -265,7 +296,8 @@ loop-again : tie.Need-loop-again Inv-loop μ-loop
 loop-again c =
     let t = c .before .before .before .before .before .before .before .before .before .before .before .before .before .before .before in
     let s = t .before .before .before .before .before .before .before .before in
-    let own = user-rules (c .before .before .before .before .before .before .before .before .before .before .before) ∙ c .before .before .before .before .before .before .before .before .before .before .if2 .taken in
+    let own = user-rules (c .before .before .before .before .before .before .before .before .before .before .before)
+    ∙ c .before .before .before .before .before .before .before .before .before .before .if2 .taken in
     let r = c .before .before .before .before .before .before .before .before .before .before .before .before .before .before .whole-record in
     let ins = c .before .before .before .before .before .insert in
     let leads = c .before .before .before .before .before .before .before .before .user-leads in
@@ -275,8 +307,10 @@ loop-again c =
     (λ w on. not-false (ins .result && leads .result) (w .left))
     (c .before .before .if3 .came) in
     rw (c .before .last-met .ensures)
-    (user-passed (now (s .args .book)) (t .before .loop .inv) (t .before .loop .left - 1) (at t .0) (at t .1) own (now (r .result)) (r .ensures) (c .before .before .before .before .before .before .before .before .before .before .before .before .before .kind-of .ensures)
-    (c .before .before .before .before .before .before .before .before .before .before .before .before .if1 .taken) (ap (λ (k : UserNumber). k .0) (c .before .before .before .before .before .before .before .number-of .ensures)) (ins .ensures .0 ∙ t .before .loop .inv .seen-size) (ins .ensures .1)
+    (user-passed (now (s .args .book)) (t .before .loop .inv) (t .before .loop .left - 1) (at t .0) (at t .1) own (now (r .result)) (r .ensures)
+    (c .before .before .before .before .before .before .before .before .before .before .before .before .before .kind-of .ensures)
+    (c .before .before .before .before .before .before .before .before .before .before .before .before .if1 .taken)
+    (ap (λ (k : UserNumber). k .0) (c .before .before .before .before .before .before .before .number-of .ensures)) (ins .ensures .size ∙ t .before .loop .inv .seen-size) (ins .ensures .inserted)
     (leads .ensures) led (ap (λ (k : RecordIndex). k .0) (c .next-of .ensures)))
 
 loop-less-2 : tie.Need-loop-less-2 Inv-loop μ-loop
@@ -299,7 +333,8 @@ loop-again-3 c =
     let i = t .before .loop .left - 1 in
     let home = ap (λ (k : RecordIndex). k .0) (c .before .before .before .before .owner-of .ensures) in
     broken-here b (t .before .loop .inv) i (at t .0) (at t .1) (c .if7 .left)
-    (owner-bad b i (c .before .before .before .before .before .before .before .whole-record .ensures) (c .before .before .before .before .before .before .kind-of .ensures) (c .before .before .before .before .before .if1 .left) home (c .before .if6 .taken))
+    (owner-bad b i (c .before .before .before .before .before .before .before .whole-record .ensures) (c .before .before .before .before .before .before .kind-of .ensures)
+    (c .before .before .before .before .before .if1 .left) home (c .before .if6 .taken))
 
 loop-less-4 : tie.Need-loop-less-4 Inv-loop μ-loop
 loop-less-4 c = search needs
@@ -313,7 +348,10 @@ loop-again-4 c =
     let owner = c .before .before .before .before .before .before .before .before .before .whole-record2 in
     let h = home-place (c .before .before .before .before .before .before .before .before .before .before .before) in
     entry-passed (now (s .args .book)) (t .before .loop .inv) (t .before .loop .left - 1) (at t .0) (at t .1) own (now (r .result)) (r .ensures) (s .pre .1 .1 .1 .0 .room)
-    (c .before .before .before .before .before .before .before .before .before .before .before .before .before .before .before .before .kind-of .ensures) (c .before .before .before .before .before .before .before .before .before .before .before .before .before .before .before .if1 .left) (ap (λ (k : RecordIndex). k .0) (c .before .before .before .before .before .before .before .before .before .before .before .before .before .before .owner-of .ensures)) (h .0) (h .1) (now (owner .result)) (owner .ensures)
+    (c .before .before .before .before .before .before .before .before .before .before .before .before .before .before .before .before .kind-of .ensures)
+    (c .before .before .before .before .before .before .before .before .before .before .before .before .before .before .before .if1 .left)
+    (ap (λ (k : RecordIndex). k .0) (c .before .before .before .before .before .before .before .before .before .before .before .before .before .before .owner-of .ensures)) (h .0) (h .1)
+    (now (owner .result)) (owner .ensures)
     (c .before .before .before .before .entry-leads .ensures (c .before .before .before .if9 .taken)) (c .before .state-after .ensures)
 
 loop-less-5 : tie.Need-loop-less-5 Inv-loop μ-loop
@@ -344,7 +382,11 @@ same-length-12 c = c .before .loop .inv .seen-size
 returns-6 : tie.Need-returns-6 Inv-loop μ-loop
 returns-6 c =
     let s = c .before .before .before .before .before .before .before .before in
-    (passed (now (s .args .book)) (c .before .loop .inv) (omega arith) (s .pre .1 .0) (s .pre .1 .1 .0), (c .before .loop .inv .states-size, c .before .loop .inv .seen-size))
+    record {
+      said = passed (now (s .args .book)) (c .before .loop .inv) (omega arith) (s .pre .1 .0) (s .pre .1 .1 .0);
+      states-size = c .before .loop .inv .states-size;
+      seen-size = c .before .loop .inv .seen-size;
+    }
 
 pub pass-over-spec : {M : Type 1} → statement M
 pass-over-spec =

@@ -26,12 +26,23 @@ same-length-2 c = search needs
 
 returns : tie.Need-returns
 returns c =
-    let said = c .before .before .before .before .before .before .before .pass-over .ensures .0 in
-    record { broken = said .ended (λ _. c .if1 .taken ∙ c .before .before .before .before .before .before .before .before .before .before .used .ensures); whole = said .whole }
+    let said = c .before .before .before .before .before .before .before .pass-over .ensures .said in
+    record {
+      broken = said .ended (λ _. c .if1 .taken ∙ c .before .before .before .before .before .before .before .before .before .before .used .ensures);
+      whole = said .whole;
+    }
 
 -- it was left before the last record of the book
-before-the-end : (c : tie.Else1) → c .before .before .before .before .before .before .before .pass-over .result .broken .0 < used (now (c .before .before .before .before .before .before .before .before .before .before .before .before .before .before .args .book))
-before-the-end c = let some = c .if1 .left in omega (arith, c .before .before .before .before .before .before .before .pass-over .ensures .0 .to, c .before .before .before .before .before .before .before .before .before .before .used .ensures, some)
+before-the-end : (c : tie.Else1)
+    → c .before .before .before .before .before .before .before .pass-over .result .broken .0 < used
+    (now (c .before .before .before .before .before .before .before .before .before .before .before .before .before .before .args .book))
+before-the-end c =
+    let some = c .if1 .left in omega (
+      arith,
+      c .before .before .before .before .before .before .before .pass-over .ensures .said .to,
+      c .before .before .before .before .before .before .before .before .before .before .used .ensures,
+      some,
+    )
 
 add-pass-over : tie.Need-add-pass-over
 add-pass-over c =
@@ -50,8 +61,12 @@ pass-over-requires-2 c κs =
         (
           p .1 .1 .0,
           (
-            record { room = omega (arith, room, said .1 .0); unknown = λ e. absurd (false≢true e); places = omega (arith, places, said .1 .1) },
-            λ _. said .0 .left refl (before-the-end (c .before .before .before)),
+            record {
+              room = omega (arith, room, said .states-size);
+              unknown = λ e. absurd (false≢true e);
+              places = omega (arith, places, said .seen-size);
+            },
+            λ _. said .said .left refl (before-the-end (c .before .before .before)),
           ),
         ),
       ),
@@ -65,7 +80,7 @@ same-length-4 c = search needs
 
 returns-2 : tie.Need-returns-2
 returns-2 c =
-    let said = c .before .before .before .before .pass-over2 .ensures .0 in
+    let said = c .before .before .before .before .pass-over2 .ensures .said in
     record { broken = said .ended (λ e. absurd (false≢true e)); whole = said .whole }
 
 pub pass-through-spec : {M : Type 1} → statement M

@@ -1,4 +1,4 @@
--- From the answers to the tests.
+-- `user_leads` is held to `UserLeads`: from the answers to the tests.
 use denote.Ref.{now}
 use Rattle.check_pass.proofs.Tests.{user-tests}
 use borrow.Author.Needs.{needs}

@@ -1,4 +1,4 @@
--- By whether a state is known.
+-- `year_due` is held to `yearDue`: by whether a state is known.
 use borrow.Author.Tests.{eq-eqb, ne-eqb}
 use Rattle.check_pass.specs.InnerSteps.{yearDue}
 use borrow.Author.Needs.{needs}

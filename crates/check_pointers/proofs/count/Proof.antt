@@ -48,12 +48,15 @@ element-write-counts c = search needs
 returns : tie.Need-returns
 returns c =
     let s = c .before .before .before in
-    (length-set (now (s .args .counts)) (s .args .pointer .0) _ ∙ s .pre .0, λ m h. counted (now (s .args .counts)) (s .args .pointer .0) m (omega arith))
+    record {
+      size = length-set (now (s .args .counts)) (s .args .pointer .0) _ ∙ s .pre .0;
+      counted = λ m h. counted (now (s .args .counts)) (s .args .pointer .0) m (omega arith);
+    }
 
 returns-2 : tie.Need-returns-2
 returns-2 c =
     let s = c .before .before in
-    (s .pre .0, λ m h. uncounted (now (s .args .counts)) (s .args .pointer .0) m (omega arith))
+    record { size = s .pre .0; counted = λ m h. uncounted (now (s .args .counts)) (s .args .pointer .0) m (omega arith) }
 
 pub count-spec : {M : Type 1} → statement M
 count-spec =

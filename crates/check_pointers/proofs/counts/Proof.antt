@@ -2,6 +2,7 @@
 use Prim.Native.Nat.{ℕ, _-_, _≤_, _<_}
 use mathlib.Core.Path.{_≡_, refl, ap, _∙_}
 use mathlib.Core.Logic.{⊎-elim}
+use mathlib.Core.List.{List}
 use denote.Ref.{now}
 use native.Mathlib.Omega.{arith}
 use lib.ListN.{length, getD, getD-replicate}
@@ -15,9 +16,14 @@ use borrow.Author.Needs.{needs}
 use Rattle.check_pointers.proofs.counts.Statement.{statement}
 use Rattle.check_pointers.proofs.counts.Tie as tie
 
+record Counting (book : List ℕ) (records : ℕ) (counts : List ℕ) (j : ℕ) : Type 0 where
+  pub from : 1 ≤ j
+  pub within : j ≤ records
+  pub long : length counts ≡ mostRecords
+  pub counted : (m : ℕ) → m < mostRecords → getD counts m 0 ≡ sumBelow j (pointersFrom book m)
+
 abbrev Inv-loop : tie.InvT-loop
-Inv-loop book counts₀ records j₀ counts j =
-    ((1 ≤ j) × (j ≤ records)) × ((length counts ≡ mostRecords) × ((m : ℕ) → m < mostRecords → getD counts m 0 ≡ sumBelow j (pointersFrom book m)))
+Inv-loop book counts₀ records j₀ counts j = Counting book records counts j
 
 abbrev μ-loop : tie.MeasureT-loop
 μ-loop book counts₀ records j₀ counts j = records - j
@@ -35,10 +41,12 @@ loop-holds : tie.Need-loop-holds Inv-loop μ-loop
 loop-holds c =
     let u = c .before .before .before in
     let s = u .before .before in
-    let b = now (s .args .book) in (
-      (omega arith, omega (arith, used-within b (s .pre .1) .0, u .used .ensures)),
-      (c .count .ensures .0, λ m h. counted-head b m (c .before .first-user .ensures) (getD-replicate mostRecords m 0 0 h) (c .count .ensures .1 m h)),
-    )
+    let b = now (s .args .book) in record {
+      from = omega arith;
+      within = omega (arith, used-within b (s .pre .1) .0, u .used .ensures);
+      long = c .count .ensures .size;
+      counted = λ m h. counted-head b m (c .before .first-user .ensures) (getD-replicate mostRecords m 0 0 h) (c .count .ensures .counted m h);
+    }
 
 cast-whole-record : tie.Need-cast-whole-record Inv-loop μ-loop
 cast-whole-record c = search needs
@@ -61,12 +69,12 @@ room : (c : tie.In-loop Inv-loop μ-loop) (m : ℕ) → m < mostRecords → getD
 room c m h =
     let l = c .before in
     let s = l .before .before .before .before .before .before in
-    omega (arith, s .pre .0, l .loop .inv .1 .1 m h, counted-bound (now (s .args .book)) m (l .loop .j))
+    omega (arith, s .pre .0, l .loop .inv .counted m h, counted-bound (now (s .args .book)) m (l .loop .j))
 
 count-requires-2 : tie.Need-count-requires-2 Inv-loop μ-loop
 count-requires-2 c κs =
     let t = c .before .before .before .before .before in
-    (t .before .loop .inv .1 .0, λ m h. omega (arith, room t m h))
+    (t .before .loop .inv .long, λ m h. omega (arith, room t m h))
 
 first-entry-of-requires : tie.Need-first-entry-of-requires Inv-loop μ-loop
 first-entry-of-requires c κs = search needs
@@ -76,7 +84,7 @@ count-requires-3 c κs =
     let n = c .before .before in
     let t = n .before .before .before .before .before .before in
     let e = n .count2 .ensures in
-    (e .0, λ m h. omega (arith, e .1 m h, hits-at-most (n .before .next-of .result .0) m, room t m h))
+    (e .size, λ m h. omega (arith, e .counted m h, hits-at-most (n .before .next-of .result .0) m, room t m h))
 
 is-entry-kind-requires : tie.Need-is-entry-kind-requires Inv-loop μ-loop
 is-entry-kind-requires c κs = search needs
@@ -87,7 +95,7 @@ next-of-requires-2 c κs = search needs
 count-requires-4 : tie.Need-count-requires-4 Inv-loop μ-loop
 count-requires-4 c κs =
     let t = c .before .before .before .before .before .before .before in
-    (t .before .loop .inv .1 .0, λ m h. omega (arith, room t m h))
+    (t .before .loop .inv .long, λ m h. omega (arith, room t m h))
 
 add-j : tie.Need-add-j Inv-loop μ-loop
 add-j c = search needs
@@ -107,21 +115,27 @@ loop-again c =
     let kind = k .kind-of .ensures in
     ⊎-elim
     (λ w.
-    rw (w .7) (
-      (search needs, search needs),
-      (w .6 .ensures .0, λ m h. counted-user b m j (inv .0 .0) whole kind (inv .1 .1 m h) (w .0 .taken) (w .2 .ensures) (w .5 .ensures) (w .3 .ensures .1 m h) (w .6 .ensures .1 m h)),
-    ))
+    rw (w .7) (record {
+      from = search needs;
+      within = search needs;
+      long = w .6 .ensures .size;
+      counted = λ m h. counted-user b m j (inv .from) whole kind (inv .counted m h) (w .0 .taken) (w .2 .ensures) (w .5 .ensures) (w .3 .ensures .counted m h) (w .6 .ensures .counted m h);
+    }))
     (⊎-elim
     (λ w.
-    rw (w .6) (
-      (search needs, search needs),
-      (w .5 .ensures .0, λ m h. counted-entry b m j (inv .0 .0) whole kind (inv .1 .1 m h) (w .0 .left) (w .1 .ensures) (w .2 .taken) (w .4 .ensures) (w .5 .ensures .1 m h)),
-    ))
+    rw (w .6) (record {
+      from = search needs;
+      within = search needs;
+      long = w .5 .ensures .size;
+      counted = λ m h. counted-entry b m j (inv .from) whole kind (inv .counted m h) (w .0 .left) (w .1 .ensures) (w .2 .taken) (w .4 .ensures) (w .5 .ensures .counted m h);
+    }))
     (λ w.
-    rw (w .3) (
-      (search needs, search needs),
-      (inv .1 .0, λ m h. counted-unknown b m j (inv .0 .0) whole kind (inv .1 .1 m h) (w .0 .left) (w .1 .ensures) (w .2 .left)),
-    )))
+    rw (w .3) (record {
+      from = search needs;
+      within = search needs;
+      long = inv .long;
+      counted = λ m h. counted-unknown b m j (inv .from) whole kind (inv .counted m h) (w .0 .left) (w .1 .ensures) (w .2 .left);
+    })))
     (c .if1 .came)
 
 returns : tie.Need-returns Inv-loop μ-loop
@@ -130,7 +144,7 @@ returns c = λ m p h.
     let l = c .before in
     let b = now (l .before .before .before .before .before .before .args .book) in
     let end : l .loop .j ≡ used b = omega arith in
-    l .loop .inv .1 .1 m h ∙ ap (λ (j : ℕ). sumBelow j (pointersFrom b m)) end
+    l .loop .inv .counted m h ∙ ap (λ (j : ℕ). sumBelow j (pointersFrom b m)) end
 
 pub counts-spec : {M : Type 1} → statement M
 counts-spec =

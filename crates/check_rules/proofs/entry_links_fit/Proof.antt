@@ -22,10 +22,13 @@ owner-of-requires c κs = search needs
 returns : tie.Need-returns
 returns c =
     let s = c .before .before .before .before .before .before .before .before in
-    unowned (now (s .args .book)) (s .args .index .0) (c .before .before .before .before .before .whole-record .ensures) (ap (λ (k : RecordIndex). k .0) (c .before .before .before .before .owner-of .ensures)) (c .if1 .taken)
+    unowned (now (s .args .book)) (s .args .index .0) (c .before .before .before .before .before .whole-record .ensures)
+    (ap (λ (k : RecordIndex). k .0) (c .before .before .before .before .owner-of .ensures)) (c .if1 .taken)
 
 -- the owner is a record below
-lower : (c : tie.Else1) → (1 ≤ c .before .before .before .before .owner-of .result .0) × (c .before .before .before .before .owner-of .result .0 < c .before .before .before .before .before .before .before .before .args .index .0)
+lower : (c : tie.Else1)
+    → (1 ≤ c .before .before .before .before .owner-of .result .0)
+    × (c .before .before .before .before .owner-of .result .0 < c .before .before .before .before .before .before .before .before .args .index .0)
 lower c = below (c .before .before .before .before .owner-of .result .0) (c .before .before .before .before .before .before .before .before .args .index .0) (c .if1 .left)
 
 cast-whole-record-2 : tie.Need-cast-whole-record-2
@@ -43,7 +46,8 @@ kind-of-requires c κs = search needs
 returns-2 : tie.Need-returns-2
 returns-2 c =
     let s = c .before .before .before .before .before .before .before .before .before .before .before .before in
-    no-user (now (s .args .book)) (s .args .index .0) (c .before .before .before .before .before .before .before .before .before .whole-record .ensures) (ap (λ (k : RecordIndex). k .0) (c .before .before .before .before .before .before .before .before .owner-of .ensures)) (s .pre .1) (lower (c .before .before .before .before))
+    no-user (now (s .args .book)) (s .args .index .0) (c .before .before .before .before .before .before .before .before .before .whole-record .ensures)
+    (ap (λ (k : RecordIndex). k .0) (c .before .before .before .before .before .before .before .before .owner-of .ensures)) (s .pre .1) (lower (c .before .before .before .before))
     (c .before .before .whole-record2 .ensures) (c .before .kind-of .ensures) (c .if2 .taken)
 
 level-of-requires : tie.Need-level-of-requires
@@ -58,15 +62,23 @@ activation-year-of-requires c κs = search needs
 returns-3 : tie.Need-returns-3
 returns-3 c =
     let s = c .before .before .before .before .before .before .before .before .before .before .before .before .before .before .before .before .before in
-    ended (now (s .args .book)) (s .args .index .0) (c .before .before .before .before .before .before .before .before .before .before .before .before .before .before .whole-record .ensures) (ap (λ (k : RecordIndex). k .0) (c .before .before .before .before .before .before .before .before .before .before .before .before .before .owner-of .ensures)) (s .pre .1) (lower (c .before .before .before .before .before .before .before .before .before))
-    (c .before .before .before .before .before .before .before .whole-record2 .ensures) (c .before .before .before .before .before .before .kind-of .ensures) (c .before .before .before .before .before .if2 .left) (c .before .before .before .before .level-of .ensures) (ap (λ (k : RecordIndex). k .0) (c .before .before .before .next-of .ensures))
+    ended (now (s .args .book)) (s .args .index .0) (c .before .before .before .before .before .before .before .before .before .before .before .before .before .before .whole-record .ensures)
+    (ap (λ (k : RecordIndex). k .0) (c .before .before .before .before .before .before .before .before .before .before .before .before .before .owner-of .ensures)) (s .pre .1)
+    (lower (c .before .before .before .before .before .before .before .before .before))
+    (c .before .before .before .before .before .before .before .whole-record2 .ensures) (c .before .before .before .before .before .before .kind-of .ensures)
+    (c .before .before .before .before .before .if2 .left) (c .before .before .before .before .level-of .ensures) (ap (λ (k : RecordIndex). k .0) (c .before .before .before .next-of .ensures))
     (c .before .if3 .taken) (c .activation-year-of .ensures)
 
 returns-4 : tie.Need-returns-4
 returns-4 c =
     let s = c .before .before .before .before .before .before .before .before .before .before .before .before .before .before .before .before .before .before .before in
-    ahead (now (s .args .book)) (s .args .index .0) (c .before .before .before .before .before .before .before .before .before .before .before .before .before .before .before .before .whole-record .ensures) (ap (λ (k : RecordIndex). k .0) (c .before .before .before .before .before .before .before .before .before .before .before .before .before .before .before .owner-of .ensures)) (s .pre .1) (lower (c .before .before .before .before .before .before .before .before .before .before .before))
-    (c .before .before .before .before .before .before .before .before .before .whole-record2 .ensures) (c .before .before .before .before .before .before .before .before .kind-of .ensures) (c .before .before .before .before .before .before .before .if2 .left) (c .before .before .before .before .before .before .level-of .ensures) (ap (λ (k : RecordIndex). k .0) (c .before .before .before .before .before .next-of .ensures))
+    ahead (now (s .args .book)) (s .args .index .0)
+    (c .before .before .before .before .before .before .before .before .before .before .before .before .before .before .before .before .whole-record .ensures) (ap (λ (k : RecordIndex). k .0)
+    (c .before .before .before .before .before .before .before .before .before .before .before .before .before .before .before .owner-of .ensures)) (s .pre .1) (lower
+    (c .before .before .before .before .before .before .before .before .before .before .before))
+    (c .before .before .before .before .before .before .before .before .before .whole-record2 .ensures) (c .before .before .before .before .before .before .before .before .kind-of .ensures)
+    (c .before .before .before .before .before .before .before .if2 .left) (c .before .before .before .before .before .before .level-of .ensures)
+    (ap (λ (k : RecordIndex). k .0) (c .before .before .before .before .before .next-of .ensures))
     (c .before .before .before .if3 .left) (c .if4 .taken)
 
 cast-whole-record-3 : tie.Need-cast-whole-record-3
@@ -84,8 +96,14 @@ returns-5 : tie.Need-returns-5
 returns-5 c =
     let s = c .before .before .before .before .before .before .before .before .before .before .before .before .before .before .before .before .before .before .before .before .before .before in
     c .follows .ensures
-    ∙ behind (now (s .args .book)) (s .args .index .0) (c .before .before .before .before .before .before .before .before .before .before .before .before .before .before .before .before .before .before .before .whole-record .ensures) (ap (λ (k : RecordIndex). k .0) (c .before .before .before .before .before .before .before .before .before .before .before .before .before .before .before .before .before .before .owner-of .ensures)) (s .pre .1) (lower (c .before .before .before .before .before .before .before .before .before .before .before .before .before .before))
-    (c .before .before .before .before .before .before .before .before .before .before .before .before .whole-record2 .ensures) (c .before .before .before .before .before .before .before .before .before .before .before .kind-of .ensures) (c .before .before .before .before .before .before .before .before .before .before .if2 .left) (c .before .before .before .before .before .before .before .before .before .level-of .ensures) (ap (λ (k : RecordIndex). k .0) (c .before .before .before .before .before .before .before .before .next-of .ensures))
+    ∙ behind (now (s .args .book)) (s .args .index .0)
+    (c .before .before .before .before .before .before .before .before .before .before .before .before .before .before .before .before .before .before .before .whole-record .ensures) (ap
+    (λ (k : RecordIndex). k .0) (c .before .before .before .before .before .before .before .before .before .before .before .before .before .before .before .before .before .before .owner-of .ensures))
+    (s .pre .1) (lower (c .before .before .before .before .before .before .before .before .before .before .before .before .before .before))
+    (c .before .before .before .before .before .before .before .before .before .before .before .before .whole-record2 .ensures)
+    (c .before .before .before .before .before .before .before .before .before .before .before .kind-of .ensures)
+    (c .before .before .before .before .before .before .before .before .before .before .if2 .left) (c .before .before .before .before .before .before .before .before .before .level-of .ensures)
+    (ap (λ (k : RecordIndex). k .0) (c .before .before .before .before .before .before .before .before .next-of .ensures))
     (c .before .before .before .before .before .before .if3 .left) (omega (arith, c .before .before .before .if4 .left)) (c .before .whole-record3 .ensures)
 
 pub entry-links-fit-spec : {M : Type 1} → statement M

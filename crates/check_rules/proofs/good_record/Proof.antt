@@ -1,4 +1,4 @@
--- The rule, from the answers to its tests.
+-- `good_record` is held to `goodRecord`: the rule, from the answers to its tests.
 use Prim.Native.Nat.{ℕ}
 use mathlib.Core.Path.{_≡_}
 use mathlib.Core.Bool.{Bool, true, _&&_}

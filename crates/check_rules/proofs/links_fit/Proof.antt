@@ -54,7 +54,8 @@ returns c =
     let start = s .before .before .before .before .before in
     let a = start .args in
     let kind = whole-kind (now (a .book)) (a .index .0) (s .before .before .whole-record .ensures) (s .before .kind-of .ensures) in
-    of-user (now (a .book)) (a .index .0) kind (s .if1 .taken) (c .before .before .user-next-fits .ensures) (start .pre .0 (sym kind ∙ s .if1 .taken)) (c .before .first-entry-fits .ensures) (c .first-in-order .ensures)
+    of-user (now (a .book)) (a .index .0) kind (s .if1 .taken) (c .before .before .user-next-fits .ensures) (start .pre .0 (sym kind ∙ s .if1 .taken)) (c .before .first-entry-fits .ensures)
+    (c .first-in-order .ensures)
 
 returns-2 : tie.Need-returns-2
 returns-2 c =

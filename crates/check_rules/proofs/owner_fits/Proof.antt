@@ -1,4 +1,4 @@
--- The rule, from the answers to its tests.
+-- `owner_fits` is held to `ownerFits`: the rule, from the answers to its tests.
 use Prim.Native.Nat.{ℕ}
 use mathlib.Core.Path.{_≡_}
 use mathlib.Core.Bool.{Bool, _&&_}

@@ -1,4 +1,4 @@
--- The four bytes make the number.
+-- `load_u32` is held to `number`: the four bytes make the number.
 use denote.Ref.{now}
 use native.Mathlib.Omega.{arith}
 use Rattle.codec.proofs.Numbers.{number-four}

@@ -1,4 +1,4 @@
--- Four stores one after the other.
+-- `store_u32` is held to `stored`: four stores one after the other.
 use native.Mathlib.Numerals.{add-one, add-two, add-three}
 use native.Mathlib.Omega.{arith}
 use denote.Ref.{now}

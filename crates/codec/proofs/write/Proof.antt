@@ -32,15 +32,19 @@ left-none : (at width rest : ℕ) (filled : List ℕ) → left at width rest wid
 unfolding bytesOf
 left-none at width rest filled = let none : width - width ≡ 0 = omega arith in rw none
 
+record Storing (at width n : ℕ) (image filled : List ℕ) (rest k : ℕ) : Type 0 where
+  pub within : k ≤ width
+  pub long : length filled ≡ 80
+  pub whole : left at width rest k filled ≡ sets image at (bytesOf width n)
+
 abbrev Inv-loop : tie.InvT-loop
-Inv-loop at width n filled₀ rest₀ k₀ filled rest k =
-    (k ≤ width) × ((length filled ≡ 80) × (left at width rest k filled ≡ sets filled₀ at (bytesOf width n)))
+Inv-loop at width n filled₀ rest₀ k₀ filled rest k = Storing at width n filled₀ filled rest k
 
 abbrev μ-loop : tie.MeasureT-loop
 μ-loop at width n filled₀ rest₀ k₀ filled rest k = width - k
 
 loop-holds : tie.Need-loop-holds Inv-loop μ-loop
-loop-holds c = (search needs, (search needs, left-all (c .args .at) (c .args .width) (c .args .n) (c .args .image)))
+loop-holds c = record { within = search needs; long = search needs; whole = left-all (c .args .at) (c .args .width) (c .args .n) (c .args .image) }
 
 cast-filled : tie.Need-cast-filled Inv-loop μ-loop
 cast-filled c = search needs
@@ -61,7 +65,11 @@ loop-again : tie.Need-loop-again Inv-loop μ-loop
 loop-again c =
     let l = c .before .loop in
     let a = c .before .before .args in
-    (search needs, (simp length-set (l .inv .1 .0), left-step (a .at) (a .width) (l .rest) (l .k) (l .filled) (search needs) ∙ l .inv .1 .1))
+    record {
+      within = search needs;
+      long = simp length-set (l .inv .long);
+      whole = left-step (a .at) (a .width) (l .rest) (l .k) (l .filled) (search needs) ∙ l .inv .whole;
+    }
 
 returns : tie.Need-returns Inv-loop μ-loop
 returns c =
@@ -70,7 +78,7 @@ returns c =
     let end : a .width ≡ l .k = omega arith in
     sym (left-none (a .at) (a .width) (l .rest) (l .filled))
     ∙ ap (λ (k : ℕ). left (a .at) (a .width) (l .rest) k (l .filled)) end
-    ∙ l .inv .1 .1
+    ∙ l .inv .whole
     ∙ sets-stored (a .at) (bytesOf (a .width) (a .n)) (a .image) (rw length-bytes (omega arith))
 
 pub write-spec : {M : Type 1} → statement M

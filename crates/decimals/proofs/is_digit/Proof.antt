@@ -1,4 +1,4 @@
--- The rule, test by test.
+-- `is_digit` is held to `isDigit`: the rule, test by test.
 use mathlib.Core.Path.{refl}
 use Rattle.decimals.specs.Decimals.{isDigit}
 use Rattle.decimals.proofs.is_digit.Statement.{statement}

@@ -1,6 +1,7 @@
 -- The digits passed and those to come are the digits at the place, and their number is the same as far as it counts.
 use Prim.Native.Nat.{ℕ, _+_, _-_, _*_, _≤_, _<_, min}
 use mathlib.Core.Path.{_≡_, refl, ap, sym, _∙_}
+use mathlib.Core.List.{List}
 use native.Mathlib.Omega.{arith}
 use borrow.Author.Needs.{needs}
 use denote.Ref.{now}
@@ -10,16 +11,20 @@ use Rattle.decimals.proofs.Digits.{digit-bounds, digit-inside, digits-m
 use Rattle.decimals.proofs.read_run.Statement.{statement}
 use Rattle.decimals.proofs.read_run.Tie as tie
 
+record Reading (s : List ℕ) (at most value end : ℕ) : Type 0 where
+  pub inside : at < end → end ≤ length s
+  pub capped : value ≤ most
+  pub count : end + digits (drop end s) ≡ at + digits (drop at s)
+  pub number : min (valueAfter value (drop end s)) most ≡ min (valueAfter 0 (drop at s)) most
+
 abbrev Inv-loop : tie.InvT-loop
-Inv-loop s at most value₀ end₀ value end =
-    ((at < end → end ≤ length s) × (value ≤ most))
-    × ((end + digits (drop end s) ≡ at + digits (drop at s)) × (min (valueAfter value (drop end s)) most ≡ min (valueAfter 0 (drop at s)) most))
+Inv-loop s at most value₀ end₀ value end = Reading s at most value end
 
 abbrev μ-loop : tie.MeasureT-loop
 μ-loop s at most value₀ end₀ value end = length s - end
 
 loop-holds : tie.Need-loop-holds Inv-loop μ-loop
-loop-holds c = ((λ l. omega arith, omega arith), (refl, refl))
+loop-holds c = record { inside = λ l. omega arith; capped = omega arith; count = refl; number = refl }
 
 byte-at-requires : tie.Need-byte-at-requires Inv-loop μ-loop
 byte-at-requires c κs = search needs
@@ -71,16 +76,15 @@ loop-again c =
     let count = digits-more s (l .end) d in
     let more = l .value * 10 + (getD s (l .end) 0 - 48) in
     let read : c .with-digit .result ≡ min more (a .most)
-    = c .with-digit .ensures ∙ ap (λ (b : ℕ). min (l .value * 10 + (b - 48)) (a .most)) (c .before .byte-at2 .ensures) in (
-      (λ m. omega arith, omega arith),
-      (
-        omega (arith, l .inv .1 .0),
-        ap (λ (v : ℕ). min (valueAfter v (drop (l .end + 1) s)) (a .most)) read
-            ∙ value-capped (a .most) more (drop (l .end + 1) s)
-            ∙ ap (λ (v : ℕ). min v (a .most)) (sym (value-more (l .value) s (l .end) d))
-            ∙ l .inv .1 .1,
-      ),
-    )
+    = c .with-digit .ensures ∙ ap (λ (b : ℕ). min (l .value * 10 + (b - 48)) (a .most)) (c .before .byte-at2 .ensures) in record {
+      inside = λ m. omega arith;
+      capped = omega arith;
+      count = omega (arith, l .inv .count);
+      number = ap (λ (v : ℕ). min (valueAfter v (drop (l .end + 1) s)) (a .most)) read
+          ∙ value-capped (a .most) more (drop (l .end + 1) s)
+          ∙ ap (λ (v : ℕ). min v (a .most)) (sym (value-more (l .value) s (l .end) d))
+          ∙ l .inv .number;
+    }
 
 returns : tie.Need-returns Inv-loop μ-loop
 returns c =
@@ -92,8 +96,8 @@ returns c =
     let none = digits-none s (l .end) d in
     let whole = value-none (l .value) s (l .end) d in
     record {
-      end = omega (arith, l .inv .1 .0);
-      value = sym (ap (λ (v : ℕ). min v (a .most)) whole ∙ omega arith) ∙ l .inv .1 .1;
+      end = omega (arith, l .inv .count);
+      value = sym (ap (λ (v : ℕ). min v (a .most)) whole ∙ omega arith) ∙ l .inv .number;
     }
 
 pub read-run-spec : {M : Type 1} → statement M

@@ -1,6 +1,7 @@
 -- The bytes passed stand at the front, and those to come stand where they stood.
 use Prim.Native.Nat.{ℕ, _+_, _-_, _≤_}
 use mathlib.Core.Path.{_≡_, refl, _∙_}
+use mathlib.Core.List.{List}
 use native.Mathlib.Omega.{arith}
 use borrow.Author.Needs.{needs}
 use denote.Ref.{now}
@@ -10,10 +11,14 @@ use Rattle.units.proofs.Filled.{Filled, filled-next}
 use Rattle.input.proofs.keep_rest.Statement.{statement}
 use Rattle.input.proofs.keep_rest.Tie as tie
 
+record Keeping (before : List ℕ) (from count : ℕ) (held : List ℕ) (k : ℕ) : Type 0 where
+  pub within : k ≤ count
+  pub same : length held ≡ length before
+  pub front : Filled 0 (λ i. getD before (from + i) 0) k held
+  pub rest : (i : ℕ) → k ≤ i → getD held i 0 ≡ getD before i 0
+
 abbrev Inv-loop : tie.InvT-loop
-Inv-loop held₀ from to count k₀ held k =
-    ((k ≤ count) × (length held ≡ length held₀))
-    × (Filled 0 (λ i. getD held₀ (from + i) 0) k held × ((i : ℕ) → k ≤ i → getD held i 0 ≡ getD held₀ i 0))
+Inv-loop held₀ from to count k₀ held k = Keeping held₀ from count held k
 
 abbrev μ-loop : tie.MeasureT-loop
 μ-loop held₀ from to count k₀ held k = count - k
@@ -22,7 +27,7 @@ sub-count : tie.Need-sub-count Inv-loop μ-loop
 sub-count c = search needs
 
 loop-holds : tie.Need-loop-holds Inv-loop μ-loop
-loop-holds c = ((search needs, refl), (λ i l. omega arith, λ i l. refl))
+loop-holds c = record { within = search needs; same = refl; front = λ i l. omega arith; rest = λ i l. refl }
 
 add-held : tie.Need-add-held Inv-loop μ-loop
 add-held c = search needs
@@ -45,9 +50,14 @@ loop-again c =
     let a = c .before .before .before .args in
     let v = getD (l .held) (a .from + l .k) 0 in
     let from : ℕ → ℕ = λ i. getD (now (a .held)) (a .from + i) 0 in
-    let read = l .inv .1 .1 (a .from + l .k) (omega arith) in
-    let front = filled-next 0 from (l .k) (l .held) v (search needs) read (l .inv .1 .0) in
-    ((search needs, simp length-set (l .inv .0 .1)), (front, λ i m. getD-set-other (l .held) (l .k) i v 0 (λ e. omega arith) ∙ l .inv .1 .1 i (omega arith)))
+    let read = l .inv .rest (a .from + l .k) (omega arith) in
+    let front = filled-next 0 from (l .k) (l .held) v (search needs) read (l .inv .front) in
+    record {
+      within = search needs;
+      same = simp length-set (l .inv .same);
+      front = front;
+      rest = λ i m. getD-set-other (l .held) (l .k) i v 0 (λ e. omega arith) ∙ l .inv .rest i (omega arith);
+    }
 
 same-length : tie.Need-same-length Inv-loop μ-loop
 same-length c = search needs
@@ -56,7 +66,7 @@ returns : tie.Need-returns Inv-loop μ-loop
 returns c =
     let l = c .before .loop in
     let a = c .before .before .args in
-    (refl, record { same = l .inv .0 .1; front = λ i m. l .inv .1 .0 i (omega arith) })
+    record { count = refl; kept = record { same = l .inv .same; front = λ i m. l .inv .front i (omega arith) } }
 
 pub keep-rest-spec : {M : Type 1} → statement M
 keep-rest-spec =

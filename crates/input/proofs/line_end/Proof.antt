@@ -1,6 +1,7 @@
 -- No line feed stands from the place to where the search is.
 use Prim.Native.Nat.{ℕ, _-_, _≤_, _<_}
 use mathlib.Core.Path.{_≡_}
+use mathlib.Core.List.{List}
 use native.Mathlib.Omega.{arith}
 use borrow.Author.Count.{below-more}
 use borrow.Author.Needs.{needs}
@@ -8,15 +9,19 @@ use lib.ListN.{length, getD}
 use Rattle.input.proofs.line_end.Statement.{statement}
 use Rattle.input.proofs.line_end.Tie as tie
 
+record Searching (s : List ℕ) (from at : ℕ) : Type 0 where
+  pub after : from ≤ at
+  pub within : from ≤ length s → at ≤ length s
+  pub none : (k : ℕ) → k < at → from ≤ k → getD s k 0 ≡ 10 → ⊥
+
 abbrev Inv-loop : tie.InvT-loop
-Inv-loop s from at₀ at =
-    ((from ≤ at) × (from ≤ length s → at ≤ length s)) × ((k : ℕ) → k < at → from ≤ k → getD s k 0 ≡ 10 → ⊥)
+Inv-loop s from at₀ at = Searching s from at
 
 abbrev μ-loop : tie.MeasureT-loop
 μ-loop s from at₀ at = length s - at
 
 loop-holds : tie.Need-loop-holds Inv-loop μ-loop
-loop-holds c = ((search needs, λ h. h), λ k l m e. omega arith)
+loop-holds c = record { after = search needs; within = λ h. h; none = λ k l m e. omega arith }
 
 shared-slice-read-if1 : tie.Need-shared-slice-read-if1 Inv-loop μ-loop
 shared-slice-read-if1 c = search needs
@@ -26,8 +31,8 @@ returns c =
     let l = c .before .before .before .loop in
     record {
       within = search needs;
-      after = λ h. l .inv .0 .0;
-      before = λ k low high e. l .inv .1 k high low e;
+      after = λ h. l .inv .after;
+      before = λ k low high e. l .inv .none k high low e;
       found = λ h. c .if1 .taken;
     }
 
@@ -40,7 +45,7 @@ loop-less c = search needs
 loop-again : tie.Need-loop-again Inv-loop μ-loop
 loop-again c =
     let l = c .before .before .before .loop in
-    ((search needs, λ h. search needs), below-more _ _ (l .inv .1) (λ low e. c .if1 .left e))
+    record { after = search needs; within = λ h. search needs; none = below-more _ _ (l .inv .none) (λ low e. c .if1 .left e) }
 
 returns-2 : tie.Need-returns-2 Inv-loop μ-loop
 returns-2 c =
@@ -48,7 +53,7 @@ returns-2 c =
     record {
       within = search needs;
       after = λ h. h;
-      before = λ k low high e. l .inv .1 k (omega arith) low e;
+      before = λ k low high e. l .inv .none k (omega arith) low e;
       found = λ h. omega arith;
     }
 

@@ -38,7 +38,7 @@ read-line-requires c κs =
     let line = s .args .line in
     let end = c .before .before .before .before .before .before .line-end in
     let none = unfed (now (s .args .held)) (line .filled) (line .next) (end .result) (s .pre .filled) (end .ensures) (c .before .before .before .before .before .if1 .left) in
-    (search needs, rw (c .before .before .before .keep-rest .ensures .0) (rest-unfed _ _ (line .next) (line .filled) (c .before .before .before .keep-rest .ensures .1) none))
+    (search needs, rw (c .before .before .before .keep-rest .ensures .count) (rest-unfed _ _ (line .next) (line .filled) (c .before .before .before .keep-rest .ensures .kept) none))
 
 same-length-2 : tie.Need-same-length-2
 same-length-2 c = search needs
@@ -50,7 +50,7 @@ returns-2 c =
     let end = c .before .before .before .before .before .before .before .before .before .line-end in
     let rest = c .before .before .before .before .before .before .keep-rest in
     let none = unfed (now (s .args .held)) (line .filled) (line .next) (end .result) (s .pre .filled) (end .ensures) (c .before .before .before .before .before .before .before .before .if1 .left) in
-    after-read _ _ _ line (rest .result) (s .pre) (rest .ensures .0) (rest .ensures .1) none _ (c .before .before .read-line .ensures)
+    after-read _ _ _ line (rest .result) (s .pre) (rest .ensures .count) (rest .ensures .kept) none _ (c .before .before .read-line .ensures)
 
 pub next-line-spec : {M : Type 1} → statement M
 next-line-spec =

@@ -1,4 +1,4 @@
--- Month by month.
+-- `say_sums`: month by month.
 use Prim.Native.Nat.{_-_, _≤_}
 use borrow.Author.Needs.{needs}
 use Rattle.measures.proofs.say_sums.Statement.{statement}

@@ -91,7 +91,8 @@ slice-aggregate-answer c =
 
 array-share-prefix-s : tie.Need-array-share-prefix-s
 array-share-prefix-s c =
-    let within = rw (c .before .before .before .before .before .before .before .before .before .size .given .1) at (c .before .before .before .before .before .before .before .before .before .before .before .before .read-file .ensures .within) in
+    let within = rw (c .before .before .before .before .before .before .before .before .before .size .given .1) at
+    (c .before .before .before .before .before .before .before .before .before .before .before .before .read-file .ensures .within) in
     within .1
 
 slice-aggregate-answer-2 : tie.Need-slice-aggregate-answer-2

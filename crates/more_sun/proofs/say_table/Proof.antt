@@ -1,4 +1,4 @@
--- Month by month.
+-- `say_table`: month by month.
 use Prim.Native.Nat.{_-_, _≤_}
 use borrow.Author.Needs.{needs}
 use Rattle.more_sun.proofs.say_table.Statement.{statement}

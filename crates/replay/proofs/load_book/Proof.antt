@@ -1,4 +1,4 @@
--- The bytes read stand within the buffer.
+-- `load_book`: the bytes read stand within the buffer.
 use borrow.Author.Needs.{needs}
 use Rattle.replay.proofs.load_book.Statement.{statement}
 use Rattle.replay.proofs.load_book.Tie as tie

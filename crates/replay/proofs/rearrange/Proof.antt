@@ -56,7 +56,8 @@ returns-2 c = search needs
 
 array-share-prefix-from : tie.Need-array-share-prefix-from
 array-share-prefix-from c =
-    let filled = rw (c .before .before .before .before .before .before .before .before .before .read .given .1) at (c .before .before .before .before .before .before .before .before .before .before .before .before .hex-from .ensures) in
+    let filled = rw (c .before .before .before .before .before .before .before .before .before .read .given .1) at
+    (c .before .before .before .before .before .before .before .before .before .before .before .before .hex-from .ensures) in
     filled .room
 
 slice-aggregate-work-on : tie.Need-slice-aggregate-work-on
@@ -84,7 +85,12 @@ work-on-requires c κs =
     let count = c .before .before .before .before .room .given in
     let filled = rw (count .1) at (read .ensures) in
     let lent = length-take-le (count .0 .0) (read .last .1 .1 .0) (filled .room) in
-    omega (arith, filled .room, filled .same, c .before .before .before .before .before .before .before .before .before .before .before .before .before .before .before .before .before .before .before .before .before .pre)
+    omega (
+      arith,
+      filled .room,
+      filled .same,
+      c .before .before .before .before .before .before .before .before .before .before .before .before .before .before .before .before .before .before .before .before .before .pre,
+    )
 
 same-length : tie.Need-same-length
 same-length c = search needs

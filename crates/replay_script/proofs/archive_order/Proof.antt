@@ -1,4 +1,4 @@
--- Two words of bytes.
+-- `archive_order` is held to `archiveOrder`: two words of bytes.
 use Prim.Native.Nat.{ℕ}
 use mathlib.Core.Path.{_≡_, sym}
 use mathlib.Core.Bool.{true, false}

@@ -1,4 +1,4 @@
--- Each answer rests on the tests of the words on the way to it, counted from the first.
+-- `book_order` is held to `bookOrder`: each answer rests on the tests of the words on the way to it, counted from the first.
 use mathlib.Core.Path.{sym, _∙_}
 use borrow.Author.Needs.{needs}
 use Rattle.replay_script.specs.Orders.{bookOrder}
@@ -75,7 +75,13 @@ returns-4 c =
     let three = four .before .before .before in
     let two = three .before .before .before in
     let one = two .before .before .before in
-    rw (sym (one .before .begins .ensures) ∙ one .if1 .left, sym (two .before .begins2 .ensures) ∙ two .if2 .left, sym (three .before .begins3 .ensures) ∙ three .if3 .left, sym (four .before .begins4 .ensures) ∙ four .if4 .taken) (c .alone-order2 .ensures)
+    rw (
+      sym (one .before .begins .ensures) ∙ one .if1 .left,
+      sym (two .before .begins2 .ensures) ∙ two .if2 .left,
+      sym (three .before .begins3 .ensures) ∙ three .if3 .left,
+      sym
+          (four .before .begins4 .ensures) ∙ four .if4 .taken,
+    ) (c .alone-order2 .ensures)
 
 slice-aggregate-begins-5 : tie.Need-slice-aggregate-begins-5
 slice-aggregate-begins-5 c = search needs
@@ -97,7 +103,14 @@ returns-5 c =
     let three = four .before .before .before in
     let two = three .before .before .before in
     let one = two .before .before .before in
-    rw (sym (one .before .begins .ensures) ∙ one .if1 .left, sym (two .before .begins2 .ensures) ∙ two .if2 .left, sym (three .before .begins3 .ensures) ∙ three .if3 .left, sym (four .before .begins4 .ensures) ∙ four .if4 .left, sym (five .before .begins5 .ensures) ∙ five .if5 .taken) (c .alone-order3 .ensures)
+    rw (
+      sym (one .before .begins .ensures) ∙ one .if1 .left,
+      sym (two .before .begins2 .ensures) ∙ two .if2 .left,
+      sym (three .before .begins3 .ensures) ∙ three .if3 .left,
+      sym
+          (four .before .begins4 .ensures) ∙ four .if4 .left,
+      sym (five .before .begins5 .ensures) ∙ five .if5 .taken,
+    ) (c .alone-order3 .ensures)
 
 call-order-requires : tie.Need-call-order-requires
 call-order-requires c κs = search needs
@@ -110,7 +123,14 @@ returns-6 c =
     let three = four .before .before .before in
     let two = three .before .before .before in
     let one = two .before .before .before in
-    rw (sym (one .before .begins .ensures) ∙ one .if1 .left, sym (two .before .begins2 .ensures) ∙ two .if2 .left, sym (three .before .begins3 .ensures) ∙ three .if3 .left, sym (four .before .begins4 .ensures) ∙ four .if4 .left, sym (five .before .begins5 .ensures) ∙ five .if5 .left) (c .call-order .ensures)
+    rw (
+      sym (one .before .begins .ensures) ∙ one .if1 .left,
+      sym (two .before .begins2 .ensures) ∙ two .if2 .left,
+      sym (three .before .begins3 .ensures) ∙ three .if3 .left,
+      sym
+          (four .before .begins4 .ensures) ∙ four .if4 .left,
+      sym (five .before .begins5 .ensures) ∙ five .if5 .left,
+    ) (c .call-order .ensures)
 
 pub book-order-spec : {M : Type 1} → statement M
 book-order-spec =

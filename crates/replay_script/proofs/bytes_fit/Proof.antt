@@ -1,4 +1,4 @@
--- By the tests alone.
+-- `bytes_fit` is held to `bytesFit`: by the tests alone.
 use borrow.Author.Needs.{needs}
 use Rattle.replay_script.specs.Orders.{bytesFit}
 use Rattle.replay_script.proofs.bytes_fit.Statement.{statement}

@@ -1,4 +1,4 @@
--- Each answer rests on the tests of the words on the way to it, counted from the first.
+-- `call_order` is held to `callOrder`: each answer rests on the tests of the words on the way to it, counted from the first.
 use mathlib.Core.Path.{sym, _∙_}
 use borrow.Author.Needs.{needs}
 use Rattle.replay_script.specs.Orders.{callOrder}
@@ -51,7 +51,8 @@ returns-3 c =
     let three = c .before in
     let two = three .before .before .before in
     let one = two .before .before .before in
-    rw (sym (one .before .begins .ensures) ∙ one .if1 .left, sym (two .before .begins2 .ensures) ∙ two .if2 .left, sym (three .before .begins3 .ensures) ∙ three .if3 .taken) (c .advance-order .ensures)
+    rw (sym (one .before .begins .ensures) ∙ one .if1 .left, sym (two .before .begins2 .ensures) ∙ two .if2 .left, sym (three .before .begins3 .ensures) ∙ three .if3 .taken)
+    (c .advance-order .ensures)
 
 slice-aggregate-begins-4 : tie.Need-slice-aggregate-begins-4
 slice-aggregate-begins-4 c = search needs
@@ -69,7 +70,13 @@ returns-4 c =
     let three = four .before .before .before in
     let two = three .before .before .before in
     let one = two .before .before .before in
-    rw (sym (one .before .begins .ensures) ∙ one .if1 .left, sym (two .before .begins2 .ensures) ∙ two .if2 .left, sym (three .before .begins3 .ensures) ∙ three .if3 .left, sym (four .before .begins4 .ensures) ∙ four .if4 .taken) (c .close-order .ensures)
+    rw (
+      sym (one .before .begins .ensures) ∙ one .if1 .left,
+      sym (two .before .begins2 .ensures) ∙ two .if2 .left,
+      sym (three .before .begins3 .ensures) ∙ three .if3 .left,
+      sym
+          (four .before .begins4 .ensures) ∙ four .if4 .taken,
+    ) (c .close-order .ensures)
 
 slice-aggregate-begins-5 : tie.Need-slice-aggregate-begins-5
 slice-aggregate-begins-5 c = search needs
@@ -88,7 +95,14 @@ returns-5 c =
     let three = four .before .before .before in
     let two = three .before .before .before in
     let one = two .before .before .before in
-    rw (sym (one .before .begins .ensures) ∙ one .if1 .left, sym (two .before .begins2 .ensures) ∙ two .if2 .left, sym (three .before .begins3 .ensures) ∙ three .if3 .left, sym (four .before .begins4 .ensures) ∙ four .if4 .left, sym (five .before .begins5 .ensures) ∙ five .if5 .taken) (c .charge-order .ensures)
+    rw (
+      sym (one .before .begins .ensures) ∙ one .if1 .left,
+      sym (two .before .begins2 .ensures) ∙ two .if2 .left,
+      sym (three .before .begins3 .ensures) ∙ three .if3 .left,
+      sym
+          (four .before .begins4 .ensures) ∙ four .if4 .left,
+      sym (five .before .begins5 .ensures) ∙ five .if5 .taken,
+    ) (c .charge-order .ensures)
 
 asking-order-requires : tie.Need-asking-order-requires
 asking-order-requires c κs = search needs
@@ -101,7 +115,14 @@ returns-6 c =
     let three = four .before .before .before in
     let two = three .before .before .before in
     let one = two .before .before .before in
-    rw (sym (one .before .begins .ensures) ∙ one .if1 .left, sym (two .before .begins2 .ensures) ∙ two .if2 .left, sym (three .before .begins3 .ensures) ∙ three .if3 .left, sym (four .before .begins4 .ensures) ∙ four .if4 .left, sym (five .before .begins5 .ensures) ∙ five .if5 .left) (c .asking-order .ensures)
+    rw (
+      sym (one .before .begins .ensures) ∙ one .if1 .left,
+      sym (two .before .begins2 .ensures) ∙ two .if2 .left,
+      sym (three .before .begins3 .ensures) ∙ three .if3 .left,
+      sym
+          (four .before .begins4 .ensures) ∙ four .if4 .left,
+      sym (five .before .begins5 .ensures) ∙ five .if5 .left,
+    ) (c .asking-order .ensures)
 
 pub call-order-spec : {M : Type 1} → statement M
 call-order-spec =

@@ -81,7 +81,18 @@ unfolding enrolOrder
 returns c =
     let read = c .before .before .numbers-at .ensures in
     let same = read .same (c .if1 .taken) in
-    rw (same 0 (omega arith), same 1 (omega arith), same 2 (omega arith), same 3 (omega arith), same 4 (omega arith), same 5 (omega arith), same 6 (omega arith), same 7 (omega arith), sym (read .fit) ∙ c .if1 .taken)
+    rw (
+      same 0 (omega arith),
+      same 1 (omega arith),
+      same 2 (omega arith),
+      same 3 (omega arith),
+      same 4 (omega arith),
+      same 5 (omega arith),
+      same 6 (omega arith),
+      same 7 (omega arith),
+      sym (read .fit)
+          ∙ c .if1 .taken,
+    )
 
 returns-2 : tie.Need-returns-2
 unfolding enrolOrder

@@ -1,4 +1,4 @@
--- A blank and hexadecimal digits, or nothing.
+-- `load_order` is held to `loadOrder`: a blank and hexadecimal digits, or nothing.
 use mathlib.Core.Path.{sym, _∙_}
 use borrow.Author.Needs.{needs}
 use Rattle.replay_script.specs.Orders.{loadOrder}

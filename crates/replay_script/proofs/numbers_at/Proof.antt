@@ -56,7 +56,8 @@ returns c =
     let read = c .before .before .before .before .before .fields-from in
     let a = c .before .before .before .before .before .before .before .before .args in
     let end : l .k ≡ length (now (a .most)) = omega arith in
-    numbers-read (now (a .line)) (a .at) (now (a .most)) (read .result) (read .ensures) (l .within) (l .inv .1 ∙ ap (λ (n : ℕ). allBelow n (within (now (a .line)) (a .at) (now (a .most)) (read .result) (read .ensures))) end)
+    numbers-read (now (a .line)) (a .at) (now (a .most)) (read .result) (read .ensures) (l .within)
+    (l .inv .1 ∙ ap (λ (n : ℕ). allBelow n (within (now (a .line)) (a .at) (now (a .most)) (read .result) (read .ensures))) end)
 
 pub numbers-at-spec : {M : Type 1} → statement M
 numbers-at-spec =

@@ -1,4 +1,4 @@
--- By the tests alone.
+-- `word_at` is held to `wordAt`: by the tests alone.
 use Prim.Native.Nat.{ℕ}
 use mathlib.Core.Path.{_≡_}
 use mathlib.Core.Bool.{Bool, cond, _&&_, _||_}

@@ -1,4 +1,4 @@
--- The months by a running test.
+-- `domestic_excess` is held to `refused14`: the months by a running test.
 use Prim.Native.Nat.{_-_, _≤_}
 use mathlib.Core.Path.{_≡_, ap, sym}
 use native.Mathlib.Omega.{arith}

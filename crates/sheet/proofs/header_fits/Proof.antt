@@ -1,4 +1,4 @@
--- The rule, test by test.
+-- `header_fits` is held to `headerFits`: the rule, test by test.
 use Rattle.sheet.specs.YearSheet.{headerFits}
 use borrow.Author.Needs.{needs}
 use Rattle.sheet.proofs.header_fits.Statement.{statement}

@@ -1,4 +1,4 @@
--- A number of one byte is the byte.
+-- `injected_reading` is held to `injectedReading`: a number of one byte is the byte.
 use mathlib.Core.Path.{sym, _∙_}
 use denote.Ref.{now}
 use Rattle.codec.proofs.Numbers.{number-one}

@@ -1,4 +1,4 @@
--- By the place.
+-- `limit_at` is held to `limitAt`: by the place.
 use borrow.Author.Tests.{lt-ltb, le-ltb}
 use Rattle.sheet.specs.YearSheet.{limitAt}
 use borrow.Author.Needs.{needs}

@@ -1,4 +1,4 @@
--- The months by a running test.
+-- `some_wrong` is held to `anyBelow`: the months by a running test.
 use Prim.Native.Nat.{_-_, _≤_}
 use mathlib.Core.Path.{_≡_, sym}
 use native.Mathlib.Omega.{arith}

@@ -1,4 +1,4 @@
--- The rule, test by test.
+-- `unused_band` is held to `unusedBand`: the rule, test by test.
 use Rattle.sheet.specs.YearSheet.{unusedBand}
 use borrow.Author.Needs.{needs}
 use Rattle.sheet.proofs.unused_band.Statement.{statement}

@@ -1,4 +1,4 @@
--- A number of one byte is the byte.
+-- `withdrawn_reading` is held to `withdrawnReading`: a number of one byte is the byte.
 use mathlib.Core.Path.{sym, _∙_}
 use denote.Ref.{now}
 use Rattle.codec.proofs.Numbers.{number-one}

@@ -25,12 +25,15 @@ unfolding differences
 first-stored s a a₀ column place n room e p v =
     e ∙ line-next (columnPlace column) (less s column) a 0 a place n (omega arith) (line-begun (columnPlace column) (less s column) a) (omega arith) v
 
+record Archiving (sheet before₀ : List ℕ) (column : ℕ) (archive : List ℕ) (last month : ℕ) : Type 0 where
+  pub first : 1 ≤ month
+  pub within : month ≤ sheetMonths
+  pub carried : last ≡ before (inSheet sheetColumns sheet column) month
+  pub same : length archive ≡ length before₀
+  pub written : archive ≡ stored (columnPlace column) (line month (less sheet column)) before₀
+
 abbrev Inv-loop : tie.InvT-loop
-Inv-loop sheet archive₀ column last₀ month₀ archive last month =
-    ((1 ≤ month) × (month ≤ sheetMonths))
-    × ((last ≡ before (inSheet sheetColumns sheet column) month)
-    × ((length archive ≡ length archive₀)
-    × (archive ≡ stored (columnPlace column) (line month (less sheet column)) archive₀)))
+Inv-loop sheet archive₀ column last₀ month₀ archive last month = Archiving sheet archive₀ column archive last month
 
 abbrev μ-loop : tie.MeasureT-loop
 μ-loop sheet archive₀ column last₀ month₀ archive last month = sheetMonths - month
@@ -50,13 +53,13 @@ loop-holds c =
     let place = c .before .before .before .archive-place in
     let number = c .before .before .before .before .before .in-sheet in
     let a = c .before .before .before .before .before .before .before .before .args in
-    let first = first-stored (now (a .sheet)) (now (a .archive)) (w .last .0) (a .column) (place .result) (number .result) (omega arith) (w .ensures) (place .ensures) (number .ensures) in (
-      search needs,
-      (
-        before-next (inSheet sheetColumns (now (a .sheet)) (a .column)) 0 (number .ensures),
-        (search needs, first ∙ sym (line-again (columnPlace (a .column)) (less (now (a .sheet)) (a .column)) (w .last .0) 1 1 (now (a .archive)) (omega arith) (omega arith) first)),
-      ),
-    )
+    let first = first-stored (now (a .sheet)) (now (a .archive)) (w .last .0) (a .column) (place .result) (number .result) (omega arith) (w .ensures) (place .ensures) (number .ensures) in record {
+      first = search needs;
+      within = search needs;
+      carried = before-next (inSheet sheetColumns (now (a .sheet)) (a .column)) 0 (number .ensures);
+      same = search needs;
+      written = first ∙ sym (line-again (columnPlace (a .column)) (less (now (a .sheet)) (a .column)) (w .last .0) 1 1 (now (a .archive)) (omega arith) (omega arith) first);
+    }
 
 in-sheet-requires-2 : tie.Need-in-sheet-requires-2 Inv-loop μ-loop
 in-sheet-requires-2 c κs = search needs
@@ -86,19 +89,16 @@ loop-again c =
     let begin = c .before .before .before .before .before .before .before .before .before .before .before .before .before .before .before .before .before in
     let a = begin .args in
     let t₀ = c .before .before .before .before .before .before .before .before .before .before .before .store-u32 in
-    let column = inSheet sheetColumns (now (a .sheet)) (a .column) in (
-      search needs,
-      (
-        before-next column (l .month) (number .ensures),
-        (
-          omega (arith, w .kept .0),
-          w .ensures
-              ∙ line-next (columnPlace (a .column)) (less (now (a .sheet)) (a .column)) (t₀ .last .0) (l .month) (l .archive) (place .result) (worked .result)
-              (omega (arith, t₀ .kept .0, begin .pre)) (l .inv .1 .1 .1) (omega (arith, place .ensures))
-              (difference-worked column (l .month) (search needs) (number .ensures) (l .inv .1 .0) (worked .ensures)),
-        ),
-      ),
-    )
+    let column = inSheet sheetColumns (now (a .sheet)) (a .column) in record {
+      first = search needs;
+      within = search needs;
+      carried = before-next column (l .month) (number .ensures);
+      same = omega (arith, w .kept .0);
+      written = w .ensures
+          ∙ line-next (columnPlace (a .column)) (less (now (a .sheet)) (a .column)) (t₀ .last .0) (l .month) (l .archive) (place .result) (worked .result)
+          (omega (arith, t₀ .kept .0, begin .pre)) (l .inv .written) (omega (arith, place .ensures))
+          (difference-worked column (l .month) (search needs) (number .ensures) (l .inv .carried) (worked .ensures));
+    }
 
 same-length : tie.Need-same-length Inv-loop μ-loop
 same-length c = search needs
@@ -112,7 +112,7 @@ returns c =
     let a = c .before .before .before .before .before .before .before .before .before .before .args in
     let end : l .month ≡ sheetMonths = omega arith in
     let first = first-stored (now (a .sheet)) (now (a .archive)) (w .last .0) (a .column) (place .result) (number .result) (omega arith) (w .ensures) (place .ensures) (number .ensures) in
-    rw end at (l .inv .1 .1 .1)
+    rw end at (l .inv .written)
     ∙ line-again (columnPlace (a .column)) (less (now (a .sheet)) (a .column)) (w .last .0) 1 sheetMonths (now (a .archive)) (omega arith) (omega arith) first
 
 pub archive-column-spec : {M : Type 1} → statement M

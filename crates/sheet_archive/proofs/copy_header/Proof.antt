@@ -21,10 +21,14 @@ header-back s l b =
     line-cong headerWords (headerWord s) (λ j. number 4 (0 + 4 * j) s) (λ j h. let same : 4 * j ≡ 0 + 4 * j = omega arith in ap (λ (at : ℕ). number 4 at s) same)
     ∙ line-back headerWords 0 s (omega arith) b
 
+record Copying (from before held to : List ℕ) (k : ℕ) : Type 0 where
+  pub within : k ≤ headerWords
+  pub words : Holds headerWords (headerWord from) held
+  pub same : length to ≡ length before
+  pub written : to ≡ stored 0 (line k (headerWord from)) before
+
 abbrev Inv-loop : tie.InvT-loop
-Inv-loop from to₀ words k₀ to k =
-    (k ≤ headerWords)
-    × (Holds headerWords (headerWord from) words × ((length to ≡ length to₀) × (to ≡ stored 0 (line k (headerWord from)) to₀)))
+Inv-loop from to₀ words k₀ to k = Copying from to₀ words to k
 
 abbrev μ-loop : tie.MeasureT-loop
 μ-loop from to₀ words k₀ to k = headerWords - k
@@ -33,7 +37,7 @@ header-words-requires : tie.Need-header-words-requires Inv-loop μ-loop
 header-words-requires c κs = search needs
 
 loop-holds : tie.Need-loop-holds Inv-loop μ-loop
-loop-holds c = (search needs, (c .header-words .ensures, (refl, line-begun _ _ _)))
+loop-holds c = record { within = search needs; words = c .header-words .ensures; same = refl; written = line-begun _ _ _ }
 
 mul-store-u32 : tie.Need-mul-store-u32 Inv-loop μ-loop
 mul-store-u32 c = search needs
@@ -59,18 +63,14 @@ loop-again c =
     let l = c .before .before .before .before .before .loop in
     let words = c .before .before .before .before .before .before .header-words in
     let a = c .before .before .before .before .before .before .before .before .before .args in
-    let here : 4 * l .k ≡ 0 + 4 * l .k = omega arith in (
-      search needs,
-      (
-        l .inv .1 .0,
-        (
-          omega (arith, w .kept .0),
-          w .ensures
-              ∙ line-next 0 (headerWord (now (a .from))) (now (a .to)) (l .k) (l .to) (4 * l .k) (getD (words .result) (l .k) 0) (omega arith) (l .inv .1 .1 .1) here
-              (l .inv .1 .0 (l .k) (search needs)),
-        ),
-      ),
-    )
+    let here : 4 * l .k ≡ 0 + 4 * l .k = omega arith in record {
+      within = search needs;
+      words = l .inv .words;
+      same = omega (arith, w .kept .0);
+      written = w .ensures
+          ∙ line-next 0 (headerWord (now (a .from))) (now (a .to)) (l .k) (l .to) (4 * l .k) (getD (words .result) (l .k) 0) (omega arith) (l .inv .written) here
+          (l .inv .words (l .k) (search needs));
+    }
 
 same-length : tie.Need-same-length Inv-loop μ-loop
 same-length c = search needs
@@ -81,7 +81,7 @@ returns c =
     let a = c .before .before .before .before .before .args in
     let end : l .k ≡ headerWords = omega arith in
     let bytes : Bytes (now (a .from)) = λ k. c .before .before .before .before .shared-slice-known .given k .fits in
-    rw end at (l .inv .1 .1 .1) ∙ ap (λ (s : List ℕ). stored 0 s (now (a .to))) (header-back (now (a .from)) (omega arith) bytes)
+    rw end at (l .inv .written) ∙ ap (λ (s : List ℕ). stored 0 s (now (a .to))) (header-back (now (a .from)) (omega arith) bytes)
 
 pub copy-header-spec : {M : Type 1} → statement M
 copy-header-spec =

@@ -1,4 +1,4 @@
--- The number at its place.
+-- `in_archive` is held to `inArchive`: the number at its place.
 use Prim.Native.Nat.{ℕ}
 use mathlib.Core.Path.{ap, _∙_}
 use borrow.Author.Needs.{needs}

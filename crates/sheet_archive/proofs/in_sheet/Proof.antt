@@ -1,4 +1,4 @@
--- The number at its place.
+-- `in_sheet` is held to `inSheet`: the number at its place.
 use Prim.Native.Nat.{ℕ}
 use mathlib.Core.Path.{ap, _∙_}
 use borrow.Author.Needs.{needs}

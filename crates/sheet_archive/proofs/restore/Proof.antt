@@ -1,6 +1,7 @@
 -- After each turn four columns more stand in the sheet.
-use Prim.Native.Nat.{_+_, _-_, _*_, _≤_}
+use Prim.Native.Nat.{ℕ, _+_, _-_, _*_, _≤_}
 use mathlib.Core.Path.{_≡_, refl, sym, _∙_}
+use mathlib.Core.List.{List}
 use native.Mathlib.Omega.{arith}
 use borrow.Author.Needs.{needs}
 use borrow.Author.Tests.{not-true, not-false}
@@ -14,9 +15,14 @@ use Rattle.sheet_archive.proofs.Restoring.{restored-none, restored-at, 
 use Rattle.sheet_archive.proofs.restore.Statement.{statement}
 use Rattle.sheet_archive.proofs.restore.Tie as tie
 
+record FoursRestored (archive before sheet : List ℕ) (four : ℕ) : Type 0 where
+  pub within : four ≤ 6
+  pub long : length archive ≡ sheetLength
+  pub same : length sheet ≡ length before
+  pub restored : Restored archive sheet (4 * four) 0 0
+
 abbrev Inv-loop : tie.InvT-loop
-Inv-loop archive sheet₀ four₀ sheet four =
-    (four ≤ 6) × ((length archive ≡ sheetLength) × ((length sheet ≡ length sheet₀) × Restored archive sheet (4 * four) 0 0))
+Inv-loop archive sheet₀ four₀ sheet four = FoursRestored archive sheet₀ sheet four
 
 abbrev μ-loop : tie.MeasureT-loop
 μ-loop archive sheet₀ four₀ sheet four = 6 - four
@@ -42,7 +48,12 @@ loop-holds c =
     let h = c .before .before .copy-header in
     let long = source-fits (length (now (a .archive))) (length (now (a .sheet))) fit in
     let long₀ = destination-fits (length (now (a .archive))) (length (now (a .sheet))) fit in
-    (search needs, (long, (refl, restored-none (now (a .archive)) (h .last .1 .0) (now (a .sheet)) long (h .kept .1 .0 ∙ long₀) (h .ensures))))
+    record {
+      within = search needs;
+      long = long;
+      same = refl;
+      restored = restored-none (now (a .archive)) (h .last .1 .0) (now (a .sheet)) long (h .kept .1 .0 ∙ long₀) (h .ensures);
+    }
 
 mul-restore-four : tie.Need-mul-restore-four Inv-loop μ-loop
 mul-restore-four c = search needs
@@ -61,10 +72,10 @@ loop-again c =
     let l = c .before .before .before .before .before .loop in
     let w = c .before .before .restore-four in
     let next : 4 * l .four + 4 ≡ 4 * (l .four + 1) = omega arith in
-    (search needs, (l .inv .1 .0, (omega (arith, w .kept .1 .0), restored-at next (w .ensures))))
+    record { within = search needs; long = l .inv .long; same = omega (arith, w .kept .1 .0); restored = restored-at next (w .ensures) }
 
 same-length : tie.Need-same-length Inv-loop μ-loop
-same-length c = c .before .loop .inv .1 .1 .0 ∙ c .before .before .before .before .copy-header .kept .1 .0
+same-length c = c .before .loop .inv .same ∙ c .before .before .before .before .copy-header .kept .1 .0
 
 returns-2 : tie.Need-returns-2 Inv-loop μ-loop
 unfolding sheetOf
@@ -74,7 +85,7 @@ returns-2 c =
     let fit = sym (c .before .before .before .before .before .before .before .sizes-fit .ensures) ∙ not-false _ (c .before .before .before .before .before .before .if1 .left) in
     let said = accepted-sheet (now (a .archive)) (now (a .sheet)) fit in
     let end : l .four ≡ 6 = omega arith in
-    (said .0, restored-whole (now (a .archive)) (l .sheet) (rw end at (l .inv .1 .1 .1)) ∙ said .1)
+    (said .0, restored-whole (now (a .archive)) (l .sheet) (rw end at (l .inv .restored)) ∙ said .1)
 
 pub restore-spec : {M : Type 1} → statement M
 restore-spec =

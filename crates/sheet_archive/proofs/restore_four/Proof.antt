@@ -11,13 +11,19 @@ use Rattle.sheet.specs.YearSheet.{sheetLength}
 use Rattle.sheet_archive.specs.Archive.{sheetMonths}
 use Rattle.sheet_archive.specs.InnerSteps.{Restored}
 use Rattle.sheet_archive.proofs.Restoring.{Hold, carried, carried-none, carried-on, month-worked, month-stored, restored-columns}
+use Rattle.sheet_archive.specs.declared.Four.{Four}
 use Rattle.sheet_archive.proofs.restore_four.Statement.{statement}
 use Rattle.sheet_archive.proofs.restore_four.Tie as tie
 
+record MonthsRestored (archive before : List ℕ) (column : ℕ) (sheet : List ℕ) (numbers : Four) (month : ℕ) : Type 0 where
+  pub within : month ≤ sheetMonths
+  pub same : length sheet ≡ length before
+  pub long : length sheet ≡ sheetLength
+  pub held : Hold (carried archive) column month numbers
+  pub restored : Restored archive sheet column month 0
+
 abbrev Inv-loop : tie.InvT-loop
-Inv-loop archive sheet₀ column numbers₀ month₀ sheet numbers month =
-    (month ≤ sheetMonths)
-    × ((length sheet ≡ length sheet₀) × ((length sheet ≡ sheetLength) × (Hold (carried archive) column month numbers × Restored archive sheet column month 0)))
+Inv-loop archive sheet₀ column numbers₀ month₀ sheet numbers month = MonthsRestored archive sheet₀ column sheet numbers month
 
 abbrev μ-loop : tie.MeasureT-loop
 μ-loop archive sheet₀ column numbers₀ month₀ sheet numbers month = sheetMonths - month
@@ -25,7 +31,7 @@ abbrev μ-loop : tie.MeasureT-loop
 loop-holds : tie.Need-loop-holds Inv-loop μ-loop
 loop-holds c =
     let begun = c .before .before .pre .1 in
-    (search needs, (refl, (begun .long, (carried-none _ _, begun))))
+    record { within = search needs; same = refl; long = begun .long; held = carried-none _ _; restored = begun }
 
 next-four-requires : tie.Need-next-four-requires Inv-loop μ-loop
 next-four-requires c κs = search needs
@@ -46,20 +52,14 @@ loop-again c =
     let l = c .before .before .before .before .before .before .loop in
     let a = c .before .before .before .before .before .before .before .before .before .args in
     let bytes : Bytes (now (a .archive)) = λ k. c .before .before .before .before .before .before .before .before .shared-slice-known .given k .fits in
-    let worked = month-worked (now (a .archive)) bytes (a .column) (l .month) (l .numbers) (n .result) (l .inv .1 .1 .1 .0) (n .ensures) in (
-      search needs,
-      (
-        omega (arith, w .kept .0),
-        (
-          omega (arith, w .kept .0),
-          (
-            carried-on (now (a .archive)) (a .column) (l .month) (n .result) worked,
-            subst (λ (s : List ℕ). Restored (now (a .archive)) s (a .column) (l .month + 1) 0) (sym (w .ensures))
-                (month-stored (now (a .archive)) (l .sheet) (a .column) (l .month) (n .result) (search needs) (search needs) worked (l .inv .1 .1 .1 .1)),
-          ),
-        ),
-      ),
-    )
+    let worked = month-worked (now (a .archive)) bytes (a .column) (l .month) (l .numbers) (n .result) (l .inv .held) (n .ensures) in record {
+      within = search needs;
+      same = omega (arith, w .kept .0);
+      long = omega (arith, w .kept .0);
+      held = carried-on (now (a .archive)) (a .column) (l .month) (n .result) worked;
+      restored = subst (λ (s : List ℕ). Restored (now (a .archive)) s (a .column) (l .month + 1) 0) (sym (w .ensures))
+          (month-stored (now (a .archive)) (l .sheet) (a .column) (l .month) (n .result) (search needs) (search needs) worked (l .inv .restored));
+    }
 
 same-length : tie.Need-same-length Inv-loop μ-loop
 same-length c = search needs
@@ -69,7 +69,7 @@ returns c =
     let l = c .before .loop in
     let a = c .before .before .before .before .args in
     let end : l .month ≡ sheetMonths = omega arith in
-    restored-columns (now (a .archive)) (l .sheet) (a .column) (rw end at (l .inv .1 .1 .1 .1))
+    restored-columns (now (a .archive)) (l .sheet) (a .column) (rw end at (l .inv .restored))
 
 pub restore-four-spec : {M : Type 1} → statement M
 restore-four-spec =

@@ -1,4 +1,4 @@
--- Four stores one after the other.
+-- `store_four` is held to `fourStored`: four stores one after the other.
 use borrow.Author.Needs.{needs}
 use Rattle.sheet_archive.proofs.store_four.Statement.{statement}
 use Rattle.sheet_archive.proofs.store_four.Tie as tie

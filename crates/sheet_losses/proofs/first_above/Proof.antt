@@ -16,7 +16,7 @@ returns : tie.Need-returns
 unfolding byBand
 returns c =
     let b = c .before .before .args .b in
-    (omega arith, first-is-first (λ band. ltb maxKwh (inWide b band)) (sym (c .before .above .ensures) ∙ c .if1 .taken))
+    record { within = omega arith; first = first-is-first (λ band. ltb maxKwh (inWide b band)) (sym (c .before .above .ensures) ∙ c .if1 .taken) }
 
 above-requires-2 : tie.Need-above-requires-2
 above-requires-2 c κs = search needs
@@ -24,20 +24,20 @@ above-requires-2 c κs = search needs
 returns-2 : tie.Need-returns-2
 unfolding byBand
 returns-2 c =
-    let b = c .before .before .before .before .args .b in (
-      omega arith,
-      first-is-second (λ band. ltb maxKwh (inWide b band)) (sym (c .before .before .before .above .ensures) ∙ c .before .before .if1 .left)
-          (sym (c .before .above2 .ensures) ∙ c .if2 .taken),
-    )
+    let b = c .before .before .before .before .args .b in record {
+      within = omega arith;
+      first = first-is-second (λ band. ltb maxKwh (inWide b band)) (sym (c .before .before .before .above .ensures) ∙ c .before .before .if1 .left)
+          (sym (c .before .above2 .ensures) ∙ c .if2 .taken);
+    }
 
 returns-3 : tie.Need-returns-3
 unfolding byBand
 returns-3 c =
-    let b = c .before .before .before .before .args .b in (
-      omega arith,
-      first-is-third (λ band. ltb maxKwh (inWide b band)) (sym (c .before .before .before .above .ensures) ∙ c .before .before .if1 .left)
-          (sym (c .before .above2 .ensures) ∙ c .if2 .left),
-    )
+    let b = c .before .before .before .before .args .b in record {
+      within = omega arith;
+      first = first-is-third (λ band. ltb maxKwh (inWide b band)) (sym (c .before .before .before .above .ensures) ∙ c .before .before .if1 .left)
+          (sym (c .before .above2 .ensures) ∙ c .if2 .left);
+    }
 
 pub first-above-spec : {M : Type 1} → statement M
 first-above-spec = tie.close (tie.spec above-requires returns above-requires-2 returns-2 returns-3)

@@ -72,15 +72,13 @@ returns c =
     let r₂ = ap (λ (r : Rests). r .third) rests in
     let k₀ = band-raised factor s month 0 (n₀ .number-at .ensures) r₀ (d₀ .divide .ensures) in
     let k₁ = band-raised factor s month 1 (n₁ .number-at2 .ensures) r₁ (d₁ .divide2 .ensures) in
-    let k₂ = band-raised factor s month 2 (n₂ .number-at3 .ensures) r₂ (d₂ .divide3 .ensures) in (
-      bands-raised factor s month k₀ k₁ k₂,
-      (
-        some-above factor s month (c .before .before .above .ensures) (c .before .above2 .ensures) (c .above3 .ensures) k₀ k₁ k₂,
-        rests-passed factor s month (band-passed factor s month 0 (n₀ .number-at .ensures) r₀ (d₀ .divide .ensures))
-            (band-passed factor s month 1 (n₁ .number-at2 .ensures) r₁ (d₁ .divide2 .ensures))
-            (band-passed factor s month 2 (n₂ .number-at3 .ensures) r₂ (d₂ .divide3 .ensures)),
-      ),
-    )
+    let k₂ = band-raised factor s month 2 (n₂ .number-at3 .ensures) r₂ (d₂ .divide3 .ensures) in record {
+      bands = bands-raised factor s month k₀ k₁ k₂;
+      over = some-above factor s month (c .before .before .above .ensures) (c .before .above2 .ensures) (c .above3 .ensures) k₀ k₁ k₂;
+      passing = rests-passed factor s month (band-passed factor s month 0 (n₀ .number-at .ensures) r₀ (d₀ .divide .ensures))
+          (band-passed factor s month 1 (n₁ .number-at2 .ensures) r₁ (d₁ .divide2 .ensures))
+          (band-passed factor s month 2 (n₂ .number-at3 .ensures) r₂ (d₂ .divide3 .ensures));
+    }
 
 pub raised-month-spec : {M : Type 1} → statement M
 raised-month-spec =

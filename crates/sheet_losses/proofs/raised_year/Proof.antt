@@ -35,15 +35,15 @@ returns c =
     let l = worked .before .before .loop in
     let a = worked .before .before .before .before .args in
     let said = worked .raised-month .ensures in
-    stops (a .factor) (now (a .sheet)) (l .inv) (search needs) (said .0) (said .1 .0) (c .before .before .before .if1 .taken)
-    (c .before .before .first-above .ensures .1) (c .before .position-of .ensures) (c .refused .ensures)
+    stops (a .factor) (now (a .sheet)) (l .inv) (search needs) (said .bands) (said .over) (c .before .before .before .if1 .taken)
+    (c .before .before .first-above .ensures .first) (c .before .position-of .ensures) (c .refused .ensures)
 
 narrowed-requires : tie.Need-narrowed-requires Inv-loop μ-loop
 narrowed-requires c κs =
     let worked = c .before .before in
     let a = worked .before .before .before .before .args in
     let said = worked .raised-month .ensures in
-    bands-within (a .factor) (now (a .sheet)) (worked .before .before .loop .month) (said .0) (sym (said .1 .0) ∙ c .if1 .left)
+    bands-within (a .factor) (now (a .sheet)) (worked .before .before .loop .month) (said .bands) (sym (said .over) ∙ c .if1 .left)
 
 mul-months : tie.Need-mul-months Inv-loop μ-loop
 mul-months c = search needs
@@ -63,7 +63,7 @@ loop-again c =
     let l = worked .before .before .loop in
     let a = worked .before .before .before .before .args in
     let said = worked .raised-month .ensures in
-    goes-on (a .factor) (now (a .sheet)) (l .inv) (search needs) (said .0) (c .before .narrowed .ensures) (said .1 .0) (c .before .before .if1 .left) (said .1 .1)
+    goes-on (a .factor) (now (a .sheet)) (l .inv) (search needs) (said .bands) (c .before .narrowed .ensures) (said .over) (c .before .before .if1 .left) (said .passing)
 
 returns-2 : tie.Need-returns-2 Inv-loop μ-loop
 returns-2 c =

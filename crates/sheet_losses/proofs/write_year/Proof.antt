@@ -1,19 +1,18 @@
 -- After each turn one month more stands in the sheet.
-use Prim.Native.Nat.{_-_, _≤_}
+use Prim.Native.Nat.{_-_}
 use mathlib.Core.Path.{_≡_, refl}
 use native.Mathlib.Omega.{arith}
 use borrow.Author.Needs.{needs}
 use denote.Ref.{now}
-use lib.ListN.{length}
 use Rattle.sheet_losses.specs.Losses.{withInjected}
 use Rattle.sheet_losses.specs.InnerSteps.{readingsIn}
 use Rattle.sheet_losses.proofs.Writing.{none-written, next-written}
+use Rattle.units.proofs.Filled.{Written}
 use Rattle.sheet_losses.proofs.write_year.Statement.{statement}
 use Rattle.sheet_losses.proofs.write_year.Tie as tie
 
 abbrev Inv-loop : tie.InvT-loop
-Inv-loop sheet₀ months month₀ sheet month =
-    (month ≤ 12) × ((length sheet ≡ length sheet₀) × (sheet ≡ withInjected (readingsIn months) sheet₀ month))
+Inv-loop sheet₀ months month₀ sheet month = Written 12 month sheet₀ sheet (withInjected (readingsIn months) sheet₀ month)
 
 abbrev μ-loop : tie.MeasureT-loop
 μ-loop sheet₀ months month₀ sheet month = 12 - month
@@ -21,7 +20,7 @@ abbrev μ-loop : tie.MeasureT-loop
 loop-holds : tie.Need-loop-holds Inv-loop μ-loop
 loop-holds c =
     let a = c .before .args in
-    (search needs, (refl, none-written (readingsIn (a .t2)) (now (a .sheet))))
+    record { within = search needs; same = refl; written = none-written (readingsIn (a .t2)) (now (a .sheet)) }
 
 mul-raised : tie.Need-mul-raised Inv-loop μ-loop
 mul-raised c = search needs
@@ -43,7 +42,11 @@ loop-again c =
     let w = c .before .before .store-month in
     let l = c .before .before .before .before .before .before .loop in
     let a = c .before .before .before .before .before .before .before .before .args in
-    (search needs, (omega (arith, w .kept .0), next-written (readingsIn (a .t2)) (now (a .sheet)) (l .month) (l .sheet) (w .last .0) (l .inv .1 .1) (w .ensures)))
+    record {
+      within = search needs;
+      same = omega (arith, w .kept .0);
+      written = next-written (readingsIn (a .t2)) (now (a .sheet)) (l .month) (l .sheet) (w .last .0) (l .inv .written) (w .ensures);
+    }
 
 same-length : tie.Need-same-length Inv-loop μ-loop
 same-length c = search needs
@@ -52,7 +55,7 @@ returns : tie.Need-returns Inv-loop μ-loop
 returns c =
     let l = c .before .loop in
     let end : l .month ≡ 12 = omega arith in
-    rw end at (l .inv .1 .1)
+    rw end at (l .inv .written)
 
 pub write-year-spec : {M : Type 1} → statement M
 write-year-spec =

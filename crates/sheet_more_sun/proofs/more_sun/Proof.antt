@@ -31,7 +31,8 @@ least-addition-requires c κs =
     let f = c .before .before .before .before .number-at in
     let o = c .before .before .before .cost in
     let v = c .value in
-    in-limits (now (h .args .s)) (h .pre .0) (h .args .details) (h .args .month) (h .args .band) (h .pre .1) (p .result) (p .ensures) (f .result) (f .ensures) (o .result) (v .result) (o .ensures) (v .ensures)
+    in-limits (now (h .args .s)) (h .pre .0) (h .args .details) (h .args .month) (h .args .band) (h .pre .1) (p .result) (p .ensures) (f .result) (f .ensures) (o .result) (v .result) (o .ensures)
+    (v .ensures)
 
 returns : tie.Need-returns
 returns c =
@@ -40,7 +41,8 @@ returns c =
     let f = c .before .before .before .before .before .number-at in
     let o = c .before .before .before .before .cost in
     let v = c .before .value in
-    answered (now (h .args .s)) (h .pre .0) (h .args .details) (h .args .month) (h .args .band) (h .pre .1) (p .result) (p .ensures) (f .result) (f .ensures) (o .result) (v .result) (o .ensures) (v .ensures)
+    answered (now (h .args .s)) (h .pre .0) (h .args .details) (h .args .month) (h .args .band) (h .pre .1) (p .result) (p .ensures) (f .result) (f .ensures) (o .result) (v .result) (o .ensures)
+    (v .ensures)
     (c .least-addition .result) (c .least-addition .ensures)
 
 pub more-sun-spec : {M : Type 1} → statement M

@@ -1,4 +1,4 @@
--- The rows of the sheet, month by month.
+-- `cost` is held to `costOf`: the rows of the sheet, month by month.
 use Prim.Native.Nat.{ℕ}
 use mathlib.Core.Path.{ap, _∙_}
 use mathlib.Core.Bool.{true, false}
@@ -30,7 +30,8 @@ year-value-requires : tie.Need-year-value-requires
 year-value-requires c κs =
     let start = c .before .before .before .before in
     let a = start .args in
-    rows-fit (now (a .s)) (start .pre) 0 (lit≤ tt) (eqb (c .before .before .withdrawn-reading .result) 1) true false (c .before .energies .result) (c .prices .result) (c .before .energies .ensures) (c .prices .ensures)
+    rows-fit (now (a .s)) (start .pre) 0 (lit≤ tt) (eqb (c .before .before .withdrawn-reading .result) 1) true false (c .before .energies .result) (c .prices .result) (c .before .energies .ensures)
+    (c .prices .ensures)
 
 returns : tie.Need-returns
 returns c =

@@ -46,13 +46,15 @@ add-t22 c =
 add-t23 : tie.Need-add-t23
 add-t23 c =
     let a = c .before .before .before .before .before .before .before .before .before .before .before .before in
-    let sums = row-sum (a .args .t1) (a .args .t2) _ _ _ (a .pre) (c .before .before .before .before .before .before .before .before .before .priced .ensures) (c .before .before .before .before .before .before .priced2 .ensures) (c .before .before .before .priced3 .ensures) in
+    let sums = row-sum (a .args .t1) (a .args .t2) _ _ _ (a .pre) (c .before .before .before .before .before .before .before .before .before .priced .ensures)
+    (c .before .before .before .before .before .before .priced2 .ensures) (c .before .before .before .priced3 .ensures) in
     omega arith
 
 returns : tie.Need-returns
 returns c =
     let a = c .before .before .before .before .before .before .before .before .before .before .before .before in
-    let sums = row-sum (a .args .t1) (a .args .t2) _ _ _ (a .pre) (c .before .before .before .before .before .before .before .before .before .priced .ensures) (c .before .before .before .before .before .before .priced2 .ensures) (c .before .before .before .priced3 .ensures) in
+    let sums = row-sum (a .args .t1) (a .args .t2) _ _ _ (a .pre) (c .before .before .before .before .before .before .before .before .before .priced .ensures)
+    (c .before .before .before .before .before .before .priced2 .ensures) (c .before .before .before .priced3 .ensures) in
     (ap ticks (sums .0), sums .1)
 
 pub row-value-spec : {M : Type 1} → statement M

@@ -1,4 +1,4 @@
--- The rows of the sheet, month by month.
+-- `value` is held to `valueOf`: the rows of the sheet, month by month.
 use Prim.Native.Nat.{ℕ}
 use mathlib.Core.Path.{ap, _∙_}
 use denote.Ref.{now}
@@ -29,7 +29,8 @@ year-value-requires : tie.Need-year-value-requires
 year-value-requires c κs =
     let start = c .before .before .before .before in
     let a = start .args in
-    rows-fit (now (a .s)) (start .pre) 3 (lit≤ tt) (eqb (c .before .before .injected-reading .result) 1) (a .island) (a .photovoltaic) (c .before .energies .result) (c .prices .result) (c .before .energies .ensures) (c .prices .ensures)
+    rows-fit (now (a .s)) (start .pre) 3 (lit≤ tt) (eqb (c .before .before .injected-reading .result) 1) (a .island) (a .photovoltaic) (c .before .energies .result) (c .prices .result)
+    (c .before .energies .ensures) (c .prices .ensures)
 
 returns : tie.Need-returns
 returns c =

@@ -1,5 +1,5 @@
--- A running sum of the months.
-use Prim.Native.Nat.{ℕ, _-_, _*_, _≤_}
+-- `year_value` is held to `sumBelow`: a running sum of the months.
+use Prim.Native.Nat.{ℕ, _-_, _*_}
 use mathlib.Core.Path.{_≡_, ap, sym, _∙_}
 use mathlib.Core.List.{[]}
 use native.Mathlib.Omega.{arith}
@@ -8,7 +8,7 @@ use Rattle.units.specs.Units.{ticks}
 use Rattle.units.specs.declared.Ticks.{Ticks}
 use Rattle.units.specs.Limits.{maxKwh, maxPrice}
 use Rattle.units.specs.Folds.{sumBelow}
-use Rattle.units.proofs.Folds.{sum-zero, sum-next}
+use Rattle.units.proofs.Folds.{Summing, sum-zero, sum-next}
 use Rattle.sheet_prices.specs.InnerArrays.{rowValue}
 use borrow.Author.Needs.{needs}
 use Rattle.sheet_prices.proofs.year_value.Statement.{statement}
@@ -16,13 +16,17 @@ use Rattle.sheet_prices.proofs.year_value.Tie as tie
 
 abbrev Inv-loop : tie.InvT-loop
 Inv-loop energy prices sum₀ month₀ sum month =
-    (month ≤ 12) × ((sum ≤ 3 * (maxKwh * maxPrice) * month) × (sum ≡ sumBelow month (λ m. rowValue (getD energy m []) (getD prices m []))))
+    Summing (λ m. rowValue (getD energy m []) (getD prices m [])) 12 (3 * (maxKwh * maxPrice) * month) month sum
 
 abbrev μ-loop : tie.MeasureT-loop
 μ-loop energy prices sum₀ month₀ sum month = 12 - month
 
 loop-holds : tie.Need-loop-holds Inv-loop μ-loop
-loop-holds c = (search needs, (search needs, sym (sum-zero (λ m. rowValue (getD (c .args .t1) m []) (getD (c .args .t2) m [])))))
+loop-holds c = record {
+  within = search needs;
+  bounded = search needs;
+  sums = sym (sum-zero (λ m. rowValue (getD (c .args .t1) m []) (getD (c .args .t2) m [])));
+}
 
 mul-row-value : tie.Need-mul-row-value Inv-loop μ-loop
 mul-row-value c = search needs
@@ -53,14 +57,18 @@ loop-again c =
     let l = c .before .before .before .before .before .loop in
     let a = c .before .before .before .before .before .before .args in
     let value = c .before .row-value .ensures in
-    (search needs, (omega arith, sum-next (l .month) (λ m. rowValue (getD (a .t1) m []) (getD (a .t2) m [])) (l .inv .1 .1) (ap (λ (t : Ticks). t .0) (value .0))))
+    record {
+      within = search needs;
+      bounded = omega arith;
+      sums = sum-next (l .month) (λ m. rowValue (getD (a .t1) m []) (getD (a .t2) m [])) (l .inv .sums) (ap (λ (t : Ticks). t .0) (value .0));
+    }
 
 returns : tie.Need-returns Inv-loop μ-loop
 returns c =
     let l = c .before .loop in
     let a = c .before .before .args in
     let end : l .month ≡ 12 = omega arith in
-    (ap ticks (l .inv .1 .1 ∙ ap (λ (n : ℕ). sumBelow n (λ m. rowValue (getD (a .t1) m []) (getD (a .t2) m []))) end), omega arith)
+    (ap ticks (l .inv .sums ∙ ap (λ (n : ℕ). sumBelow n (λ m. rowValue (getD (a .t1) m []) (getD (a .t2) m []))) end), omega arith)
 
 pub year-value-spec : {M : Type 1} → statement M
 year-value-spec =

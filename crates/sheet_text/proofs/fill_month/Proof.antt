@@ -1,21 +1,20 @@
 -- Place by place.
-use Prim.Native.Nat.{ℕ, _+_, _-_, _*_, _≤_}
+use Prim.Native.Nat.{ℕ, _+_, _-_, _*_}
 use mathlib.Core.Path.{_≡_, refl, ap, _∙_}
 use native.Mathlib.Omega.{arith}
 use borrow.Author.Needs.{needs}
 use denote.Ref.{now}
-use lib.ListN.{length}
 use Rattle.codec.specs.Bytes.{bytesOf, stored}
 use Rattle.sheet_text.specs.Lines.{places}
 use Rattle.sheet_text.specs.Reading.{monthFilled}
 use Rattle.sheet_text.specs.InnerSteps.{yearOf}
 use Rattle.sheet_text.proofs.Filling.{month-none, month-next}
+use Rattle.units.proofs.Filled.{Written}
 use Rattle.sheet_text.proofs.fill_month.Statement.{statement}
 use Rattle.sheet_text.proofs.fill_month.Tie as tie
 
 abbrev Inv-loop : tie.InvT-loop
-Inv-loop sheet₀ month year place₀ sheet place =
-    (place ≤ places) × ((length sheet ≡ length sheet₀) × (sheet ≡ monthFilled (yearOf year month) month place sheet₀))
+Inv-loop sheet₀ month year place₀ sheet place = Written places place sheet₀ sheet (monthFilled (yearOf year month) month place sheet₀)
 
 abbrev μ-loop : tie.MeasureT-loop
 μ-loop sheet₀ month year place₀ sheet place = places - place
@@ -23,7 +22,7 @@ abbrev μ-loop : tie.MeasureT-loop
 loop-holds : tie.Need-loop-holds Inv-loop μ-loop
 loop-holds c =
     let a = c .before .args in
-    (search needs, (refl, month-none (yearOf (a .t3) (a .month)) (a .month) (now (a .sheet))))
+    record { within = search needs; same = refl; written = month-none (yearOf (a .t3) (a .month)) (a .month) (now (a .sheet)) }
 
 mul-store-u32 : tie.Need-mul-store-u32 Inv-loop μ-loop
 mul-store-u32 c = search needs
@@ -50,7 +49,7 @@ array-read-store-u32 : tie.Need-array-read-store-u32 Inv-loop μ-loop
 array-read-store-u32 c = search needs
 
 store-u32-requires : tie.Need-store-u32-requires Inv-loop μ-loop
-store-u32-requires c κs = omega (arith, c .before .before .loop .inv .1 .0)
+store-u32-requires c κs = omega (arith, c .before .before .loop .inv .same)
 
 add-place : tie.Need-add-place Inv-loop μ-loop
 add-place c = search needs
@@ -62,25 +61,23 @@ loop-again : tie.Need-loop-again Inv-loop μ-loop
 loop-again c =
     let l = c .before .before .before .before .before .loop in
     let a = c .before .before .before .before .before .before .before .args in
-    let put = c .before .before .store-u32 in (
-      search needs,
-      (
-        put .kept .0 ∙ l .inv .1 .0,
-        put .ensures
-            ∙ ap (stored (32 + 96 * a .month + 4 * l .place) (bytesOf 4 (yearOf (a .t3) (a .month) (l .place)))) (l .inv .1 .1)
-            ∙ month-next (yearOf (a .t3) (a .month)) (a .month) (now (a .sheet)) (l .place),
-      ),
-    )
+    let put = c .before .before .store-u32 in record {
+      within = search needs;
+      same = put .kept .0 ∙ l .inv .same;
+      written = put .ensures
+          ∙ ap (stored (32 + 96 * a .month + 4 * l .place) (bytesOf 4 (yearOf (a .t3) (a .month) (l .place)))) (l .inv .written)
+          ∙ month-next (yearOf (a .t3) (a .month)) (a .month) (now (a .sheet)) (l .place);
+    }
 
 same-length : tie.Need-same-length Inv-loop μ-loop
-same-length c = c .before .loop .inv .1 .0
+same-length c = c .before .loop .inv .same
 
 returns : tie.Need-returns Inv-loop μ-loop
 returns c =
     let l = c .before .loop in
     let a = c .before .before .before .args in
     let end : l .place ≡ places = omega arith in
-    l .inv .1 .1 ∙ ap (λ (p : ℕ). monthFilled (yearOf (a .t3) (a .month)) (a .month) p (now (a .sheet))) end
+    l .inv .written ∙ ap (λ (p : ℕ). monthFilled (yearOf (a .t3) (a .month)) (a .month) p (now (a .sheet))) end
 
 pub fill-month-spec : {M : Type 1} → statement M
 fill-month-spec =

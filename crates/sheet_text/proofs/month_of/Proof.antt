@@ -1,25 +1,25 @@
 -- The numbers are read one by one.
-use Prim.Native.Nat.{_-_, _≤_}
+use Prim.Native.Nat.{_-_}
 use mathlib.Core.Path.{_≡_, refl}
 use native.Mathlib.Nat.{not-suc-le-zero}
 use native.Mathlib.Omega.{arith}
 use borrow.Author.Needs.{needs}
 use denote.Ref.{now}
-use lib.ListN.{length, length-set}
-use Rattle.units.proofs.Filled.{Filled, filled-next}
+use lib.ListN.{length-set}
+use Rattle.units.proofs.Filled.{Filling, filled-next}
 use Rattle.sheet.specs.YearSheet.{word}
 use Rattle.sheet_text.specs.Lines.{places}
 use Rattle.sheet_text.proofs.month_of.Statement.{statement}
 use Rattle.sheet_text.proofs.month_of.Tie as tie
 
 abbrev Inv-loop : tie.InvT-loop
-Inv-loop sheet month kwh₀ place₀ kwh place = (place ≤ places) × ((length kwh ≡ places) × Filled 0 (word sheet month) place kwh)
+Inv-loop sheet month kwh₀ place₀ kwh place = Filling 0 (word sheet month) places place kwh
 
 abbrev μ-loop : tie.MeasureT-loop
 μ-loop sheet month kwh₀ place₀ kwh place = places - place
 
 loop-holds : tie.Need-loop-holds Inv-loop μ-loop
-loop-holds c = (search needs, (refl, λ m l. absurd (not-suc-le-zero l)))
+loop-holds c = record { within = search needs; long = refl; filled = λ m l. absurd (not-suc-le-zero l) }
 
 number-at-requires : tie.Need-number-at-requires Inv-loop μ-loop
 number-at-requires c κs = search needs
@@ -41,13 +41,17 @@ loop-again c =
     let l = c .before .before .loop in
     let a = c .before .before .before .before .args in
     let n = c .number-at in
-    (search needs, (simp length-set (l .inv .1 .0), filled-next 0 (word (now (a .sheet)) (a .month)) (l .place) (l .kwh) (n .result) (omega arith) (n .ensures) (l .inv .1 .1)))
+    record {
+      within = search needs;
+      long = simp length-set (l .inv .long);
+      filled = filled-next 0 (word (now (a .sheet)) (a .month)) (l .place) (l .kwh) (n .result) (omega arith) (n .ensures) (l .inv .filled);
+    }
 
 returns : tie.Need-returns Inv-loop μ-loop
 returns c =
     let l = c .before .loop in
     let end : l .place ≡ places = omega arith in
-    λ p h. l .inv .1 .1 p (rw end h)
+    λ p h. l .inv .filled p (rw end h)
 
 pub month-of-spec : {M : Type 1} → statement M
 month-of-spec =

@@ -1,5 +1,5 @@
 -- Line by line, each where the one before it ends; the twelve of a sheet past 13 fit.
-use Prim.Native.Nat.{ℕ, _+_, _-_, _≤_}
+use Prim.Native.Nat.{ℕ, _+_, _-_}
 use mathlib.Core.Path.{_≡_, refl, sym, ap, ap₂, _∙_}
 use mathlib.Core.List.{List}
 use native.Mathlib.Omega.{arith}
@@ -11,15 +11,14 @@ use Rattle.codec.proofs.Pieces.{stored-none}
 use Rattle.sheet.specs.YearSheet.{word}
 use Rattle.sheet_text.specs.Lines.{months, line, lines}
 use Rattle.sheet_text.specs.InnerSteps.{kwhOf}
-use Rattle.sheet_text.proofs.LineWriting.{line-same, lines-none, lines-length, lines-room, year-room, lines-written}
+use Rattle.sheet_text.proofs.LineWriting.{TextWritten, line-same, lines-none, lines-length, lines-room, year-room, lines-written}
 use Rattle.sheet_text.proofs.SheetAbove.{sizes-of, sheet-within}
 use Rattle.sheet_text.proofs.write_lines.Statement.{statement}
 use Rattle.sheet_text.proofs.write_lines.Tie as tie
 
 abbrev Inv-loop : tie.InvT-loop
 Inv-loop sheet out₀ end₀ month₀ out end month =
-    ((month ≤ months) × (length out ≡ length out₀))
-    × ((end ≡ length (lines month (word sheet))) × (out ≡ stored 0 (lines month (word sheet)) out₀))
+    TextWritten months month (length (lines month (word sheet))) end out₀ out (stored 0 (lines month (word sheet)) out₀)
 
 abbrev μ-loop : tie.MeasureT-loop
 μ-loop sheet out₀ end₀ month₀ out end month = months - month
@@ -28,7 +27,12 @@ loop-holds : tie.Need-loop-holds Inv-loop μ-loop
 loop-holds c =
     let a = c .before .before .args in
     let none = lines-none (word (now (a .sheet))) in
-    ((search needs, refl), (ap length none, sym (ap (λ (t : List ℕ). stored 0 t (now (a .out))) (sym none) ∙ stored-none 0 (now (a .out)))))
+    record {
+      within = search needs;
+      same = refl;
+      ends = ap length none;
+      written = sym (ap (λ (t : List ℕ). stored 0 t (now (a .out))) (sym none) ∙ stored-none 0 (now (a .out)));
+    }
 
 month-of-requires : tie.Need-month-of-requires Inv-loop μ-loop
 month-of-requires c κs =
@@ -42,7 +46,7 @@ write-line-requires c κs =
     let s = now (start .args .sheet) in
     let same = line-same (l .month + 1) (kwhOf (c .before .month-of .result)) (word s (l .month)) (c .before .month-of .ensures) in
     let room = sizes-of s (now (start .args .out)) (start .pre .0) .1 in
-    (omega arith, omega (arith, ap length same, lines-room (l .month) (word s) (omega arith) (sheet-within s (start .pre .1)), l .inv .0 .1, l .inv .1 .0))
+    (omega arith, omega (arith, ap length same, lines-room (l .month) (word s) (omega arith) (sheet-within s (start .pre .1)), l .inv .same, l .inv .ends))
 
 add-month : tie.Need-add-month Inv-loop μ-loop
 add-month c = search needs
@@ -59,19 +63,18 @@ loop-again c =
     let six = c .before .before .before .before .month-of in
     let w = c .before .before .write-line in
     let same = line-same (l .month + 1) (kwhOf (six .result)) (word s (l .month)) (six .ensures) in
-    let room = sizes-of s out (start .pre .0) .1 in (
-      (search needs, w .kept .0 ∙ l .inv .0 .1),
-      (
-        omega (arith, ap length same, lines-length (l .month) (word s), w .ensures .0, l .inv .1 .0),
-        w .ensures .1
-            ∙ ap (λ (t : List ℕ). stored (l .end) t (l .out)) same
-            ∙ ap₂ (λ (e : ℕ) (o : List ℕ). stored e (line (l .month + 1) (word s (l .month))) o) (l .inv .1 .0) (l .inv .1 .1)
-            ∙ lines-written (l .month) (word s) out (omega arith) (sheet-within s (start .pre .1)) room,
-      ),
-    )
+    let room = sizes-of s out (start .pre .0) .1 in record {
+      within = search needs;
+      same = w .kept .0 ∙ l .inv .same;
+      ends = omega (arith, ap length same, lines-length (l .month) (word s), w .ensures .0, l .inv .ends);
+      written = w .ensures .1
+          ∙ ap (λ (t : List ℕ). stored (l .end) t (l .out)) same
+          ∙ ap₂ (λ (e : ℕ) (o : List ℕ). stored e (line (l .month + 1) (word s (l .month))) o) (l .inv .ends) (l .inv .written)
+          ∙ lines-written (l .month) (word s) out (omega arith) (sheet-within s (start .pre .1)) room;
+    }
 
 same-length : tie.Need-same-length Inv-loop μ-loop
-same-length c = c .before .loop .inv .0 .1
+same-length c = c .before .loop .inv .same
 
 returns : tie.Need-returns Inv-loop μ-loop
 returns c =
@@ -79,9 +82,9 @@ returns c =
     let start = c .before .before .before .before in
     let s = now (start .args .sheet) in
     let end : l .month ≡ months = omega arith in
-    let whole = l .inv .1 .0 ∙ ap (λ (m : ℕ). length (lines m (word s))) end in (
+    let whole = l .inv .ends ∙ ap (λ (m : ℕ). length (lines m (word s))) end in (
       (whole, omega (arith, year-room (word s) (sheet-within s (start .pre .1)))),
-      l .inv .1 .1 ∙ ap (λ (m : ℕ). stored 0 (lines m (word s)) (now (start .args .out))) end,
+      l .inv .written ∙ ap (λ (m : ℕ). stored 0 (lines m (word s)) (now (start .args .out))) end,
     )
 
 pub write-lines-spec : {M : Type 1} → statement M

@@ -1,5 +1,5 @@
 -- Field by field, each where the one before it ends.
-use Prim.Native.Nat.{ℕ, _+_, _-_, _≤_}
+use Prim.Native.Nat.{ℕ, _+_, _-_}
 use mathlib.Core.Path.{_≡_, refl, sym, ap, ap₂, _∙_}
 use mathlib.Core.List.{List}
 use native.Mathlib.Omega.{arith}
@@ -11,14 +11,13 @@ use Rattle.codec.proofs.Pieces.{stored-none}
 use Rattle.decimals.specs.Decimals.{field}
 use Rattle.sheet_text.specs.Lines.{places}
 use Rattle.sheet_text.specs.InnerSteps.{kwhOf, stopAt, numbersTo}
-use Rattle.sheet_text.proofs.LineWriting.{numbers-none, numbers-room, numbers-length, numbers-written}
+use Rattle.sheet_text.proofs.LineWriting.{TextWritten, numbers-none, numbers-room, numbers-length, numbers-written}
 use Rattle.sheet_text.proofs.write_numbers.Statement.{statement}
 use Rattle.sheet_text.proofs.write_numbers.Tie as tie
 
 abbrev Inv-loop : tie.InvT-loop
 Inv-loop out₀ at kwh end₀ place₀ out end place =
-    ((place ≤ places) × (length out ≡ length out₀))
-    × ((end ≡ at + length (numbersTo (kwhOf kwh) place)) × (out ≡ stored at (numbersTo (kwhOf kwh) place) out₀))
+    TextWritten places place (at + length (numbersTo (kwhOf kwh) place)) end out₀ out (stored at (numbersTo (kwhOf kwh) place) out₀)
 
 abbrev μ-loop : tie.MeasureT-loop
 μ-loop out₀ at kwh end₀ place₀ out end place = places - place
@@ -26,10 +25,12 @@ abbrev μ-loop : tie.MeasureT-loop
 loop-holds : tie.Need-loop-holds Inv-loop μ-loop
 loop-holds c =
     let a = c .before .args in
-    let none = numbers-none (kwhOf (a .t3)) in (
-      (search needs, refl),
-      (omega (arith, ap length none), sym (ap (λ (t : List ℕ). stored (a .at) t (now (a .out))) (sym none) ∙ stored-none (a .at) (now (a .out)))),
-    )
+    let none = numbers-none (kwhOf (a .t3)) in record {
+      within = search needs;
+      same = refl;
+      ends = omega (arith, ap length none);
+      written = sym (ap (λ (t : List ℕ). stored (a .at) t (now (a .out))) (sym none) ∙ stored-none (a .at) (now (a .out)));
+    }
 
 mul-write-field : tie.Need-mul-write-field Inv-loop μ-loop
 mul-write-field c = search needs
@@ -50,7 +51,7 @@ write-field-requires c κs =
     let kwh = kwhOf (a .t3) in
     let stop : length (field (kwh (l .place)) (c .stop-at .result)) ≡ length (field (kwh (l .place)) (stopAt (l .place)))
     = ap (λ (b : ℕ). length (field (kwh (l .place)) b)) (c .stop-at .ensures) in
-    omega (arith, numbers-room kwh (l .place) (omega arith), l .inv .0 .1, l .inv .1 .0)
+    omega (arith, numbers-room kwh (l .place) (omega arith), l .inv .same, l .inv .ends)
 
 add-place : tie.Need-add-place Inv-loop μ-loop
 add-place c = search needs
@@ -66,27 +67,26 @@ loop-again c =
     let p = l .place in
     let w = c .before .before .write-field in
     let stop = c .before .before .before .stop-at in
-    let long : length (field (kwh p) (stop .result)) ≡ length (field (kwh p) (stopAt p)) = ap (λ (b : ℕ). length (field (kwh p) b)) (stop .ensures) in (
-      (search needs, w .kept .0 ∙ l .inv .0 .1),
-      (
-        omega (arith, numbers-length kwh p, w .ensures .0, l .inv .1 .0),
-        w .ensures .1
-            ∙ ap (λ (b : ℕ). stored (l .end) (field (kwh p) b) (l .out)) (stop .ensures)
-            ∙ ap₂ (λ (e : ℕ) (o : List ℕ). stored e (field (kwh p) (stopAt p)) o) (l .inv .1 .0) (l .inv .1 .1)
-            ∙ numbers-written kwh (a .at) p (now (a .out)) (omega arith) (omega arith),
-      ),
-    )
+    let long : length (field (kwh p) (stop .result)) ≡ length (field (kwh p) (stopAt p)) = ap (λ (b : ℕ). length (field (kwh p) b)) (stop .ensures) in record {
+      within = search needs;
+      same = w .kept .0 ∙ l .inv .same;
+      ends = omega (arith, numbers-length kwh p, w .ensures .0, l .inv .ends);
+      written = w .ensures .1
+          ∙ ap (λ (b : ℕ). stored (l .end) (field (kwh p) b) (l .out)) (stop .ensures)
+          ∙ ap₂ (λ (e : ℕ) (o : List ℕ). stored e (field (kwh p) (stopAt p)) o) (l .inv .ends) (l .inv .written)
+          ∙ numbers-written kwh (a .at) p (now (a .out)) (omega arith) (omega arith);
+    }
 
 same-length : tie.Need-same-length Inv-loop μ-loop
-same-length c = c .before .loop .inv .0 .1
+same-length c = c .before .loop .inv .same
 
 returns : tie.Need-returns Inv-loop μ-loop
 returns c =
     let l = c .before .loop in
     let a = c .before .before .before .args in
     let end : l .place ≡ places = omega arith in (
-      l .inv .1 .0 ∙ ap (λ (p : ℕ). a .at + length (numbersTo (kwhOf (a .t3)) p)) end,
-      l .inv .1 .1 ∙ ap (λ (p : ℕ). stored (a .at) (numbersTo (kwhOf (a .t3)) p) (now (a .out))) end,
+      l .inv .ends ∙ ap (λ (p : ℕ). a .at + length (numbersTo (kwhOf (a .t3)) p)) end,
+      l .inv .written ∙ ap (λ (p : ℕ). stored (a .at) (numbersTo (kwhOf (a .t3)) p) (now (a .out))) end,
     )
 
 pub write-numbers-spec : {M : Type 1} → statement M

@@ -1,4 +1,4 @@
--- The energies of the tiers and their rates, as the definitions have them.
+-- `annual_flat_rate` is held to `flatRateOf`: the energies of the tiers and their rates, as the definitions have them.
 use mathlib.Core.Path.{_∙_}
 use native.Mathlib.Omega.{arith}
 use denote.Ref.{now}
@@ -22,15 +22,21 @@ flat-rate-of-requires c κs =
     let start = c .before .before .before in
     let a = start .args in
     let s = now (a .s) in
-    let p = start .pre .0 in
-    (rates-capped (annualRate s (a .plant) (a .power) (a .from) (a .count)) (c .annual-rates .result) (c .annual-rates .ensures) (λ t l. annual-rate-capped s p (a .plant) (a .power) (a .from) (a .count) t (start .pre .1 .0 .0) (start .pre .1 .0 .1) l), omega (arith, c .before .annual-tiers .ensures .1))
+    let p = start .pre .0 in (
+      rates-capped (annualRate s (a .plant) (a .power) (a .from) (a .count)) (c .annual-rates .result) (c .annual-rates .ensures)
+          (λ t l. annual-rate-capped s p (a .plant) (a .power) (a .from) (a .count) t (start .pre .1 .0 .0) (start .pre .1 .0 .1) l),
+      omega (arith, c .before .annual-tiers .ensures .1),
+    )
 
 returns : tie.Need-returns
 returns c =
     let a = c .before .before .before .before .args in
     let s = now (a .s) in
-    let f = c .flat-rate-of .ensures in
-    (f .0 ∙ flat-rate-of-parts (c .before .annual-rates .result) (annualTiers (a .class) (a .withdrawn .0) (a .exchanged .0)) (annualRate s (a .plant) (a .power) (a .from) (a .count)) (c .before .before .annual-tiers .ensures .0) (c .before .annual-rates .ensures), omega (arith, f .1, c .before .before .annual-tiers .ensures .1))
+    let f = c .flat-rate-of .ensures in (
+      f .0 ∙ flat-rate-of-parts (c .before .annual-rates .result) (annualTiers (a .class) (a .withdrawn .0) (a .exchanged .0)) (annualRate s (a .plant) (a .power) (a .from) (a .count))
+          (c .before .before .annual-tiers .ensures .0) (c .before .annual-rates .ensures),
+      omega (arith, f .1, c .before .before .annual-tiers .ensures .1),
+    )
 
 pub annual-flat-rate-spec : {M : Type 1} → statement M
 annual-flat-rate-spec =

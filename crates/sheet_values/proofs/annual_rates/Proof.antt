@@ -1,13 +1,13 @@
--- The rates are filled tier by tier.
-use Prim.Native.Nat.{ℕ, _-_, _≤_}
+-- `annual_rates` is held to `Rates`: the rates are filled tier by tier.
+use Prim.Native.Nat.{ℕ, _-_}
 use mathlib.Core.Path.{_≡_, refl, ap, ap₂, _∙_}
 use native.Mathlib.Nat.{not-suc-le-zero}
 use native.Mathlib.Omega.{arith}
 use denote.Ref.{now}
-use lib.ListN.{length, length-set}
+use lib.ListN.{length-set}
 use Rattle.units.specs.declared.Rate.{Rate}
 use Rattle.units.specs.Units.{rate}
-use Rattle.units.proofs.Filled.{Filled, filled-next}
+use Rattle.units.proofs.Filled.{Filling, filled-next}
 use Rattle.tariff.specs.Tariff.{tierRate}
 use Rattle.sheet_values.specs.YearsValues.{annualRate}
 use borrow.Author.Needs.{needs}
@@ -16,13 +16,13 @@ use Rattle.sheet_values.proofs.annual_rates.Tie as tie
 
 abbrev Inv-loop : tie.InvT-loop
 Inv-loop s from count plant power table rates₀ tier₀ rates tier =
-    (tier ≤ 4) × ((length rates ≡ 4) × Filled (rate 0) (λ t. rate (annualRate s plant power from count t)) tier rates)
+    Filling (rate 0) (λ t. rate (annualRate s plant power from count t)) 4 tier rates
 
 abbrev μ-loop : tie.MeasureT-loop
 μ-loop s from count plant power table rates₀ tier₀ rates tier = 4 - tier
 
 loop-holds : tie.Need-loop-holds Inv-loop μ-loop
-loop-holds c = (search needs, (refl, λ m l. absurd (not-suc-le-zero l)))
+loop-holds c = record { within = search needs; long = refl; filled = λ m l. absurd (not-suc-le-zero l) }
 
 add-mean-over : tie.Need-add-mean-over Inv-loop μ-loop
 add-mean-over c = search needs
@@ -57,14 +57,18 @@ loop-again c =
     let l = c .before .before .before .before .loop in
     let a = c .before .before .before .before .before .before .args in
     let net-rate = ap (λ (x : Rate). x .0) (c .before .before .mean-over .ensures .0) in
-    let system-rate = ap (λ (x : Rate). x .0) (c .before .mean-over2 .ensures .0) in
-    (search needs, (simp length-set (l .inv .1 .0), filled-next (rate 0) (λ t. rate (annualRate (now (a .s)) (a .plant) (a .power) (a .from) (a .count) t)) (l .tier) (l .rates) (c .tier-rate .result) (omega arith) (c .tier-rate .ensures .0 ∙ ap₂ (λ (n m : ℕ). rate (tierRate (a .plant) (a .power) n m)) net-rate system-rate) (l .inv .1 .1)))
+    let system-rate = ap (λ (x : Rate). x .0) (c .before .mean-over2 .ensures .0) in record {
+      within = search needs;
+      long = simp length-set (l .inv .long);
+      filled = filled-next (rate 0) (λ t. rate (annualRate (now (a .s)) (a .plant) (a .power) (a .from) (a .count) t)) (l .tier) (l .rates) (c .tier-rate .result)
+          (omega arith) (c .tier-rate .ensures .0 ∙ ap₂ (λ (n m : ℕ). rate (tierRate (a .plant) (a .power) n m)) net-rate system-rate) (l .inv .filled);
+    }
 
 returns : tie.Need-returns Inv-loop μ-loop
 returns c =
     let l = c .before .loop in
     let end : l .tier ≡ 4 = omega arith in
-    λ t h. l .inv .1 .1 t (rw end h)
+    λ t h. l .inv .filled t (rw end h)
 
 pub annual-rates-spec : {M : Type 1} → statement M
 annual-rates-spec =

@@ -64,8 +64,12 @@ returns c =
     let s = now (a .s) in
     let above = c .before .before .before .before .some-month-above in
     let method = c .before .before .before .monthly-method in
-    let test = sym (ap (monthlyMethod (a .class)) (above .ensures ∙ above-over s (start .args .withdrawn) (start .pre .1 .1 .0) (a .from) (a .count) (start .pre .1 .0 .1))) ∙ sym (method .ensures) ∙ c .before .before .if1 .taken in
-    (ap ticks (flat-monthly s (a .from) (a .count) (a .class) (a .plant) (a .power) (c .monthly-flat-rate .result .0) test (c .monthly-flat-rate .ensures .0)), omega (arith, c .monthly-flat-rate .ensures .1))
+    let test = sym (ap (monthlyMethod (a .class)) (above .ensures ∙ above-over s (start .args .withdrawn) (start .pre .1 .1 .0) (a .from) (a .count) (start .pre .1 .0 .1))) ∙ sym (method .ensures)
+    ∙ c .before .before .if1 .taken in (
+      ap ticks (flat-monthly s (a .from) (a .count) (a .class) (a .plant) (a .power) (c .monthly-flat-rate .result .0) test (c .monthly-flat-rate .ensures .0)),
+      omega
+          (arith, c .monthly-flat-rate .ensures .1),
+    )
 
 returns-2 : tie.Need-returns-2
 returns-2 c =
@@ -76,9 +80,14 @@ returns-2 c =
     let method = c .before .before .before .before .before .monthly-method in
     let total = c .before .before .before .energy-over in
     let injected = c .before .before .energy-over2 in
-    let test = sym (ap (monthlyMethod (a .class)) (above .ensures ∙ above-over s (start .args .withdrawn) (start .pre .1 .1 .0) (a .from) (a .count) (start .pre .1 .0 .1))) ∙ sym (method .ensures) ∙ c .before .before .before .before .if1 .left in
-    let shared = c .before .smaller .ensures in
-    (ap ticks (flat-annual s (start .args .withdrawn) (start .args .injected) (a .from) (a .count) (a .class) (a .plant) (a .power) (c .annual-flat-rate .result .0) (total .result) (injected .result) (c .before .smaller .result) (start .pre .1 .0 .1) (start .pre .1 .1 .0) (start .pre .1 .1 .1) test (total .ensures .0) (injected .ensures .0) (ap kwh (c .before .smaller .ensures)) (c .annual-flat-rate .ensures .0)), omega (arith, c .annual-flat-rate .ensures .1, total .ensures .1))
+    let test = sym (ap (monthlyMethod (a .class)) (above .ensures ∙ above-over s (start .args .withdrawn) (start .pre .1 .1 .0) (a .from) (a .count) (start .pre .1 .0 .1))) ∙ sym (method .ensures)
+    ∙ c .before .before .before .before .if1 .left in
+    let shared = c .before .smaller .ensures in (
+      ap ticks (flat-annual s (start .args .withdrawn) (start .args .injected) (a .from) (a .count) (a .class) (a .plant) (a .power) (c .annual-flat-rate .result .0) (total .result) (injected .result)
+          (c .before .smaller .result) (start .pre .1 .0 .1) (start .pre .1 .1 .0) (start .pre .1 .1 .1) test (total .ensures .0) (injected .ensures .0) (ap kwh (c .before .smaller .ensures))
+          (c .annual-flat-rate .ensures .0)),
+      omega (arith, c .annual-flat-rate .ensures .1, total .ensures .1),
+    )
 
 pub flat-rate-spec : {M : Type 1} → statement M
 flat-rate-spec =

@@ -1,4 +1,4 @@
--- The energies of the tiers and their rates, as the definitions have them.
+-- `month_flat_rate` is held to `flatRateOf`: the energies of the tiers and their rates, as the definitions have them.
 use mathlib.Core.Path.{_∙_}
 use native.Mathlib.Omega.{arith}
 use denote.Ref.{now}
@@ -22,15 +22,21 @@ flat-rate-of-requires c κs =
     let start = c .before .before .before in
     let a = start .args in
     let s = now (a .s) in
-    let p = start .pre .0 in
-    (rates-capped (monthRate s (a .plant) (a .power) (a .month)) (c .month-rates .result) (c .month-rates .ensures) (λ t l. month-rate-capped s p (a .plant) (a .power) (a .month) t (start .pre .1 .0) l), omega (arith, c .before .monthly-tiers .ensures .1))
+    let p = start .pre .0 in (
+      rates-capped (monthRate s (a .plant) (a .power) (a .month)) (c .month-rates .result) (c .month-rates .ensures)
+          (λ t l. month-rate-capped s p (a .plant) (a .power) (a .month) t (start .pre .1 .0) l),
+      omega (arith, c .before .monthly-tiers .ensures .1),
+    )
 
 returns : tie.Need-returns
 returns c =
     let a = c .before .before .before .before .args in
     let s = now (a .s) in
-    let f = c .flat-rate-of .ensures in
-    (f .0 ∙ flat-rate-of-parts (c .before .month-rates .result) (monthlyTiers (a .withdrawn .0) (a .exchanged .0)) (monthRate s (a .plant) (a .power) (a .month)) (c .before .before .monthly-tiers .ensures .0) (c .before .month-rates .ensures), omega (arith, f .1, c .before .before .monthly-tiers .ensures .1))
+    let f = c .flat-rate-of .ensures in (
+      f .0 ∙ flat-rate-of-parts (c .before .month-rates .result) (monthlyTiers (a .withdrawn .0) (a .exchanged .0)) (monthRate s (a .plant) (a .power) (a .month))
+          (c .before .before .monthly-tiers .ensures .0) (c .before .month-rates .ensures),
+      omega (arith, f .1, c .before .before .monthly-tiers .ensures .1),
+    )
 
 pub month-flat-rate-spec : {M : Type 1} → statement M
 month-flat-rate-spec =

@@ -1,13 +1,13 @@
--- The rates are filled tier by tier.
-use Prim.Native.Nat.{ℕ, _-_, _≤_}
+-- `month_rates` is held to `Rates`: the rates are filled tier by tier.
+use Prim.Native.Nat.{ℕ, _-_}
 use mathlib.Core.Path.{_≡_, refl, ap, ap₂, _∙_}
 use native.Mathlib.Nat.{not-suc-le-zero}
 use native.Mathlib.Omega.{arith}
 use denote.Ref.{now}
-use lib.ListN.{length, length-set}
+use lib.ListN.{length-set}
 use Rattle.units.specs.declared.Rate.{Rate}
 use Rattle.units.specs.Units.{rate}
-use Rattle.units.proofs.Filled.{Filled, filled-next}
+use Rattle.units.proofs.Filled.{Filling, filled-next}
 use Rattle.tariff.specs.Tariff.{tierRate}
 use Rattle.sheet_values.specs.YearsValues.{monthRate}
 use borrow.Author.Needs.{needs}
@@ -16,13 +16,13 @@ use Rattle.sheet_values.proofs.month_rates.Tie as tie
 
 abbrev Inv-loop : tie.InvT-loop
 Inv-loop s month plant power table rates₀ tier₀ rates tier =
-    (tier ≤ 4) × ((length rates ≡ 4) × Filled (rate 0) (λ t. rate (monthRate s plant power month t)) tier rates)
+    Filling (rate 0) (λ t. rate (monthRate s plant power month t)) 4 tier rates
 
 abbrev μ-loop : tie.MeasureT-loop
 μ-loop s month plant power table rates₀ tier₀ rates tier = 4 - tier
 
 loop-holds : tie.Need-loop-holds Inv-loop μ-loop
-loop-holds c = (search needs, (refl, λ m l. absurd (not-suc-le-zero l)))
+loop-holds c = record { within = search needs; long = refl; filled = λ m l. absurd (not-suc-le-zero l) }
 
 add-rate-at : tie.Need-add-rate-at Inv-loop μ-loop
 add-rate-at c = search needs
@@ -57,14 +57,18 @@ loop-again c =
     let l = c .before .before .before .before .loop in
     let a = c .before .before .before .before .before .before .args in
     let net-rate = ap (λ (x : Rate). x .0) (c .before .before .rate-at .ensures .0) in
-    let system-rate = ap (λ (x : Rate). x .0) (c .before .rate-at2 .ensures .0) in
-    (search needs, (simp length-set (l .inv .1 .0), filled-next (rate 0) (λ t. rate (monthRate (now (a .s)) (a .plant) (a .power) (a .month) t)) (l .tier) (l .rates) (c .tier-rate .result) (omega arith) (c .tier-rate .ensures .0 ∙ ap₂ (λ (n m : ℕ). rate (tierRate (a .plant) (a .power) n m)) net-rate system-rate) (l .inv .1 .1)))
+    let system-rate = ap (λ (x : Rate). x .0) (c .before .rate-at2 .ensures .0) in record {
+      within = search needs;
+      long = simp length-set (l .inv .long);
+      filled = filled-next (rate 0) (λ t. rate (monthRate (now (a .s)) (a .plant) (a .power) (a .month) t)) (l .tier) (l .rates) (c .tier-rate .result)
+          (omega arith) (c .tier-rate .ensures .0 ∙ ap₂ (λ (n m : ℕ). rate (tierRate (a .plant) (a .power) n m)) net-rate system-rate) (l .inv .filled);
+    }
 
 returns : tie.Need-returns Inv-loop μ-loop
 returns c =
     let l = c .before .loop in
     let end : l .tier ≡ 4 = omega arith in
-    λ t h. l .inv .1 .1 t (rw end h)
+    λ t h. l .inv .filled t (rw end h)
 
 pub month-rates-spec : {M : Type 1} → statement M
 month-rates-spec =

@@ -1,4 +1,4 @@
--- A running sum of the months.
+-- `monthly_flat_rate` is held to `sumBelow`: a running sum of the months.
 use Prim.Native.Nat.{ℕ, _+_, _-_, _*_, _≤_, _<_}
 use mathlib.Core.Path.{_≡_, ap, sym, _∙_}
 use native.Mathlib.Omega.{arith}
@@ -6,7 +6,7 @@ use denote.Ref.{now}
 use Rattle.units.specs.declared.Kwh.{Kwh}
 use Rattle.units.specs.Limits.{maxKwh, maxTierRate}
 use Rattle.units.specs.Folds.{sumBelow}
-use Rattle.units.proofs.Folds.{sum-zero, sum-next}
+use Rattle.units.proofs.Folds.{Summing, sum-zero, sum-next}
 use Rattle.sheet.specs.YearSheet.{monthWithdrawn}
 use Rattle.sheet_values.specs.YearsValues.{monthFlatRate}
 use Rattle.sheet_values.proofs.Bounds.{sheets-bounded}
@@ -17,13 +17,17 @@ use Rattle.sheet_values.proofs.monthly_flat_rate.Tie as tie
 
 abbrev Inv-loop : tie.InvT-loop
 Inv-loop s from count plant power withdrawn exchanged table sum₀ i₀ sum i =
-    (i ≤ count) × ((sum ≤ maxTierRate * (3 * maxKwh * i)) × (sum ≡ sumBelow i (λ j. monthFlatRate s plant power (from + j))))
+    Summing (λ j. monthFlatRate s plant power (from + j)) count (maxTierRate * (3 * maxKwh * i)) i sum
 
 abbrev μ-loop : tie.MeasureT-loop
 μ-loop s from count plant power withdrawn exchanged table sum₀ i₀ sum i = count - i
 
 loop-holds : tie.Need-loop-holds Inv-loop μ-loop
-loop-holds c = (search needs, (search needs, sym (sum-zero (λ j. monthFlatRate (now (c .before .args .s)) (c .before .args .plant) (c .before .args .power) (c .before .args .from + j)))))
+loop-holds c = record {
+  within = search needs;
+  bounded = search needs;
+  sums = sym (sum-zero (λ j. monthFlatRate (now (c .before .args .s)) (c .before .args .plant) (c .before .args .power) (c .before .args .from + j)));
+}
 
 add-month : tie.Need-add-month Inv-loop μ-loop
 add-month c = search needs
@@ -85,15 +89,19 @@ loop-again c =
     let s = now (a .s) in
     let months = start .pre .1 .1 .0 in
     let part = c .before .month-flat-rate .ensures in
-    let small = within c in
-    (search needs, (omega arith, sum-next (l .i) (λ j. monthFlatRate s (a .plant) (a .power) (a .from + j)) (l .inv .1 .1) (month-flat s (a .t4) (a .t5) (a .plant) (a .power) m (c .before .month-flat-rate .result .0) inside (months .0) (months .1) (part .0))))
+    let small = within c in record {
+      within = search needs;
+      bounded = omega arith;
+      sums = sum-next (l .i) (λ j. monthFlatRate s (a .plant) (a .power) (a .from + j)) (l .inv .sums)
+          (month-flat s (a .t4) (a .t5) (a .plant) (a .power) m (c .before .month-flat-rate .result .0) inside (months .0) (months .1) (part .0));
+    }
 
 returns : tie.Need-returns Inv-loop μ-loop
 returns c =
     let l = c .before .loop in
     let a = c .before .before .before .args in
     let end : l .i ≡ a .count = omega arith in
-    (l .inv .1 .1 ∙ ap (λ (n : ℕ). sumBelow n (λ j. monthFlatRate (now (a .s)) (a .plant) (a .power) (a .from + j))) end, omega arith)
+    (l .inv .sums ∙ ap (λ (n : ℕ). sumBelow n (λ j. monthFlatRate (now (a .s)) (a .plant) (a .power) (a .from + j))) end, omega arith)
 
 pub monthly-flat-rate-spec : {M : Type 1} → statement M
 monthly-flat-rate-spec =

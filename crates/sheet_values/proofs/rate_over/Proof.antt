@@ -1,5 +1,5 @@
--- A running sum.
-use Prim.Native.Nat.{ℕ, _+_, _-_, _*_, _≤_}
+-- `rate_over` is held to `sumBelow`: a running sum.
+use Prim.Native.Nat.{ℕ, _+_, _-_, _*_}
 use mathlib.Core.Path.{_≡_, ap, sym, _∙_}
 use native.Mathlib.Omega.{arith}
 use denote.Ref.{now}
@@ -7,21 +7,24 @@ use Rattle.units.specs.declared.Rate.{Rate}
 use Rattle.units.specs.Units.{rate}
 use Rattle.units.specs.Limits.{maxPrice}
 use Rattle.units.specs.Folds.{sumBelow}
-use Rattle.units.proofs.Folds.{sum-zero, sum-next}
+use Rattle.units.proofs.Folds.{Summing, sum-zero, sum-next}
 use Rattle.sheet.specs.YearSheet.{word}
 use borrow.Author.Needs.{needs}
 use Rattle.sheet_values.proofs.rate_over.Statement.{statement}
 use Rattle.sheet_values.proofs.rate_over.Tie as tie
 
 abbrev Inv-loop : tie.InvT-loop
-Inv-loop s place from count sum₀ i₀ sum i =
-    (i ≤ count) × ((sum ≤ maxPrice * i) × (sum ≡ sumBelow i (λ j. word s (from + j) place)))
+Inv-loop s place from count sum₀ i₀ sum i = Summing (λ j. word s (from + j) place) count (maxPrice * i) i sum
 
 abbrev μ-loop : tie.MeasureT-loop
 μ-loop s place from count sum₀ i₀ sum i = count - i
 
 loop-holds : tie.Need-loop-holds Inv-loop μ-loop
-loop-holds c = (search needs, (search needs, sym (sum-zero (λ j. word (now (c .before .args .s)) (c .before .args .from + j) (c .before .args .place)))))
+loop-holds c = record {
+  within = search needs;
+  bounded = search needs;
+  sums = sym (sum-zero (λ j. word (now (c .before .args .s)) (c .before .args .from + j) (c .before .args .place)));
+}
 
 add-rate-at : tie.Need-add-rate-at Inv-loop μ-loop
 add-rate-at c = search needs
@@ -42,14 +45,18 @@ loop-again : tie.Need-loop-again Inv-loop μ-loop
 loop-again c =
     let l = c .before .before .before .loop in
     let a = c .before .before .before .before .before .args in
-    (search needs, (omega arith, sum-next (l .i) (λ j. word (now (a .s)) (a .from + j) (a .place)) (l .inv .1 .1) (ap (λ (x : Rate). x .0) (c .before .rate-at .ensures .0))))
+    record {
+      within = search needs;
+      bounded = omega arith;
+      sums = sum-next (l .i) (λ j. word (now (a .s)) (a .from + j) (a .place)) (l .inv .sums) (ap (λ (x : Rate). x .0) (c .before .rate-at .ensures .0));
+    }
 
 returns : tie.Need-returns Inv-loop μ-loop
 returns c =
     let l = c .before .loop in
     let a = c .before .before .before .args in
     let end : l .i ≡ a .count = omega arith in
-    (ap rate (l .inv .1 .1 ∙ ap (λ (n : ℕ). sumBelow n (λ j. word (now (a .s)) (a .from + j) (a .place))) end), omega arith)
+    (ap rate (l .inv .sums ∙ ap (λ (n : ℕ). sumBelow n (λ j. word (now (a .s)) (a .from + j) (a .place))) end), omega arith)
 
 pub rate-over-spec : {M : Type 1} → statement M
 rate-over-spec =

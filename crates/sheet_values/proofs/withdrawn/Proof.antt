@@ -1,4 +1,4 @@
--- The rows of the sheet, month by month.
+-- `withdrawn` is held to `Months`: the rows of the sheet, month by month.
 use mathlib.Core.Path.{_∙_}
 use denote.Ref.{now}
 use lib.Dec.{lit≤}

@@ -34,8 +34,11 @@ energy-over-requires c κs =
     let s = now (start .args .s) in
     let w = c .before .before .before .before .before .before .before .withdrawn in
     let i = c .before .before .before .before .before .before .injected in
-    let e = c .before .before .before .before .before .exchanged in
-    (search needs, months-capped (monthExchanged s) (e .result) (3 * maxKwh) (exchanged-months s (w .result) (i .result) (e .result) (w .ensures) (i .ensures) (e .ensures)) (exchanged-capped s (start .pre)))
+    let e = c .before .before .before .before .before .exchanged in (
+      search needs,
+      months-capped (monthExchanged s) (e .result) (3 * maxKwh) (exchanged-months s (w .result) (i .result) (e .result) (w .ensures) (i .ensures) (e .ensures))
+          (exchanged-capped s (start .pre)),
+    )
 
 energy-over-requires-2 : tie.Need-energy-over-requires-2
 energy-over-requires-2 c κs =
@@ -43,8 +46,11 @@ energy-over-requires-2 c κs =
     let s = now (start .args .s) in
     let w = c .before .before .before .before .before .before .before .before .withdrawn in
     let i = c .before .before .before .before .before .before .before .injected in
-    let e = c .before .before .before .before .before .before .exchanged in
-    (search needs, months-capped (monthExchanged s) (e .result) (3 * maxKwh) (exchanged-months s (w .result) (i .result) (e .result) (w .ensures) (i .ensures) (e .ensures)) (exchanged-capped s (start .pre)))
+    let e = c .before .before .before .before .before .before .exchanged in (
+      search needs,
+      months-capped (monthExchanged s) (e .result) (3 * maxKwh) (exchanged-months s (w .result) (i .result) (e .result) (w .ensures) (i .ensures) (e .ensures))
+          (exchanged-capped s (start .pre)),
+    )
 
 returns : tie.Need-returns
 unfolding yearValues
@@ -59,8 +65,11 @@ returns c =
     let second = half-is s (e .result) 1 (c .energy-over2 .result) (lit< tt) months (c .energy-over2 .ensures .0) in
     let value = c .before .before .before .before .value .ensures in
     let cost = c .before .before .before .cost .ensures in
-    let flat = c .before .before .flat-rate .ensures in
-    (λ k. record { value = value .0 k; cost = cost .0 k; «flat_rate» = flat .0 k; half1 = first k; half2 = second k }, record { value = value .1; cost = cost .1; flatRate = flat .1; half1 = omega (arith, c .before .energy-over .ensures .1); half2 = omega (arith, c .energy-over2 .ensures .1) })
+    let flat = c .before .before .flat-rate .ensures in (
+      λ k. record { value = value .0 k; cost = cost .0 k; «flat_rate» = flat .0 k; half1 = first k; half2 = second k },
+      record
+          { value = value .1; cost = cost .1; flatRate = flat .1; half1 = omega (arith, c .before .energy-over .ensures .1); half2 = omega (arith, c .energy-over2 .ensures .1) },
+    )
 
 pub year-values-spec : {M : Type 1} → statement M
 year-values-spec =

@@ -1,4 +1,4 @@
--- Field by field.
+-- `flat_raised` is held to `flatRaised`: field by field.
 use mathlib.Core.Path.{refl}
 use Rattle.ssp.specs.Flat.{flatRaised}
 use Rattle.ssp.proofs.flat_raised.Statement.{statement}

@@ -1,4 +1,4 @@
--- Each field but the balance is copied; the balance is read as a signed number.
+-- `flat_sums` is held to `flatSums`: each field but the balance is copied; the balance is read as a signed number.
 use borrow.Author.Needs.{needs}
 use mir.Syntax.{w64}
 use mir.Val.{Fits}

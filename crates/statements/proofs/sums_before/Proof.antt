@@ -1,4 +1,4 @@
--- Field by field.
+-- `sums_before` is held to `sumsBefore`: field by field.
 use mathlib.Core.Path.{refl}
 use Rattle.statements.specs.InnerWalk.{sumsBefore}
 use borrow.Author.Needs.{needs}

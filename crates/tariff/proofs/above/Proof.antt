@@ -1,4 +1,4 @@
--- `larger` makes the difference one that stops at zero.
+-- `above` is held to `above`: `larger` makes the difference one that stops at zero.
 use native.Mathlib.Omega.{arith}
 use Rattle.tariff.specs.Tariff.{above}
 use borrow.Author.Needs.{needs}

@@ -1,4 +1,4 @@
--- `larger` makes the difference one that stops at zero.
+-- `between` is held to `between`: `larger` makes the difference one that stops at zero.
 use native.Mathlib.Omega.{arith}
 use Rattle.tariff.specs.Tariff.{between}
 use borrow.Author.Needs.{needs}

@@ -1,4 +1,4 @@
--- By the bound.
+-- `byte_of` is held to `narrow`: by the bound.
 use borrow.Author.Tests.{lt-ltb, le-ltb}
 use borrow.Author.Needs.{needs}
 use Rattle.text.proofs.byte_of.Statement.{statement}

@@ -1,6 +1,7 @@
 -- Each number passed stands at its place.
-use Prim.Native.Nat.{_-_, _≤_}
+use Prim.Native.Nat.{ℕ, _-_, _≤_}
 use mathlib.Core.Path.{_≡_, refl, ap, sym, _∙_}
+use mathlib.Core.List.{List}
 use native.Mathlib.Nat.{not-suc-le-zero}
 use native.Mathlib.Omega.{arith}
 use borrow.Author.Needs.{needs}
@@ -12,17 +13,27 @@ use Rattle.text.proofs.Fields.{Each, no-fields, field-more, each-more}
 use Rattle.text.proofs.fields_from.Statement.{statement}
 use Rattle.text.proofs.fields_from.Tie as tie
 
+record FieldsPassed (s : List ℕ) (at count : ℕ) (values : List ℕ) (next k : ℕ) : Type 0 where
+  pub within : k ≤ count
+  pub long : length values ≡ 8
+  pub inside : at ≤ length s → next ≤ length s
+  pub place : next ≡ afterFields s at k
+  pub each : Each s at k values
+
 abbrev Inv-loop : tie.InvT-loop
-Inv-loop s at count values₀ next₀ k₀ values next k =
-    ((k ≤ count) × (length values ≡ 8))
-    × (((at ≤ length s → next ≤ length s) × (next ≡ afterFields s at k))
-    × Each s at k values)
+Inv-loop s at count values₀ next₀ k₀ values next k = FieldsPassed s at count values next k
 
 abbrev μ-loop : tie.MeasureT-loop
 μ-loop s at count values₀ next₀ k₀ values next k = count - k
 
 loop-holds : tie.Need-loop-holds Inv-loop μ-loop
-loop-holds c = ((search needs, refl), ((λ h. h, no-fields (now (c .before .args .s)) (c .before .args .at)), λ j l. absurd (not-suc-le-zero l)))
+loop-holds c = record {
+  within = search needs;
+  long = refl;
+  inside = λ h. h;
+  place = no-fields (now (c .before .args .s)) (c .before .args .at);
+  each = λ j l. absurd (not-suc-le-zero l);
+}
 
 field-at-requires : tie.Need-field-at-requires Inv-loop μ-loop
 field-at-requires c κs = search needs
@@ -45,9 +56,9 @@ returns c =
     let field = c .before .before .field-at in
     record {
       most = search needs;
-      within = l .inv .1 .0 .0;
-      place = l .inv .1 .0 .1;
-      each = l .inv .1 .1;
+      within = l .inv .inside;
+      place = l .inv .place;
+      each = l .inv .each;
       stopped = λ m. sym (field .ensures .0) ∙ c .enum-told .given .1;
     }
 
@@ -66,8 +77,14 @@ loop-again c =
     let value = c .before .value .given .0 .0 in
     let after = c .before .value .given .0 .1 .0 in
     let read = sym (field .ensures .0) ∙ c .before .value .given .1 in
-    let place = l .inv .1 .0 .1 in
-    ((search needs, simp length-set (l .inv .0 .1)), ((λ h. rw (c .before .value .given .1) at (field .ensures .1), field-more s (a .at) (l .k) (l .next) value after place read), each-more s (a .at) (l .k) (l .next) value after place read (l .values) (search needs) (l .inv .1 .1)))
+    let place = l .inv .place in record {
+      within = search needs;
+      long = simp length-set (l .inv .long);
+      inside = λ h. rw (c .before .value .given .1) at (field .ensures .1);
+      place = field-more s (a .at) (l .k) (l .next) value after place read;
+      each = each-more s (a .at)
+          (l .k) (l .next) value after place read (l .values) (search needs) (l .inv .each);
+    }
 
 returns-2 : tie.Need-returns-2 Inv-loop μ-loop
 returns-2 c =
@@ -76,9 +93,9 @@ returns-2 c =
     let end : l .k ≡ a .count = omega arith in
     record {
       most = search needs;
-      within = l .inv .1 .0 .0;
-      place = l .inv .1 .0 .1 ∙ ap (afterFields (now (a .s)) (a .at)) end;
-      each = λ j m. l .inv .1 .1 j (omega arith);
+      within = l .inv .inside;
+      place = l .inv .place ∙ ap (afterFields (now (a .s)) (a .at)) end;
+      each = λ j m. l .inv .each j (omega arith);
       stopped = λ m. let z : ⊥ = omega arith in absurd z;
     }
 

@@ -2,6 +2,7 @@
 use Prim.Native.Nat.{ℕ, _-_, _*_, _/_, _≤_}
 use mathlib.Core.Path.{_≡_, refl, ap, sym, _∙_}
 use mathlib.Core.Bool.{true}
+use mathlib.Core.List.{List}
 use native.Mathlib.Nat.{not-suc-le-zero}
 use native.Mathlib.Omega.{arith}
 use borrow.Author.Needs.{needs}
@@ -15,10 +16,16 @@ use Rattle.text.proofs.HexTexts.{hex-byte-at, hex-count, hex-room, hex-
 use Rattle.text.proofs.hex_from.Statement.{statement}
 use Rattle.text.proofs.hex_from.Tie as tie
 
+record HexPassed (s : List ℕ) (at : ℕ) (before : List ℕ) (count : ℕ) (out : List ℕ) (k : ℕ) : Type 0 where
+  pub within : k ≤ count
+  pub same : length out ≡ length before
+  pub hex : isHex (drop at s) (length before) ≡ true
+  pub half : count ≡ length (drop at s) / 2
+  pub front : Filled 0 (λ i. hexByte (drop at s) (2 * i)) k out
+  pub rest : (i : ℕ) → k ≤ i → getD out i 0 ≡ getD before i 0
+
 abbrev Inv-loop : tie.InvT-loop
-Inv-loop s at out₀ count k₀ out k =
-    (((k ≤ count) × (length out ≡ length out₀)) × ((isHex (drop at s) (length out₀) ≡ true) × (count ≡ length (drop at s) / 2)))
-    × (Filled 0 (λ i. hexByte (drop at s) (2 * i)) k out × ((i : ℕ) → k ≤ i → getD out i 0 ≡ getD out₀ i 0))
+Inv-loop s at out₀ count k₀ out k = HexPassed s at out₀ count out k
 
 abbrev μ-loop : tie.MeasureT-loop
 μ-loop s at out₀ count k₀ out k = count - k
@@ -35,35 +42,42 @@ rest-from-requires c κs = search needs
 loop-holds : tie.Need-loop-holds Inv-loop μ-loop
 loop-holds c =
     let hex = sym (c .before .before .is-hex .ensures) ∙ not-false (c .before .before .is-hex .result) (c .before .if1 .left) in
-    (((search needs, refl), (hex, ap (λ (n : ℕ). n / 2) (c .rest-from .ensures))), (λ i l. absurd (not-suc-le-zero l), λ i l. refl))
+    record {
+      within = search needs;
+      same = refl;
+      hex = hex;
+      half = ap (λ (n : ℕ). n / 2) (c .rest-from .ensures);
+      front = λ i l. absurd (not-suc-le-zero l);
+      rest = λ i l. refl;
+    }
 
 mul-hex-byte : tie.Need-mul-hex-byte Inv-loop μ-loop
 mul-hex-byte c =
     let l = c .before .loop in
     let a = c .before .before .before .before .before .before .before .args in
-    let turn = hex-turn (drop (a .at) (now (a .s))) (length (now (a .out))) (l .inv .0 .1 .0) (now (a .s)) (a .at) (l .k) refl (omega arith) in
+    let turn = hex-turn (drop (a .at) (now (a .s))) (length (now (a .out))) (l .inv .hex) (now (a .s)) (a .at) (l .k) refl (omega arith) in
     omega (arith, turn .0 .0)
 
 add-hex-byte : tie.Need-add-hex-byte Inv-loop μ-loop
 add-hex-byte c =
     let l = c .before .loop in
     let a = c .before .before .before .before .before .before .before .args in
-    let turn = hex-turn (drop (a .at) (now (a .s))) (length (now (a .out))) (l .inv .0 .1 .0) (now (a .s)) (a .at) (l .k) refl (omega arith) in
+    let turn = hex-turn (drop (a .at) (now (a .s))) (length (now (a .out))) (l .inv .hex) (now (a .s)) (a .at) (l .k) refl (omega arith) in
     omega (arith, turn .0 .0)
 
 hex-byte-requires : tie.Need-hex-byte-requires Inv-loop μ-loop
 hex-byte-requires c κs =
     let l = c .before .loop in
     let a = c .before .before .before .before .before .before .before .args in
-    let turn = hex-turn (drop (a .at) (now (a .s))) (length (now (a .out))) (l .inv .0 .1 .0) (now (a .s)) (a .at) (l .k) refl (omega arith) in
+    let turn = hex-turn (drop (a .at) (now (a .s))) (length (now (a .out))) (l .inv .hex) (now (a .s)) (a .at) (l .k) refl (omega arith) in
     turn .1
 
 slice-write-out : tie.Need-slice-write-out Inv-loop μ-loop
 slice-write-out c =
     let l = c .before .before .loop in
     let a = c .before .before .before .before .before .before .before .before .args in
-    let turn = hex-turn (drop (a .at) (now (a .s))) (length (now (a .out))) (l .inv .0 .1 .0) (now (a .s)) (a .at) (l .k) refl (omega arith) in
-    omega (arith, turn .0 .1, l .inv .0 .0 .1)
+    let turn = hex-turn (drop (a .at) (now (a .s))) (length (now (a .out))) (l .inv .hex) (now (a .s)) (a .at) (l .k) refl (omega arith) in
+    omega (arith, turn .0 .1, l .inv .same)
 
 add-k : tie.Need-add-k Inv-loop μ-loop
 add-k c = search needs
@@ -75,26 +89,33 @@ loop-again : tie.Need-loop-again Inv-loop μ-loop
 loop-again c =
     let l = c .before .before .loop in
     let a = c .before .before .before .before .before .before .before .before .args in
-    let turn = hex-turn (drop (a .at) (now (a .s))) (length (now (a .out))) (l .inv .0 .1 .0) (now (a .s)) (a .at) (l .k) refl (omega arith) in
+    let turn = hex-turn (drop (a .at) (now (a .s))) (length (now (a .out))) (l .inv .hex) (now (a .s)) (a .at) (l .k) refl (omega arith) in
     let byte = c .hex-byte .ensures ∙ hex-byte-at (now (a .s)) (a .at) (2 * l .k) in
-    let bytes = hexByte (drop (a .at) (now (a .s))) in
-    (((search needs, simp length-set (l .inv .0 .0 .1)), l .inv .0 .1), (filled-next 0 (λ i. bytes (2 * i)) (l .k) (l .out) (c .hex-byte .result) (omega (arith, turn .0 .1, l .inv .0 .0 .1)) byte (l .inv .1 .0), λ i m. getD-set-other (l .out) (l .k) i (c .hex-byte .result) 0 (λ e. omega arith) ∙ l .inv .1 .1 i (omega arith)))
+    let bytes = hexByte (drop (a .at) (now (a .s))) in record {
+      within = search needs;
+      same = simp length-set (l .inv .same);
+      hex = l .inv .hex;
+      half = l .inv .half;
+      front = filled-next 0 (λ i. bytes (2 * i)) (l .k) (l .out) (c .hex-byte .result) (omega (arith, turn .0 .1, l .inv .same)) byte (l .inv .front);
+      rest = λ i m. getD-set-other (l .out) (l .k) i
+          (c .hex-byte .result) 0 (λ e. omega arith) ∙ l .inv .rest i (omega arith);
+    }
 
 same-length : tie.Need-same-length Inv-loop μ-loop
-same-length c = c .before .loop .inv .0 .0 .1
+same-length c = c .before .loop .inv .same
 
 returns-2 : tie.Need-returns-2 Inv-loop μ-loop
 returns-2 c =
     let l = c .before .loop in
     let a = c .before .before .before .before .before .before .before .args in
-    let hex = l .inv .0 .1 .0 in
+    let hex = l .inv .hex in
     record {
       hex = hex;
-      count = omega (arith, hex-count (drop (a .at) (now (a .s))) (length (now (a .out))) hex, l .inv .0 .1 .1);
-      room = omega (arith, hex-room (drop (a .at) (now (a .s))) (length (now (a .out))) hex, l .inv .0 .1 .1, l .inv .0 .0 .1);
-      same = l .inv .0 .0 .1;
-      front = λ i m. l .inv .1 .0 i (omega arith);
-      rest = λ i m. l .inv .1 .1 i (omega arith);
+      count = omega (arith, hex-count (drop (a .at) (now (a .s))) (length (now (a .out))) hex, l .inv .half);
+      room = omega (arith, hex-room (drop (a .at) (now (a .s))) (length (now (a .out))) hex, l .inv .half, l .inv .same);
+      same = l .inv .same;
+      front = λ i m. l .inv .front i (omega arith);
+      rest = λ i m. l .inv .rest i (omega arith);
     }
 
 pub hex-from-spec : {M : Type 1} → statement M

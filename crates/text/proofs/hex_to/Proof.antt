@@ -1,6 +1,7 @@
 -- The bytes passed are spelt.
-use Prim.Native.Nat.{_+_, _-_, _*_, _≤_, _<_}
+use Prim.Native.Nat.{ℕ, _+_, _-_, _*_, _≤_, _<_}
 use mathlib.Core.Path.{_≡_, refl}
+use mathlib.Core.List.{List}
 use native.Mathlib.Nat.{not-suc-le-zero}
 use native.Mathlib.Omega.{arith}
 use borrow.Author.Needs.{needs}
@@ -10,14 +11,19 @@ use Rattle.text.proofs.HexWriting.{Spelt, spelt-more}
 use Rattle.text.proofs.hex_to.Statement.{statement}
 use Rattle.text.proofs.hex_to.Tie as tie
 
+record Spelling (bytes before out : List ℕ) (k : ℕ) : Type 0 where
+  pub within : k ≤ length bytes
+  pub same : length out ≡ length before
+  pub spelt : Spelt bytes out k
+
 abbrev Inv-loop : tie.InvT-loop
-Inv-loop bytes out₀ k₀ k-end out k = ((k ≤ length bytes) × (length out ≡ length out₀)) × Spelt bytes out k
+Inv-loop bytes out₀ k₀ k-end out k = Spelling bytes out₀ out k
 
 abbrev μ-loop : tie.MeasureT-loop
 μ-loop bytes out₀ k₀ k-end out k = length bytes - k
 
 loop-holds : tie.Need-loop-holds Inv-loop μ-loop
-loop-holds c = ((search needs, refl), λ i l. absurd (not-suc-le-zero l))
+loop-holds c = record { within = search needs; same = refl; spelt = λ i l. absurd (not-suc-le-zero l) }
 
 shared-slice-read-digit-of : tie.Need-shared-slice-read-digit-of Inv-loop μ-loop
 shared-slice-read-digit-of c = search needs
@@ -59,7 +65,11 @@ loop-again c =
     let one = c .before .before .digit-of in
     let two = c .digit-of2 in
     let room : 2 * l .k + 1 < length (l .out) = omega arith in
-    ((search needs, simp length-set (l .inv .0 .1)), spelt-more bytes (l .out) (l .k) (one .result) (two .result) room (one .ensures) (two .ensures) (l .inv .1))
+    record {
+      within = search needs;
+      same = simp length-set (l .inv .same);
+      spelt = spelt-more bytes (l .out) (l .k) (one .result) (two .result) room (one .ensures) (two .ensures) (l .inv .spelt);
+    }
 
 mul-result : tie.Need-mul-result Inv-loop μ-loop
 mul-result c = search needs
@@ -72,8 +82,8 @@ returns c =
     let l = c .before .loop in
     record {
       count = refl;
-      same = l .inv .0 .1;
-      each = λ i m. l .inv .1 i (omega arith);
+      same = l .inv .same;
+      each = λ i m. l .inv .spelt i (omega arith);
     }
 
 pub hex-to-spec : {M : Type 1} → statement M

@@ -46,8 +46,11 @@ loop-again : tie.Need-loop-again Inv-loop μ-loop
 loop-again c =
     let l = c .before .before .before .loop in
     let a = c .before .before .before .before .before .before .args in
-    let s = now (a .s) in
-    (search needs, all-next (l .i) (λ j. isHexDigit (getD (drop (a .at) s) j 0)) (l .inv .1) (c .is-hex-digit .ensures ∙ ap isHexDigit (c .before .byte-at .ensures ∙ sym (getD-drop (a .at) s (l .i) 0))))
+    let s = now (a .s) in (
+      search needs,
+      all-next (l .i) (λ j. isHexDigit (getD (drop (a .at) s) j 0)) (l .inv .1)
+          (c .is-hex-digit .ensures ∙ ap isHexDigit (c .before .byte-at .ensures ∙ sym (getD-drop (a .at) s (l .i) 0))),
+    )
 
 returns : tie.Need-returns Inv-loop μ-loop
 unfolding isHex

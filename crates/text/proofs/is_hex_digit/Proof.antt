@@ -1,4 +1,4 @@
--- The rule, test by test.
+-- `is_hex_digit` is held to `isHexDigit`: the rule, test by test.
 use Rattle.text.specs.InnerText.{isHexDigit}
 use borrow.Author.Needs.{needs}
 use Rattle.text.proofs.is_hex_digit.Statement.{statement}

@@ -1,6 +1,7 @@
 -- The digits passed and those to come are the digits at the place, and so are the numbers that they stand for.
-use Prim.Native.Nat.{_+_, _-_, _*_, _^_, _≤_, _<_}
+use Prim.Native.Nat.{ℕ, _+_, _-_, _*_, _^_, _≤_, _<_}
 use mathlib.Core.Path.{_≡_, refl, ap, sym, _∙_}
+use mathlib.Core.List.{List}
 use native.Mathlib.Omega.{arith}
 use borrow.Author.Needs.{needs}
 use denote.Ref.{now}
@@ -11,16 +12,21 @@ use Rattle.text.proofs.Digits.{number-read, number-none, number-large}
 use Rattle.text.proofs.number_at.Statement.{statement}
 use Rattle.text.proofs.number_at.Tie as tie
 
+record Reading (s : List ℕ) (at value next : ℕ) : Type 0 where
+  pub from : at ≤ next
+  pub small : value < 2 ^ 64
+  pub inside : at < next → next ≤ length s
+  pub count : next + digits (drop next s) ≡ at + digits (drop at s)
+  pub number : valueAfter value (drop next s) ≡ valueAfter 0 (drop at s)
+
 abbrev Inv-loop : tie.InvT-loop
-Inv-loop s at value₀ next₀ value next =
-    (((at ≤ next) × (value < 2 ^ 64)) × (at < next → next ≤ length s))
-    × ((next + digits (drop next s) ≡ at + digits (drop at s)) × (valueAfter value (drop next s) ≡ valueAfter 0 (drop at s)))
+Inv-loop s at value₀ next₀ value next = Reading s at value next
 
 abbrev μ-loop : tie.MeasureT-loop
 μ-loop s at value₀ next₀ value next = length s - next
 
 loop-holds : tie.Need-loop-holds Inv-loop μ-loop
-loop-holds c = (((search needs, search needs), λ l. omega arith), (refl, refl))
+loop-holds c = record { from = search needs; small = search needs; inside = λ l. omega arith; count = refl; number = refl }
 
 byte-at-requires : tie.Need-byte-at-requires Inv-loop μ-loop
 byte-at-requires c κs = search needs
@@ -56,7 +62,7 @@ returns c =
     let b = c .before .byte-at2 .ensures in
     let more = value-more (l .value) s (l .next) d in
     let least = value-least (l .value * 10 + (getD s (l .next) 0 - 48)) (drop (l .next + 1) s) in
-    (number-large s at (omega (arith, digit-bounds (getD s (l .next) 0) d .1, l .inv .1 .1)), tt)
+    (number-large s at (omega (arith, digit-bounds (getD s (l .next) 0) d .1, l .inv .number)), tt)
 
 mul-value : tie.Need-mul-value Inv-loop μ-loop
 mul-value c = search needs
@@ -92,7 +98,13 @@ loop-again c =
     let inside = digit-inside s (l .next) d in
     let b = c .before .byte-at2 .ensures in
     let count = digits-more s (l .next) d in
-    (((search needs, omega arith), λ m. omega arith), (omega (arith, l .inv .1 .0), rw b (sym (value-more (l .value) s (l .next) d) ∙ l .inv .1 .1)))
+    record {
+      from = search needs;
+      small = omega arith;
+      inside = λ m. omega arith;
+      count = omega (arith, l .inv .count);
+      number = rw b (sym (value-more (l .value) s (l .next) d) ∙ l .inv .number);
+    }
 
 returns-2 : tie.Need-returns-2 Inv-loop μ-loop
 returns-2 c =
@@ -102,7 +114,7 @@ returns-2 c =
     let at = t .before .before .before .before .before .args .at in
     let d = sym (ap isDigit (t .before .before .byte-at .ensures)) ∙ sym (t .before .is-digit .ensures) ∙ t .if1 .left in
     let none = digits-none s (l .next) d in
-    (number-none s at (omega (arith, l .inv .1 .0, c .if3 .taken)), tt)
+    (number-none s at (omega (arith, l .inv .count, c .if3 .taken)), tt)
 
 returns-3 : tie.Need-returns-3 Inv-loop μ-loop
 returns-3 c =
@@ -113,7 +125,7 @@ returns-3 c =
     let d = sym (ap isDigit (t .before .before .byte-at .ensures)) ∙ sym (t .before .is-digit .ensures) ∙ t .if1 .left in
     let none = digits-none s (l .next) d in
     let more : at < l .next = omega (arith, c .if3 .left) in
-    (number-read s at (l .next) (l .value) more (l .inv .0 .0 .1) (omega (arith, l .inv .1 .0)) (sym (value-none (l .value) s (l .next) d) ∙ l .inv .1 .1), l .inv .0 .1 more)
+    (number-read s at (l .next) (l .value) more (l .inv .small) (omega (arith, l .inv .count)) (sym (value-none (l .value) s (l .next) d) ∙ l .inv .number), l .inv .inside more)
 
 pub number-at-spec : {M : Type 1} → statement M
 number-at-spec =

@@ -1,4 +1,4 @@
--- By the place.
+-- `rest_from`: by the place.
 use native.Mathlib.Omega.{arith}
 use denote.Ref.{now}
 use lib.ListN.{length-drop}

@@ -1,4 +1,4 @@
--- The bytes that were read stand within their buffer.
+-- `answer_listing`: the bytes that were read stand within their buffer.
 use mathlib.Core.Path.{sym}
 use lib.Seq.{length-take-le}
 use borrow.Author.Needs.{needs}

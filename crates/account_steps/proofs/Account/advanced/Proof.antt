@@ -9,16 +9,40 @@ cast-if1 : tie.Need-cast-if1
 cast-if1 c = search needs
 
 add-t10 : tie.Need-add-t10
-add-t10 c = omega (arith, c .before .before .before .before .pre .1, advances-open (c .before .before .before .before .args .year) (c .before .before .before .before .args .self) (c .before .before .if1 .taken))
+add-t10 c =
+    omega (
+      arith,
+      c .before .before .before .before .pre .1,
+      advances-open (c .before .before .before .before .args .year) (c .before .before .before .before .args .self)
+          (c .before .before .if1 .taken),
+    )
 
 add-self : tie.Need-add-self
-add-self c = omega (arith, c .before .before .before .before .before .pre .0, runs-open (c .before .before .before .before .before .args .year) (c .before .before .before .before .before .args .self) (c .before .before .before .if1 .taken))
+add-self c =
+    omega (
+      arith,
+      c .before .before .before .before .before .pre .0,
+      runs-open (c .before .before .before .before .before .args .year) (c .before .before .before .before .before .args .self)
+          (c .before .before .before .if1 .taken),
+    )
 
 add-t11 : tie.Need-add-t11
-add-t11 c = omega (arith, c .before .before .before .before .pre .1, advances-later (c .before .before .before .before .args .year) (c .before .before .before .before .args .self) (c .before .before .if1 .left))
+add-t11 c =
+    omega (
+      arith,
+      c .before .before .before .before .pre .1,
+      advances-later (c .before .before .before .before .args .year) (c .before .before .before .before .args .self)
+          (c .before .before .if1 .left),
+    )
 
 add-self-2 : tie.Need-add-self-2
-add-self-2 c = omega (arith, c .before .before .before .before .before .pre .0, runs-later (c .before .before .before .before .before .args .year) (c .before .before .before .before .before .args .self) (c .before .before .before .if1 .left))
+add-self-2 c =
+    omega (
+      arith,
+      c .before .before .before .before .before .pre .0,
+      runs-later (c .before .before .before .before .before .args .year) (c .before .before .before .before .before .args .self)
+          (c .before .before .before .if1 .left),
+    )
 
 returns : tie.Need-returns
 returns c = advanced-open _ _ (c .before .before .before .if1 .taken) _ _
