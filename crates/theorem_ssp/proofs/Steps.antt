@@ -16,7 +16,7 @@ use Rattle.theorem.specs.Runs as beneath
 use Rattle.ledger_agrees.specs.Lists.{Made, Runs, done, andThen}
 use Rattle.ssp.specs.Flat.{detailsOf, positionOf, flatClosed, flatSums}
 use Rattle.theorem_ssp.specs.Exported.{Calls, enrols, elects, advances, closes, charges, states}
-use Rattle.ssp.specs.declared.Advanced.{Advanced}
+use Rattle.ssp.specs.declared.Advanced.{Advanced as FlatAdvanced}
 
 -- FROM THE EXPORTED FUNCTIONS TO THOSE BENEATH
 
@@ -67,7 +67,7 @@ flat-call b m b′ (beneath.elects κs a r s p) =
 flat-call b m b′ (beneath.advances κs a r s p) =
     let brought : ℕ × (ℕ × (ℕ × (ℕ × (ℕ × (ℕ × Unit {0}))))) =
     (a .1 .0 .0, (a .1 .1 .0, (a .1 .1 .1 .0, (a .1 .1 .1 .1 .0 .0, (a .1 .1 .1 .1 .1 .0 .0, (a .1 .1 .1 .1 .1 .1 .0 .0, tt)))))) in
-    let answer : Advanced = record { refusal = r .reply .refusal; «record» = r .reply .«record» .0; ticks = r .ticks .0 } in
+    let answer : FlatAdvanced = record { refusal = r .reply .refusal; «record» = r .reply .«record» .0; ticks = r .ticks .0 } in
     advances κs (a .0, brought) answer (s .0, brought) (p .0, ap (λ t. t .0) (p .1))
 flat-call b m b′ (beneath.closes κs a r s p) =
     closes κs a (flatClosed (r .reply .refusal) (r .reply .«record» .0) (r .position) (r .sums)) s
