@@ -12,6 +12,7 @@ ghost use mir.Syntax.{w64};
 ghost use mir.Val.{toZ};
 ghost use Rattle.units.specs.Units.{ticks};
 ghost use Rattle.units.specs.Limits.{maxYearTicks, maxFlatRate, maxCharge};
+ghost use Rattle.units.specs.InnerWithin.{TicksWithin};
 ghost use Rattle.account_steps.specs.Closing.{contributionOf, balanceOf};
 ghost use Rattle.account_steps.specs.Charges.{chargeOf, withheldFrom, withheldAtClosing, accountCharged, accountWithheld};
 ghost use Rattle.account_steps.specs.Account.{balanceBits, outcomeOf, liquidationIn, lapsedIn, creditIn, settlementOf};
@@ -177,7 +178,7 @@ const LOW_CHARGE_POWER: u32 = 3_000;
 const MIDDLE_CHARGE_POWER: u32 = 20_000;
 
 pub fn charge_of(power: u32) -> Ticks
-    ensures { λ r. ⌜ (r ≡ ticks (chargeOf power)) × (r .0 ≤ maxCharge) ⌝ }
+    ensures { λ r. ⌜ TicksWithin (chargeOf power) maxCharge r ⌝ }
 {
     if power <= LOW_CHARGE_POWER {
         return Ticks(1_500_000);

@@ -25,6 +25,7 @@ use Rattle.book_rules.specs.Chains.{entriesOf}
 use Rattle.chains.proofs.Ranges.{closing-ranges, user-years}
 use Rattle.account_years.specs.declared.Payments.{Payments}
 use Rattle.account_years.specs.History.{isClosingOf, closingAmong, closingOf, closingAfter, paymentsOf, creditOver, creditAfterYears, yearOf}
+use Rattle.units.specs.InnerWithin.{NumberWithin}
 
 -- an activation year leaves room for every year after it
 pub year-room : (b : List ℕ) (i n : ℕ) → lengthFits b ≡ true → sound b ≡ true → isUser b i ≡ true → n ≤ mostYears → activationOf b i + n < 2 ^ 16
@@ -65,12 +66,12 @@ module _ (b : List ℕ) (long : lengthFits b ≡ true) (good : sound b ≡ true)
       omega arith
 
   pub credited : (c : ClosingRecord) (r : List ℕ) → r ≡ recordAt b e → c ≡ closingIn r → (o : Outcome) → o ≡ outcomeOf (c .option) k (c .sums .value .0) (c .sums .cost .0)
-      → (credit : ℕ) → credit ≡ creditIn o → (credit ≡ creditOver (closingIn (recordAt b e)) k) × (credit ≤ k + maxYearTicks)
+      → (credit : ℕ) → credit ≡ creditIn o → NumberWithin (creditOver (closingIn (recordAt b e)) k) (k + maxYearTicks) credit
   unfolding creditOver
   credited c r there read o f credit g =
       let same : credit ≡ creditOver (closingIn (recordAt b e)) k =
       g ∙ ap creditIn f ∙ outcome-credit (c .option) k (c .sums .value .0) (c .sums .cost .0) ∙ rw (read, there) in
-      (same, rw same (over-most (closingIn (recordAt b e)) k value-most))
+      record { is = same; most = rw same (over-most (closingIn (recordAt b e)) k value-most) }
 
 -- THE CREDIT AFTER THE FIRST n YEARS
 pub record Credited (b : List ℕ) (i n credit : ℕ) : Type 0 where
@@ -87,18 +88,18 @@ unfolding creditAfterYears
 years-on b i n = let one : n + 1 ≡ suc n = omega arith in ap (creditAfterYears b i) one
 
 pub credit-on : (b : List ℕ) (i n credit : ℕ) → Credited b i n credit → (entry : RecordIndex) → entry ≡ recordIndex (closingAfter b i n) → (next : ℕ)
-    → (next ≡ cond (eqb (entry .0) 0) credit (creditOver (closingIn (recordAt b (entry .0))) credit)) × (next ≤ credit + maxYearTicks) → Credited b i (n + 1) next
+    → NumberWithin (cond (eqb (entry .0) 0) credit (creditOver (closingIn (recordAt b (entry .0))) credit)) (credit + maxYearTicks) next → Credited b i (n + 1) next
 credit-on b i n credit s entry e next h =
-    record { is = h .0 ∙ sym (years-on b i n ∙ rw (e, s .is)); most = omega (arith, s .most, h .1) }
+    record { is = h .is ∙ sym (years-on b i n ∙ rw (e, s .is)); most = omega (arith, s .most, h .most) }
 
 -- the two cases of a year
 module _ (b : List ℕ) (e credit : ℕ) where
-  pub without : e ≡ 0 → (credit ≡ cond (eqb e 0) credit (creditOver (closingIn (recordAt b e)) credit)) × (credit ≤ credit + maxYearTicks)
-  without none = (rw (eq-eqb e 0 none), omega arith)
+  pub without : e ≡ 0 → NumberWithin (cond (eqb e 0) credit (creditOver (closingIn (recordAt b e)) credit)) (credit + maxYearTicks) credit
+  without none = record { is = rw (eq-eqb e 0 none); most = omega arith }
 
-  pub with-closing : (e ≡ 0 → ⊥) → (next : ℕ) → (next ≡ creditOver (closingIn (recordAt b e)) credit) × (next ≤ credit + maxYearTicks)
-      → (next ≡ cond (eqb e 0) credit (creditOver (closingIn (recordAt b e)) credit)) × (next ≤ credit + maxYearTicks)
-  with-closing some next h = (h .0 ∙ rw (ne-eqb e 0 some), h .1)
+  pub with-closing : (e ≡ 0 → ⊥) → (next : ℕ) → NumberWithin (creditOver (closingIn (recordAt b e)) credit) (credit + maxYearTicks) next
+      → NumberWithin (cond (eqb e 0) credit (creditOver (closingIn (recordAt b e)) credit)) (credit + maxYearTicks) next
+  with-closing some next h = record { is = h .is ∙ rw (ne-eqb e 0 some); most = h .most }
 
 -- the entry of a year, field by field
 pub year-is : (b : List ℕ) (i n : ℕ) (year : ℕ) → year ≡ activationOf b i + n → (entry : RecordIndex) → entry ≡ recordIndex (closingAfter b i n) → (r : List ℕ)

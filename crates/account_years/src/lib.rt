@@ -9,6 +9,7 @@ ghost use Rattle.units.specs.Limits.{maxYearTicks, maxCharge, mostYears};
 ghost use Rattle.book_layout.specs.Fields.{recordAt};
 ghost use Rattle.book_records.specs.Records.{closingIn};
 ghost use Rattle.book_rules.specs.Book.{lengthFits, sound, isUser, isClosing};
+ghost use Rattle.units.specs.InnerWithin.{NumberWithin};
 ghost use Rattle.account_years.specs.History.{isClosingOf, closingOf, closingAfter, byAdvance, byClosing, paymentsBy, paymentsOf};
 ghost use Rattle.account_years.specs.History.{chargeOfOpen, chargeOfEach, chargesOf, creditOver, creditAfterYears, yearOf};
 use account_steps::Balance;
@@ -228,8 +229,8 @@ fn credit_over(book: &[u8], entry: RecordIndex, credit: Ticks) -> Ticks
     requires { ⌜ lengthFits (now book) ≡ true ⌝ }
     requires { ⌜ sound (now book) ≡ true ⌝ }
     requires { ⌜ (isClosing (now book) (entry .0) ≡ true) × (credit .0 ≤ maxYearTicks * mostYears) ⌝ }
-    ensures { λ r. ⌜ (r .0 ≡ creditOver (closingIn (recordAt (now (book .entry)) (entry .0))) (credit .0))
-        × (r .0 ≤ credit .0 + maxYearTicks) ⌝ }
+    ensures { λ r. ⌜ NumberWithin (creditOver (closingIn (recordAt (now (book .entry)) (entry .0))) (credit .0)) (credit .0 + maxYearTicks)
+        (r .0) ⌝ }
 {
     let closing = book_records::closing_of(book_layout::record(book, entry));
     let sums = closing.sums;
@@ -242,8 +243,8 @@ fn next_credit(book: &[u8], entry: RecordIndex, credit: Ticks) -> Ticks
     requires { ⌜ lengthFits (now book) ≡ true ⌝ }
     requires { ⌜ sound (now book) ≡ true ⌝ }
     requires { ⌜ ((entry .0 ≡ 0 → ⊥) → isClosing (now book) (entry .0) ≡ true) × (credit .0 ≤ maxYearTicks * mostYears) ⌝ }
-    ensures { λ r. ⌜ (r .0 ≡ cond (eqb (entry .0) 0) (credit .0)
-        (creditOver (closingIn (recordAt (now (book .entry)) (entry .0))) (credit .0))) × (r .0 ≤ credit .0 + maxYearTicks) ⌝ }
+    ensures { λ r. ⌜ NumberWithin (cond (eqb (entry .0) 0) (credit .0)
+        (creditOver (closingIn (recordAt (now (book .entry)) (entry .0))) (credit .0))) (credit .0 + maxYearTicks) (r .0) ⌝ }
 {
     if entry.0 == 0 {
         credit

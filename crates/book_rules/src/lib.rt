@@ -1,9 +1,10 @@
 // The rules of document 01, "Book", on a record by itself, and the length of a book.
 ghost use mathlib.Core.Path.{_≡_};
 ghost use mathlib.Core.Bool.{true, _&&_};
-ghost use Prim.Native.Nat.{_-_, _*_, _≤_, _<_};
+ghost use Prim.Native.Nat.{_-_, _*_, _<_};
 ghost use lib.Dec.{leb};
 ghost use Rattle.units.specs.Limits.{recordLength, maxYearTicks};
+ghost use Rattle.units.specs.InnerWithin.{NumberWithin};
 ghost use Rattle.book_rules.specs.Book.{lengthFits, detailsFit, openYearFits, halvesOf, isMade, dueIfMade, runsFit, halvesMade};
 ghost use Rattle.book_rules.specs.Book.{advancesFit, laterHalf, laterFits, chargeFits, paymentsFit, creditFits, halvesFit};
 ghost use Rattle.book_rules.specs.Book.{accountFits, isRun, levelFrom, bookedFits, advanceFits, balanceFits, paidBalance};
@@ -101,7 +102,7 @@ fn runs_fit(a: Account) -> bool
 
 fn halves_made(a: Account, run: u8) -> u64
     requires { ⌜ 0 < run ⌝ }
-    ensures { λ r. ⌜ (r ≡ halvesMade a run) × (r ≤ 2) ⌝ }
+    ensures { λ r. ⌜ NumberWithin (halvesMade a run) 2 r ⌝ }
 {
     if is_made(a.runs, run) {
         calendar::halves_count(halves_of(a, run))
@@ -120,7 +121,7 @@ fn advances_fit(a: Account) -> bool
 // A run of the later year pays one half.
 fn later_half(a: Account, run: u8) -> u64
     requires { ⌜ 0 < run ⌝ }
-    ensures { λ r. ⌜ (r ≡ laterHalf a run) × (r ≤ 1) ⌝ }
+    ensures { λ r. ⌜ NumberWithin (laterHalf a run) 1 r ⌝ }
 {
     if is_made(a.later_runs, run) { 1 } else { 0 }
 }

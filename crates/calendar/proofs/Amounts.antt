@@ -11,6 +11,7 @@ use Rattle.units.specs.Units.{ticks}
 use Rattle.units.specs.Limits.{maxPrice, maxHalfKwh, maxHalfTicks}
 use Rattle.calendar.specs.declared.Halves.{Halves}
 use Rattle.calendar.specs.ElectionAndAdvances.{halvesCount, threshold, paidOf, amountOf}
+use Rattle.units.specs.InnerWithin.{TicksWithin}
 
 pub paid-nothing : {amount : ℕ} → amount ≤ threshold → paidOf amount ≡ 0
 unfolding paidOf
@@ -42,9 +43,9 @@ half-at-most h k = mul-le-mul h k
 pub run-of-shares :
     (h : Halves) (price h₁ h₂ : ℕ) {a b : ℕ} {paid : Ticks} → a ≡ cond (h .first) (h₁ * price) 0 →
     b ≡ cond (h .second) (h₂ * price) 0 → a ≤ maxHalfTicks * cond (h .first) 1 0 → b ≤ maxHalfTicks * cond (h .second) 1 0 →
-    paid ≡ ticks (paidOf (a + b)) → (paid ≡ ticks (amountOf h price h₁ h₂)) × (paid .0 ≤ maxHalfTicks * halvesCount h)
+    paid ≡ ticks (paidOf (a + b)) → TicksWithin (amountOf h price h₁ h₂) (maxHalfTicks * halvesCount h) paid
 unfolding amountOf halvesCount
 run-of-shares h price h₁ h₂ {a} {b} {paid} q₁ q₂ l₁ l₂ p =
     let exact : ticks (paidOf (a + b)) ≡ ticks (amountOf h price h₁ h₂) = rw (q₁, q₂) in
     let same : paid .0 ≡ paidOf (a + b) = ap (λ (t : Ticks). t .0) p in
-    (p ∙ exact, omega (arith, paid-at-most (a + b)))
+    record { is = p ∙ exact; most = omega (arith, paid-at-most (a + b)) }

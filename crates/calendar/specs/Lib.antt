@@ -1,1 +1,2 @@
 pub mod ElectionAndAdvances
+pub mod InnerShares

@@ -7,8 +7,10 @@ ghost use mathlib.Core.Bool.{cond};
 ghost use Prim.Native.Nat.{_*_, _≤_};
 ghost use Rattle.units.specs.Units.{ticks};
 ghost use Rattle.units.specs.Limits.{maxPrice, maxHalfKwh, maxHalfTicks};
+ghost use Rattle.units.specs.InnerWithin.{NumberWithin, TicksWithin};
 ghost use Rattle.calendar.specs.ElectionAndAdvances.{leap, daysIn, isDay, notAfter, inWindow};
 ghost use Rattle.calendar.specs.ElectionAndAdvances.{halvesPaid, due, halvesCount, paidOf, amountOf};
+ghost use Rattle.calendar.specs.InnerShares.{ShareOf};
 
 fn choose(test: bool, a: u32, b: u32) -> u32
     ensures { λ r. ⌜ r ≡ cond test a b ⌝ }
@@ -106,7 +108,7 @@ pub fn due(h: Halves) -> bool
 }
 
 fn count(paid: bool) -> u64
-    ensures { λ r. ⌜ (r ≡ cond paid 1 0) × (r ≤ 1) ⌝ }
+    ensures { λ r. ⌜ NumberWithin (cond paid 1 0) 1 r ⌝ }
 {
     if paid { 1 } else { 0 }
 }
@@ -135,8 +137,7 @@ pub fn paid_of(amount: Ticks) -> Ticks
 // A half's share of a run.
 fn share(paid: bool, energy: WideKwh, price: Rate) -> Ticks
     requires { ⌜ (energy .0 ≤ maxHalfKwh) × (price .0 ≤ maxPrice) ⌝ }
-    ensures amount { λ r. ⌜ r .0 ≡ cond paid (energy .0 * price .0) 0 ⌝ }
-    ensures most { λ r. ⌜ (r .0 ≤ maxHalfTicks) × (r .0 ≤ maxHalfTicks * cond paid 1 0) ⌝ }
+    ensures { λ r. ⌜ ShareOf paid (energy .0) (price .0) (r .0) ⌝ }
 {
     if paid {
         units::priced_half(energy, price)
@@ -150,8 +151,7 @@ fn share(paid: bool, energy: WideKwh, price: Rate) -> Ticks
 pub fn amount_of(h: Halves, price: Rate, first: WideKwh, second: WideKwh) -> Ticks
     requires { ⌜ price .0 ≤ maxPrice ⌝ }
     requires { ⌜ (first .0 ≤ maxHalfKwh) × (second .0 ≤ maxHalfKwh) ⌝ }
-    ensures amount { λ r. ⌜ r ≡ ticks (amountOf h (price .0) (first .0) (second .0)) ⌝ }
-    ensures most { λ r. ⌜ r .0 ≤ maxHalfTicks * halvesCount h ⌝ }
+    ensures { λ r. ⌜ TicksWithin (amountOf h (price .0) (first .0) (second .0)) (maxHalfTicks * halvesCount h) r ⌝ }
 {
     let a = share(h.first, first, price);
     let b = share(h.second, second, price);

@@ -38,6 +38,7 @@ use Rattle.account_steps.specs.declared.ClosingSums.{ClosingSums}
 use Rattle.account_steps.specs.Account.{settled}
 use Rattle.call_close.specs.Closings.{YearFits, yearBooked, refusedClosing, sumsAnswered}
 use Rattle.call_close.specs.declared.Closed.{Closed}
+use Rattle.sheet_values.specs.InnerArrays.{ValuesWorked}
 
 -- an open year of an account that fits can be closed
 in-range : (a : Account) (v : YearValues) (year : ℕ) → accountFits a ≡ true → ValuesFit v → yearOpen a year ≡ true → InRange v a
@@ -125,9 +126,9 @@ module _ (b s : List ℕ) where
           pub passed : Passed s
           passed = sheet-passed b s none-refused
 
-          module _ (v : YearValues) (worked : (v ≡ yearValues s (account .details)) × ValuesFit v) where
+          module _ (v : YearValues) (worked : ValuesWorked s (account .details) v) where
             values-are : v ≡ yearValues s (accountAt b (findUser b n) .details)
-            values-are = worked .0 ∙ ap (λ x. yearValues s (x .details)) account-is
+            values-are = worked .are ∙ ap (λ x. yearValues s (x .details)) account-is
 
             pub year-fits : YearFits b (user .0) account v
             unfolding testOf rulesOf lookAt namedBy
@@ -135,7 +136,7 @@ module _ (b s : List ℕ) where
                 let met = fact b (close s) none-refused in
                 record {
                   entry = entry-fits b a (user .0) account read (rw there is-user) (met 3);
-                  in-range = in-range account v (sheetYear s) account-fits (worked .1) (rw account-is (met 12));
+                  in-range = in-range account v (sheetYear s) account-fits (worked .fit) (rw account-is (met 12));
                 }
 
             book-is : (after : List ℕ)

@@ -1,1 +1,2 @@
 pub mod Closings
+pub mod InnerBooked

@@ -3,10 +3,10 @@ ghost use mathlib.Core.Path.{_≡_};
 ghost use Rattle.account_steps.specs.Account.{closedOf, settled};
 ghost use Rattle.account_steps.specs.declared.Account.{Account};
 ghost use Rattle.sheet.specs.YearSheet.{Tells};
-ghost use Rattle.call_rules.specs.Changes.{applied};
 ghost use Rattle.call_rules.specs.Calls.{close};
 ghost use Rattle.call_answers.specs.Answers.{Answered};
-ghost use Rattle.call_close.specs.Closings.{YearFits, yearBooked, noSums, refusedClosing, sumsAnswered};
+ghost use Rattle.call_close.specs.Closings.{YearFits, noSums, refusedClosing, sumsAnswered};
+ghost use Rattle.call_close.specs.InnerBooked.{YearEntered};
 use account_steps::Account;
 use account_steps::Balance;
 use account_steps::ClosingSums;
@@ -71,8 +71,7 @@ fn book_year(
     values: YearValues,
 ) -> ClosingSums
     requires { ⌜ YearFits (now book) (user .0) account values ⌝ }
-    ensures after { λ _. ⌜ now (book .exit) ≡ applied (user .0) (yearBooked account values) (now (book .entry)) ⌝ }
-    ensures sums { λ r. ⌜ r ≡ settled account values ⌝ }
+    ensures { λ r. ⌜ YearEntered (user .0) account values (now (book .entry)) (now (book .exit)) r ⌝ }
 {
     let first = book_view::first_entry_of(book, user);
     let after = account.closed(values);

@@ -30,7 +30,7 @@ use Rattle.units.specs.Units.{ticks}
 amount-at-most : (h : Halves) (price h₁ h₂ : ℕ) → price ≤ maxPrice → h₁ ≤ maxHalfKwh → h₂ ≤ maxHalfKwh → amountOf h price h₁ h₂ ≤ maxHalfTicks * halvesCount h
 unfolding amountOf
 amount-at-most h price h₁ h₂ p l₁ l₂ =
-    run-of-shares h price h₁ h₂ {paid = ticks (amountOf h price h₁ h₂)} refl refl (share (h .first) h₁ l₁) (share (h .second) h₂ l₂) refl .1
+    run-of-shares h price h₁ h₂ {paid = ticks (amountOf h price h₁ h₂)} refl refl (share (h .first) h₁ l₁) (share (h .second) h₂ l₂) refl .most
   where
     share : (pays : Bool) (energy : ℕ) → energy ≤ maxHalfKwh → cond pays (energy * price) 0 ≤ maxHalfTicks * cond pays 1 0
     share true energy l = half-at-most l p

@@ -3,10 +3,10 @@
 ghost use mathlib.Core.Path.{_≡_};
 ghost use lib.ListN.{length};
 ghost use Rattle.sheet.specs.YearSheet.{sheetLength, Tells};
-ghost use Rattle.call_rules.specs.Rules.{refusedBy};
 ghost use Rattle.call_answers.specs.Answers.{AnsweredBy};
-ghost use Rattle.call_more_sun.specs.Asked.{hasField, fieldRules, moreSunOrder, additionAnswered};
+ghost use Rattle.call_more_sun.specs.Asked.{hasField, moreSunOrder, additionAnswered};
 ghost use Rattle.call_more_sun.specs.Answers.{refusedSun};
+ghost use Rattle.call_more_sun.specs.InnerObjections.{FieldObjected};
 use call_answers::Reply;
 use sheet::NOWHERE;
 use sheet::Objection;
@@ -32,8 +32,7 @@ fn has_field(s: &[u8], month: u32, band: u32) -> bool
 // 13 19 23, of a sheet whose header is right.
 fn field_objection(s: &[u8], month: u32, band: u32) -> Objection
     requires { ⌜ length (now s) ≡ sheetLength ⌝ }
-    ensures refusal { λ r. ⌜ r .refusal ≡ refusedBy (fieldRules (now (s .entry)) month band) ⌝ }
-    ensures position { λ r. ⌜ Tells (now (s .entry)) (r .refusal) (r .position) ⌝ }
+    ensures { λ r. ⌜ FieldObjected (now (s .entry)) month band r ⌝ }
 {
     let fault = call_refusals::sheet_fault(s);
     if has_field(s, month, band) {

@@ -4,7 +4,7 @@ ghost use Prim.Native.Nat.{ℕ, _<_, _^_};
 ghost use mathlib.Core.Bool.{Bool, cond, false, not, _&&_};
 ghost use Rattle.account_steps.specs.declared.Account.{Account as AccountOf};
 ghost use lib.ListN.{length};
-ghost use Rattle.sheet.specs.YearSheet.{sheetLength, Tells};
+ghost use Rattle.sheet.specs.YearSheet.{sheetLength};
 ghost use Rattle.sheet.specs.Objections.{FaultTold};
 ghost use Rattle.call_rules.specs.Rules.{refusedBy};
 ghost use Rattle.call_rules.specs.Refusals.{lookOf, hasRoom, dayAndOption, electionOpen, isOpen, runOpen, orderFits, yearOpen, chargeOpen};
@@ -13,7 +13,8 @@ ghost use Rattle.account_steps.specs.Account.{runsIn};
 ghost use Rattle.book_rules.specs.Book.{isMade, isRun};
 ghost use Rattle.units.specs.Limits.{lastActivation};
 ghost use lib.Dec.{leb};
-ghost use Rattle.call_rules.specs.Calls.{enrol, elect, advance, charge, sheetRules, rulesOf};
+ghost use Rattle.call_rules.specs.Calls.{enrol, elect, advance, charge, rulesOf};
+ghost use Rattle.call_refusals.specs.InnerObjections.{SheetObjected};
 use account_steps::Account;
 use calendar::Halves;
 use sheet::Objection;
@@ -196,8 +197,7 @@ pub fn sheet_fault(s: &[u8]) -> Objection
 // 12 13 19 14 3, of a sheet whose header is right. What 14 adds up is known to have passed 13.
 pub fn close_objection(s: &[u8], a: Account, room: bool) -> Objection
     requires { ⌜ length (now s) ≡ sheetLength ⌝ }
-    ensures refusal { λ r. ⌜ ((user : ℕ) → (user ≡ 0 → ⊥) → r .refusal ≡ refusedBy (sheetRules (lookOf user a room) (now (s .entry)))) ⌝ }
-    ensures position { λ r. ⌜ Tells (now (s .entry)) (r .refusal) (r .position) ⌝ }
+    ensures { λ r. ⌜ SheetObjected a room (now (s .entry)) r ⌝ }
 {
     if !year_open(a, sheet::year(s)) {
         return sheet::unplaced(12);

@@ -2,8 +2,8 @@
 ghost use mathlib.Core.Path.{_≡_};
 ghost use Prim.Native.Nat.{_+_, _*_, _≤_, min};
 ghost use lib.ListN.{length};
-ghost use Rattle.codec.specs.Bytes.{stored};
 ghost use Rattle.decimals.specs.Decimals.{decimal, field, isDigit, RunRead, FieldRead};
+ghost use Rattle.decimals.specs.InnerWritten.{TextPut};
 
 // Digits one after the other: the place behind them, and their number as far as it counts.
 struct Run {
@@ -21,8 +21,7 @@ pub struct Field {
 // Writes a number at a place of the text, and answers the place behind it.
 pub fn write_number(out: &mut [u8], at: usize, n: u64) -> usize
     requires { ⌜ at + length (decimal n) ≤ length (now out) ⌝ }
-    ensures end { λ r. ⌜ r ≡ at + length (decimal n) ⌝ }
-    ensures after { λ _. ⌜ now (out .exit) ≡ stored at (decimal n) (now (out .entry)) ⌝ }
+    ensures { λ r. ⌜ TextPut at (decimal n) (now (out .entry)) (now (out .exit)) r ⌝ }
 {
     let mut end = at;
     if 10 <= n {
@@ -35,8 +34,7 @@ pub fn write_number(out: &mut [u8], at: usize, n: u64) -> usize
 // The same, with one byte behind it.
 pub fn write_field(out: &mut [u8], at: usize, n: u64, stop: u8) -> usize
     requires { ⌜ at + length (field n stop) ≤ length (now out) ⌝ }
-    ensures end { λ r. ⌜ r ≡ at + length (field n stop) ⌝ }
-    ensures after { λ _. ⌜ now (out .exit) ≡ stored at (field n stop) (now (out .entry)) ⌝ }
+    ensures { λ r. ⌜ TextPut at (field n stop) (now (out .entry)) (now (out .exit)) r ⌝ }
 {
     let end = write_number(out, at, n);
     out[end] = stop;

@@ -12,6 +12,7 @@ use Rattle.listing_text.specs.Listing.{mostDigits, decimal, blank, lineF
 use Rattle.listing_text.specs.InnerWritten.{longestField, longestLine, field, accountLine}
 use Rattle.codec.proofs.Pieces.{stored-then}
 use Rattle.decimals.proofs.Written.{most-digits, all-digits}
+use Rattle.decimals.specs.InnerWritten.{TextPut}
 
 length-field : (n x : ℕ) → length (field n x) ≡ length (decimal n) + 1
 unfolding field
@@ -50,14 +51,15 @@ pub line-written : (at : ℕ) (a : Account) (s : List ℕ) (year credit end : �
     → year ≡ at + length (field (a .number .0) blank) → s₁ ≡ stored at (field (a .number .0) blank) s
     → credit ≡ year + length (field (a .«open_year») blank) → s₂ ≡ stored year (field (a .«open_year») blank) s₁
     → end ≡ credit + length (field (a .credit .0) lineFeed) → s₃ ≡ stored credit (field (a .credit .0) lineFeed) s₂
-    → (end ≡ at + length (accountLine a)) × (s₃ ≡ stored at (accountLine a) s)
+    → TextPut at (accountLine a) s s₃ end
 unfolding accountLine
-line-written at a s year credit end s₁ s₂ s₃ h y e₁ k e₂ l e₃ = (
-  omega (arith, length-line a),
-  rw (e₃, k, e₂, e₁, y)
-      (stored-three at (field (a .number .0) blank) (field (a .«open_year») blank) (field (a .credit .0) lineFeed) s
-      (omega (arith, field-short (a .number .0) blank, field-short (a .«open_year») blank, field-short (a .credit .0) lineFeed))),
-)
+line-written at a s year credit end s₁ s₂ s₃ h y e₁ k e₂ l e₃ =
+    record {
+      end = omega (arith, length-line a);
+      stands = rw (e₃, k, e₂, e₁, y)
+          (stored-three at (field (a .number .0) blank) (field (a .«open_year») blank) (field (a .credit .0) lineFeed) s
+          (omega (arith, field-short (a .number .0) blank, field-short (a .«open_year») blank, field-short (a .credit .0) lineFeed)));
+    }
 
 -- the line of the user at an index is that of its account
 pub user-line : (b : List ℕ) (i : ℕ) → line b i ≡ accountLine (accountAt b i)

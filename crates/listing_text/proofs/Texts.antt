@@ -15,7 +15,7 @@ use Rattle.check_book.specs.declared.Verdict.{Verdict}
 use Rattle.check_book.specs.declared.Verdict.the-variants.{Length, Sound, Faulty}
 use Rattle.check_book.specs.Verdicts.{BookJudged, Accepted, Objected}
 use Rattle.listing_text.specs.Listing.{blank, lineFeed, lines, refused, listing}
-use Rattle.listing_text.specs.InnerWritten.{longestRefusal, longestText, field, AllWritten}
+use Rattle.listing_text.specs.InnerWritten.{longestRefusal, longestText, field, AllWritten, TextFirst}
 use Rattle.codec.proofs.Pieces.{stored-then}
 use Rattle.listing_text.proofs.Walk.{text-short}
 use Rattle.listing_text.proofs.Lines.{field-short}
@@ -25,14 +25,15 @@ abbrev pub word : List ℕ
 word = 114 ∷ 101 ∷ 102 ∷ 117 ∷ 115 ∷ 101 ∷ 100 ∷ blank ∷ []
 
 pub refusal-written : (n r : ℕ) (s l : List ℕ) → longestRefusal ≤ length s → r ≡ 8 + length (field n lineFeed)
-    → l ≡ stored 8 (field n lineFeed) (sets s 0 word) → (r ≡ length (refused n)) × (l ≡ stored 0 (refused n) s)
+    → l ≡ stored 8 (field n lineFeed) (sets s 0 word) → TextFirst (refused n) s l r
 unfolding refused field
-refusal-written n r s l room e w = (
-  omega arith,
-  w
-      ∙ ap (stored 8 (field n lineFeed)) (sets-stored 0 word s (omega arith))
-      ∙ stored-then 0 word (field n lineFeed) s (omega (arith, field-short n lineFeed)),
-)
+refusal-written n r s l room e w =
+    record {
+      end = omega arith;
+      stands = w
+          ∙ ap (stored 8 (field n lineFeed)) (sets-stored 0 word s (omega arith))
+          ∙ stored-then 0 word (field n lineFeed) s (omega (arith, field-short n lineFeed));
+    }
 
 refused-short : (n : ℕ) → length (refused n) ≤ longestRefusal
 unfolding refused field
@@ -59,8 +60,7 @@ module _ (b : List ℕ) where
       rw (long, bad)
 
   -- the text written is the listing
-  pub answered : (t s l : List ℕ) (r : ℕ) → listing b ≡ t → (r ≡ length t) × (l ≡ stored 0 t s)
-      → (r ≡ length (listing b)) × (l ≡ stored 0 (listing b) s)
+  pub answered : (t s l : List ℕ) (r : ℕ) → listing b ≡ t → TextFirst t s l r → TextFirst (listing b) s l r
   answered t s l r e h = rw e h
 
   listing-short : length (listing b) ≤ longestText

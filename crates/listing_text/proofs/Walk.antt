@@ -20,7 +20,7 @@ use Rattle.book_rules.proofs.RecordKinds.{user-index}
 use Rattle.chains.proofs.Links.{first-user, users-fall}
 use Rattle.chains.proofs.Walks.{walk-here, walk-on, walk-falls, walk-chain}
 use Rattle.listing_text.specs.Listing.{line, lines}
-use Rattle.listing_text.specs.InnerWritten.{longestLine, mostUsers, longestText, accountLine}
+use Rattle.listing_text.specs.InnerWritten.{longestLine, mostUsers, longestText, accountLine, TextFirst}
 use Rattle.codec.proofs.Pieces.{stored-then, stored-none}
 use Rattle.listing_text.proofs.Lines.{line-short, user-line}
 
@@ -137,9 +137,9 @@ module _ (b before out : List ℕ) (end user : ℕ) (w : Walking b before out en
 
 -- THE END
 pub ends : (b before out : List ℕ) (end : ℕ) → Walking b before out end 0
-    → (end ≡ length (text b)) × (out ≡ stored 0 (text b) before)
+    → TextFirst (text b) before out end
 unfolding lines
 ends b before out end w =
     let none : linesFrom b 0 ≡ [] = ap (lines b) (chain-none (nextOf b)) in
     let zero-left : length (linesFrom b 0) ≡ 0 = ap length none in
-    (omega (arith, w .count), sym (ap (λ (l : List ℕ). stored end l out) none ∙ stored-none end out) ∙ w .written)
+    record { end = omega (arith, w .count); stands = sym (ap (λ (l : List ℕ). stored end l out) none ∙ stored-none end out) ∙ w .written }

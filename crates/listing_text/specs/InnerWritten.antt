@@ -30,6 +30,17 @@ longestText = mostUsers * longestLine
 unfoldable pub field : ℕ → ℕ → List ℕ
 field n after = decimal n ++ (after ∷ [])
 
+-- a number with the byte after it stands at its place, and is not too long
+pub record FieldPut (at n stop : ℕ) (before after : List ℕ) (r : ℕ) : Type 0 where
+  pub end : r ≡ at + length (field n stop)
+  pub stands : after ≡ stored at (field n stop) before
+  pub most : r ≤ at + longestField
+
+-- a text stands at the front
+pub record TextFirst (text before after : List ℕ) (r : ℕ) : Type 0 where
+  pub end : r ≡ length text
+  pub stands : after ≡ stored 0 text before
+
 -- "number, open year and credit of each user, decimal, one blank between .. A line feed ends each line"
 unfoldable pub accountLine : Account → List ℕ
 accountLine a = field (a .number .0) blank ++ (field (a .«open_year») blank ++ field (a .credit .0) lineFeed)

@@ -3,12 +3,12 @@ ghost use mathlib.Core.Path.{_≡_};
 ghost use mathlib.Core.Bool.{true};
 ghost use Prim.Native.Nat.{_+_, _≤_};
 ghost use lib.ListN.{length};
-ghost use Rattle.codec.specs.Bytes.{stored};
 ghost use Rattle.book_rules.specs.Book.{lengthFits, sound};
 ghost use Rattle.book_rules.specs.Chains.{usersOf};
+ghost use Rattle.decimals.specs.InnerWritten.{TextPut};
 ghost use Rattle.listing_text.specs.Listing.{lines, refused, listing};
-ghost use Rattle.listing_text.specs.InnerWritten.{longestField, longestLine, longestRefusal, longestText, field, accountLine};
-ghost use Rattle.listing_text.specs.InnerWritten.{ListingAnswered};
+ghost use Rattle.listing_text.specs.InnerWritten.{longestField, longestLine, longestRefusal, longestText, accountLine};
+ghost use Rattle.listing_text.specs.InnerWritten.{ListingAnswered, FieldPut, TextFirst};
 use account_steps::Account;
 use check_book::Verdict;
 use units::MOST_RECORDS;
@@ -36,9 +36,7 @@ pub fn buffer() -> [u8; LONGEST_TEXT]
 // Writes a number of 64 bits at a place of the text with one byte after it, a blank or a line feed, and answers the place after it.
 fn field_at(out: &mut [u8], at: usize, n: u64, after: u8) -> usize
     requires { ⌜ at + longestField ≤ length (now out) ⌝ }
-    ensures end { λ r. ⌜ r ≡ at + length (field n after) ⌝ }
-    ensures after { λ _. ⌜ now (out .exit) ≡ stored at (field n after) (now (out .entry)) ⌝ }
-    ensures most { λ r. ⌜ r ≤ at + longestField ⌝ }
+    ensures { λ r. ⌜ FieldPut at n after (now (out .entry)) (now (out .exit)) r ⌝ }
 {
     decimals::write_field(out, at, n, after)
 }
@@ -46,8 +44,7 @@ fn field_at(out: &mut [u8], at: usize, n: u64, after: u8) -> usize
 // Writes the line of an account: number, open year and credit.
 fn line_at(out: &mut [u8], at: usize, account: Account) -> usize
     requires { ⌜ at + longestLine ≤ length (now out) ⌝ }
-    ensures end { λ r. ⌜ r ≡ at + length (accountLine account) ⌝ }
-    ensures after { λ _. ⌜ now (out .exit) ≡ stored at (accountLine account) (now (out .entry)) ⌝ }
+    ensures { λ r. ⌜ TextPut at (accountLine account) (now (out .entry)) (now (out .exit)) r ⌝ }
 {
     let number = account.number.0 as u64;
     let open_year = account.open_year as u64;
@@ -62,8 +59,7 @@ fn lines_of(book: &[u8], out: &mut [u8]) -> usize
     requires { ⌜ lengthFits (now book) ≡ true ⌝ }
     requires { ⌜ sound (now book) ≡ true ⌝ }
     requires { ⌜ longestText ≤ length (now out) ⌝ }
-    ensures end { λ r. ⌜ r ≡ length (lines (now (book .entry)) (usersOf (now (book .entry)))) ⌝ }
-    ensures after { λ _. ⌜ now (out .exit) ≡ stored 0 (lines (now (book .entry)) (usersOf (now (book .entry)))) (now (out .entry)) ⌝ }
+    ensures { λ r. ⌜ TextFirst (lines (now (book .entry)) (usersOf (now (book .entry)))) (now (out .entry)) (now (out .exit)) r ⌝ }
 {
     let mut end = 0;
     let mut user = book_view::first_user(book);
@@ -79,8 +75,7 @@ fn lines_of(book: &[u8], out: &mut [u8]) -> usize
 // Writes the line of a refused book.
 fn refusal_of(out: &mut [u8], n: u64) -> usize
     requires { ⌜ longestRefusal ≤ length (now out) ⌝ }
-    ensures end { λ r. ⌜ r ≡ length (refused n) ⌝ }
-    ensures after { λ _. ⌜ now (out .exit) ≡ stored 0 (refused n) (now (out .entry)) ⌝ }
+    ensures { λ r. ⌜ TextFirst (refused n) (now (out .entry)) (now (out .exit)) r ⌝ }
 {
     out[0] = b'r';
     out[1] = b'e';
@@ -96,8 +91,7 @@ fn refusal_of(out: &mut [u8], n: u64) -> usize
 // Writes the text that a book has, by what the check says of it.
 fn text_of(book: &[u8], out: &mut [u8]) -> usize
     requires { ⌜ longestText ≤ length (now out) ⌝ }
-    ensures end { λ r. ⌜ r ≡ length (listing (now (book .entry))) ⌝ }
-    ensures after { λ _. ⌜ now (out .exit) ≡ stored 0 (listing (now (book .entry))) (now (out .entry)) ⌝ }
+    ensures { λ r. ⌜ TextFirst (listing (now (book .entry))) (now (out .entry)) (now (out .exit)) r ⌝ }
 {
     match check_book::check(book) {
         Verdict::Length => refusal_of(out, 1),

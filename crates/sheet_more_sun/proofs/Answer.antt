@@ -7,7 +7,6 @@ use native.Mathlib.Omega.{arith}
 use lib.Dec.{leb}
 use Rattle.units.specs.declared.Rate.{Rate}
 use Rattle.units.specs.declared.Ticks.{Ticks}
-use Rattle.units.specs.Units.{ticks}
 use Rattle.units.specs.Limits.{maxKwh, maxPrice, maxYearTicks}
 use Rattle.sheet.specs.YearSheet.{injectedReading, byBands, injected, Passed}
 use Rattle.sheet.proofs.Limits.{passed-length, passed-energy}
@@ -22,6 +21,7 @@ use Rattle.sheet_more_sun.specs.Laws.{IsLeast}
 use Rattle.sheet_more_sun.specs.InnerSteps.{InLimits, comesTo, fieldPrice}
 use Rattle.sheet_more_sun.proofs.Least.{least-is, least-same}
 use Rattle.sheet_more_sun.proofs.Value.{row-price, value-raised}
+use Rattle.units.specs.InnerWithin.{NumberWithin, TicksWithin}
 
 module _ (s : List ℕ) (passed : Passed s) (d : Details) (m band : ℕ) (stands : FieldStands s m band) where
   price-fits : (bands : Bool) → (bands ≡ false → band ≡ 0) → priceAt band (priceRow s bands (onIsland d) (isPhotovoltaic d) m) ≤ maxPrice
@@ -30,22 +30,22 @@ module _ (s : List ℕ) (passed : Passed s) (d : Details) (m band : ℕ) (stands
 
   -- the price that is read
   pub price-read : (reading : ℕ) → reading ≡ injectedReading s → (prices : List Rate) → prices ≡ priceRow s (byBands reading) (onIsland d) (isPhotovoltaic d) m
-      → (priceAt band prices ≡ fieldPrice s d m band) × (priceAt band prices ≤ maxPrice)
+      → NumberWithin (fieldPrice s d m band) maxPrice (priceAt band prices)
   price-read reading read prices priced =
       let is : priceAt band prices ≡ fieldPrice s d m band =
       ap (priceAt band) priced ∙ ap (λ (n : ℕ). priceAt band (priceRow s (byBands n) (onIsland d) (isPhotovoltaic d) m)) read in
-      (is, rw is (price-fits (byBands (injectedReading s)) (stands .single)))
+      record { is = is; most = rw is (price-fits (byBands (injectedReading s)) (stands .single)) }
 
   -- the numbers that are read
-  module _ (price : Rate) (priced : (price .0 ≡ fieldPrice s d m band) × (price .0 ≤ maxPrice)) (field : ℕ) (filled : field ≡ injected s m band)
-      (cost value : Ticks) (worked : (cost ≡ ticks (costOf s)) × (cost .0 ≤ maxYearTicks))
-      (valued : (value ≡ ticks (valueOf s (onIsland d) (isPhotovoltaic d))) × (value .0 ≤ maxYearTicks)) where
+  module _ (price : Rate) (priced : NumberWithin (fieldPrice s d m band) maxPrice (price .0)) (field : ℕ) (filled : field ≡ injected s m band)
+      (cost value : Ticks) (worked : TicksWithin (costOf s) maxYearTicks cost)
+      (valued : TicksWithin (valueOf s (onIsland d) (isPhotovoltaic d)) maxYearTicks value) where
     pub in-limits : InLimits (cost .0) (value .0) (price .0) field
     in-limits =
         record {
-          cost-to = worked .1;
-          value-to = valued .1;
-          price-to = priced .1;
+          cost-to = worked .most;
+          value-to = valued .most;
+          price-to = priced .most;
           field-to = rw filled (passed-energy s (passed .past13) m (3 + band) (stands .month) (omega (arith, stands .band-to-3)));
         }
 
@@ -54,8 +54,8 @@ module _ (s : List ℕ) (passed : Passed s) (d : Details) (m band : ℕ) (stands
     unfolding reaches
     same-test x l =
         let raised = value-raised s (onIsland d) (isPhotovoltaic d) m band x (passed-length s (passed .past11)) (stands .month) (stands .band-to-3) (omega arith) (stands .single) in
-        ap₂ leb (ap (λ (t : Ticks). t .0) (worked .0))
-        (ap₂ (λ (v p : ℕ). v + x * p) (ap (λ (t : Ticks). t .0) (valued .0)) (priced .0) ∙ sym raised)
+        ap₂ leb (ap (λ (t : Ticks). t .0) (worked .is))
+        (ap₂ (λ (v p : ℕ). v + x * p) (ap (λ (t : Ticks). t .0) (valued .is)) (priced .is) ∙ sym raised)
 
     pub answered : (r : Addition) → IsLeast (maxKwh + 1 - field) (comesTo (cost .0) (value .0) (price .0)) r → r ≡ moreSun s d m band
     unfolding moreSun

@@ -4,6 +4,7 @@ ghost use mathlib.Core.Path.{_≡_};
 ghost use Prim.Native.Nat.{_+_, _-_, _≤_, _<_};
 ghost use Rattle.units.specs.Limits.{maxKwh, maxPrice, maxYearTicks};
 ghost use Rattle.sheet.specs.YearSheet.{Passed};
+ghost use Rattle.units.specs.InnerWithin.{NumberWithin};
 ghost use Rattle.sheet_more_sun.specs.MoreSun.{FieldStands, moreSun};
 ghost use Rattle.sheet_more_sun.specs.Laws.{IsLeast};
 ghost use Rattle.sheet_more_sun.specs.InnerSteps.{LeastWorth, InLimits, comesTo, fieldPrice};
@@ -40,7 +41,7 @@ fn room_in(field: Kwh) -> u64
 fn price_of(s: &[u8], details: Details, month: usize, band: usize) -> Rate
     requires { ⌜ Passed (now s) ⌝ }
     requires { ⌜ FieldStands (now s) month band ⌝ }
-    ensures { λ r. ⌜ (r .0 ≡ fieldPrice (now (s .entry)) details month band) × (r .0 ≤ maxPrice) ⌝ }
+    ensures { λ r. ⌜ NumberWithin (fieldPrice (now (s .entry)) details month band) maxPrice (r .0) ⌝ }
 {
     let bands = sheet::injected_reading(s) == 1;
     let prices = sheet_prices::price_row(s, bands, details.island == 1, details.plant == 1, month);

@@ -3,13 +3,14 @@
 ghost use mathlib.Core.Path.{_≡_};
 ghost use mathlib.Core.Bool.{cond};
 ghost use mathlib.Core.List.{[]};
-ghost use Prim.Native.Nat.{ℕ, _*_, _≤_, _<_, _^_};
+ghost use Prim.Native.Nat.{ℕ, _*_, _<_, _^_};
 ghost use lib.ListN.{length, getD};
-ghost use Rattle.units.specs.Units.{rate, ticks};
+ghost use Rattle.units.specs.Units.{rate};
 ghost use Rattle.units.specs.Limits.{maxKwh, maxPrice, maxYearTicks};
 ghost use Rattle.units.specs.Folds.{sumBelow};
 ghost use Rattle.codec.specs.Bytes.{part, number};
 ghost use Rattle.sheet.specs.YearSheet.{sheetLength, Passed};
+ghost use Rattle.units.specs.InnerWithin.{TicksWithin};
 ghost use Rattle.sheet_prices.specs.ValueAndCost.{costOf, valueOf};
 ghost use Rattle.sheet_prices.specs.InnerArrays.{energyRow, EnergyRows, priceRow, PriceRows, RowFits, rowValue};
 use units::Kwh;
@@ -109,7 +110,7 @@ fn prices(s: &[u8], bands: bool, island: bool, photovoltaic: bool) -> [[Rate; 3]
 // Energy times price over the bands of a month.
 fn row_value(energy: [Kwh; 3], prices: [Rate; 3]) -> Ticks
     requires { ⌜ RowFits energy prices ⌝ }
-    ensures { λ r. ⌜ (r ≡ ticks (rowValue energy prices)) × (r .0 ≤ 3 * (maxKwh * maxPrice)) ⌝ }
+    ensures { λ r. ⌜ TicksWithin (rowValue energy prices) (3 * (maxKwh * maxPrice)) r ⌝ }
 {
     let f1 = units::priced(energy[0], prices[0]);
     let f2 = units::priced(energy[1], prices[1]);
@@ -120,7 +121,7 @@ fn row_value(energy: [Kwh; 3], prices: [Rate; 3]) -> Ticks
 // The same over the year.
 fn year_value(energy: [[Kwh; 3]; 12], prices: [[Rate; 3]; 12]) -> Ticks
     requires { ⌜ ((m : ℕ) → m < 12 → RowFits (getD energy m []) (getD prices m [])) ⌝ }
-    ensures { λ r. ⌜ (r ≡ ticks (sumBelow 12 (λ m. rowValue (getD energy m []) (getD prices m [])))) × (r .0 ≤ maxYearTicks) ⌝ }
+    ensures { λ r. ⌜ TicksWithin (sumBelow 12 (λ m. rowValue (getD energy m []) (getD prices m []))) maxYearTicks r ⌝ }
 {
     let mut sum: u64 = 0;
     for month in 0..12 {
@@ -133,7 +134,7 @@ fn year_value(energy: [[Kwh; 3]; 12], prices: [[Rate; 3]; 12]) -> Ticks
 // "O: withdrawn times PUN, by band or by mean, summed over the months."
 pub fn cost(s: &[u8]) -> Ticks
     requires { ⌜ Passed (now s) ⌝ }
-    ensures { λ r. ⌜ (r ≡ ticks (costOf (now (s .entry)))) × (r .0 ≤ maxYearTicks) ⌝ }
+    ensures { λ r. ⌜ TicksWithin (costOf (now (s .entry))) maxYearTicks r ⌝ }
 {
     let bands = sheet::withdrawn_reading(s) == 1;
     year_value(energies(s, 0), prices(s, bands, true, false))
@@ -142,7 +143,7 @@ pub fn cost(s: &[u8]) -> Ticks
 // "C: injected times zone price by band", or its PUN price on an island.
 pub fn value(s: &[u8], island: bool, photovoltaic: bool) -> Ticks
     requires { ⌜ Passed (now s) ⌝ }
-    ensures { λ r. ⌜ (r ≡ ticks (valueOf (now (s .entry)) island photovoltaic)) × (r .0 ≤ maxYearTicks) ⌝ }
+    ensures { λ r. ⌜ TicksWithin (valueOf (now (s .entry)) island photovoltaic) maxYearTicks r ⌝ }
 {
     let bands = sheet::injected_reading(s) == 1;
     year_value(energies(s, 3), prices(s, bands, island, photovoltaic))

@@ -1,19 +1,20 @@
 -- What the inner functions of reader and writer do: for their contracts alone.
-use Prim.Native.Nat.{ℕ, zero, suc, _+_, _*_, _<_, min}
+use Prim.Native.Nat.{ℕ, zero, suc, _+_, _*_, _<_, min, _≤_}
 use mathlib.Core.Path.{_≡_}
 use mathlib.Core.Bool.{false, cond}
 use mathlib.Core.List.{List, [], _++_}
 use lib.Dec.{eqb}
-use lib.ListN.{getD, drop}
+use lib.ListN.{getD, drop, length}
 use Rattle.units.specs.Limits.{maxKwh}
 use Rattle.sheet.specs.declared.Position.{Position}
 use Rattle.sheet.specs.YearSheet.{word, nowhere}
 use Rattle.decimals.specs.Decimals.{field}
 use Rattle.sheet_text.specs.declared.Line.{Line}
 use Rattle.sheet_text.specs.declared.Measures.{Measures}
-use Rattle.sheet_text.specs.Lines.{semicolon, lineFeed, months, places, beginsLine, kwhAt, behindLine, kwhIn}
+use Rattle.sheet_text.specs.Lines.{semicolon, lineFeed, months, places, beginsLine, kwhAt, behindLine, kwhIn, yearText}
 use Rattle.sheet_text.specs.Reading.{someAbove, firstAbove, someRefused, textAnswer}
-use Rattle.sheet_text.specs.Writing.{sheetAbove, monthAbove}
+use Rattle.sheet_text.specs.Writing.{sheetAbove, monthAbove, textRoom}
+use Rattle.codec.specs.Bytes.{stored}
 
 -- a number above its limit counts as one above it
 abbrev pub tooMuch : ℕ
@@ -58,3 +59,9 @@ stopAt p = cond (eqb p 5) lineFeed semicolon
 unfoldable pub numbersTo : (ℕ → ℕ) → ℕ → List ℕ
 numbersTo kwh zero = []
 numbersTo kwh (suc p) = numbersTo kwh p ++ field (kwh p) (stopAt p)
+
+-- the twelve lines of a sheet stand at the front, and fit
+pub record YearPut (s before after : List ℕ) (r : ℕ) : Type 0 where
+  pub end : r ≡ length (yearText (word s))
+  pub most : r ≤ textRoom
+  pub stands : after ≡ stored 0 (yearText (word s)) before

@@ -4,13 +4,13 @@ ghost use mathlib.Core.Path.{_≡_};
 ghost use mathlib.Core.Bool.{true, false};
 ghost use Prim.Native.Nat.{_+_, _*_, _≤_, _<_};
 ghost use lib.ListN.{length};
-ghost use Rattle.codec.specs.Bytes.{stored};
-ghost use Rattle.sheet.specs.YearSheet.{sheetLength, word};
-ghost use Rattle.sheet_text.specs.Lines.{months, places, line, yearText};
+ghost use Rattle.sheet.specs.YearSheet.{sheetLength};
+ghost use Rattle.decimals.specs.InnerWritten.{TextPut};
+ghost use Rattle.sheet_text.specs.Lines.{months, places, line};
 ghost use Rattle.sheet_text.specs.Reading.{wrongLine, aboveIn, readAnswer, sheetAfter, monthFilled, filled};
-ghost use Rattle.sheet_text.specs.Writing.{sizesFit, sheetAbove, textRoom, writeAnswer, bufferAfter};
+ghost use Rattle.sheet_text.specs.Writing.{sizesFit, sheetAbove, writeAnswer, bufferAfter};
 ghost use Rattle.sheet_text.specs.InnerSteps.{kwhOf, yearOf, placeAbove, positionAbove, stopAt, numbersTo, LineRead, MonthPut};
-ghost use Rattle.sheet_text.specs.InnerSteps.{MeasuresRead, MonthOf};
+ghost use Rattle.sheet_text.specs.InnerSteps.{MeasuresRead, MonthOf, YearPut};
 use sheet::HEADER;
 use sheet::LENGTH;
 use sheet::MONTHS;
@@ -273,8 +273,7 @@ fn stop_at(place: usize) -> u8
 // Writes the numbers of a line at a place of the text, and answers the place behind them.
 fn write_numbers(out: &mut [u8], at: usize, kwh: [u32; PLACES]) -> usize
     requires { ⌜ at + length (numbersTo (kwhOf kwh) places) ≤ length (now out) ⌝ }
-    ensures end { λ r. ⌜ r ≡ at + length (numbersTo (kwhOf kwh) places) ⌝ }
-    ensures after { λ _. ⌜ now (out .exit) ≡ stored at (numbersTo (kwhOf kwh) places) (now (out .entry)) ⌝ }
+    ensures { λ r. ⌜ TextPut at (numbersTo (kwhOf kwh) places) (now (out .entry)) (now (out .exit)) r ⌝ }
 {
     let mut end = at;
     for place in 0..PLACES {
@@ -286,8 +285,7 @@ fn write_numbers(out: &mut [u8], at: usize, kwh: [u32; PLACES]) -> usize
 // The line of a month, counted from 0.
 fn write_line(out: &mut [u8], at: usize, month: usize, kwh: [u32; PLACES]) -> usize
     requires { ⌜ (month < months) × (at + length (line (month + 1) (kwhOf kwh)) ≤ length (now out)) ⌝ }
-    ensures end { λ r. ⌜ r ≡ at + length (line (month + 1) (kwhOf kwh)) ⌝ }
-    ensures after { λ _. ⌜ now (out .exit) ≡ stored at (line (month + 1) (kwhOf kwh)) (now (out .entry)) ⌝ }
+    ensures { λ r. ⌜ TextPut at (line (month + 1) (kwhOf kwh)) (now (out .entry)) (now (out .exit)) r ⌝ }
 {
     let end = decimals::write_field(out, at, month as u64 + 1, b';');
     write_numbers(out, end, kwh)
@@ -295,8 +293,7 @@ fn write_line(out: &mut [u8], at: usize, month: usize, kwh: [u32; PLACES]) -> us
 
 fn write_lines(sheet: &[u8], out: &mut [u8]) -> usize
     requires { ⌜ (sizesFit (now sheet) (now out) ≡ true) × (sheetAbove (now sheet) ≡ false) ⌝ }
-    ensures end { λ r. ⌜ (r ≡ length (yearText (word (now (sheet .entry))))) × (r ≤ textRoom) ⌝ }
-    ensures after { λ _. ⌜ now (out .exit) ≡ stored 0 (yearText (word (now (sheet .entry)))) (now (out .entry)) ⌝ }
+    ensures { λ r. ⌜ YearPut (now (sheet .entry)) (now (out .entry)) (now (out .exit)) r ⌝ }
 {
     let mut end = 0;
     for month in 0..MONTHS {

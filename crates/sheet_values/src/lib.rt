@@ -4,16 +4,16 @@ ghost use mathlib.Core.List.{[]};
 ghost use Prim.Native.Nat.{ℕ, _+_, _*_, _≤_, _<_, min};
 ghost use lib.Dec.{ltb};
 ghost use lib.ListN.{getD};
-ghost use Rattle.units.specs.Units.{kwh, rate, ticks, unitsPerEuroMwh};
+ghost use Rattle.units.specs.Units.{kwh, rate, unitsPerEuroMwh};
 ghost use Rattle.units.specs.Limits.{maxKwh, maxPrice, maxTierRate, maxFlatRate};
 ghost use Rattle.units.specs.Folds.{sumBelow, anyBelow};
 ghost use Rattle.tariff.specs.Table1.{tableEuroPerMwh};
 ghost use Rattle.tariff.specs.Tariff.{monthlyThreshold, monthlyTiers, annualTiers, meanRate, flatRateOf};
 ghost use Rattle.sheet.specs.YearSheet.{Passed, monthWithdrawn, word};
 ghost use Rattle.sheet_prices.specs.InnerArrays.{energyAt, rowTotal};
+ghost use Rattle.units.specs.InnerWithin.{NumberWithin, KwhWithin, RateWithin, TicksWithin};
 ghost use Rattle.sheet_values.specs.YearsValues.{monthInjected, monthExchanged, monthRate, annualRate, monthFlatRate, flatRateOver};
-ghost use Rattle.sheet_values.specs.YearsValues.{yearValues, ValuesFit};
-ghost use Rattle.sheet_values.specs.InnerArrays.{Months, Rates};
+ghost use Rattle.sheet_values.specs.InnerArrays.{Months, Rates, ValuesWorked};
 use tariff::MONTHLY_THRESHOLD;
 use units::Kwh;
 use units::Rate;
@@ -74,7 +74,7 @@ fn exchanged(withdrawn: [Kwh; 12], injected: [Kwh; 12]) -> [Kwh; 12]
 // The energy of a stretch of months.
 fn energy_over(months: [Kwh; 12], from: usize, count: usize) -> Kwh
     requires { ⌜ (from + count ≤ 12) × ((m : ℕ) → m < 12 → energyAt m months ≤ 3 * maxKwh) ⌝ }
-    ensures { λ r. ⌜ (r ≡ kwh (sumBelow count (λ i. energyAt (from + i) months))) × (r .0 ≤ 3 * maxKwh * count) ⌝ }
+    ensures { λ r. ⌜ KwhWithin (sumBelow count (λ i. energyAt (from + i) months)) (3 * maxKwh * count) r ⌝ }
 {
     let mut sum: u32 = 0;
     for i in 0..count {
@@ -117,7 +117,7 @@ fn some_month_above(months: [Kwh; 12], from: usize, count: usize) -> bool
 fn rate_at(s: &[u8], month: usize, place: usize) -> Rate
     requires { ⌜ Passed (now s) ⌝ }
     requires { ⌜ (month < 12) × ((6 ≤ place) × (place < 23)) ⌝ }
-    ensures { λ r. ⌜ (r ≡ rate (word (now (s .entry)) month place)) × (r .0 ≤ maxPrice) ⌝ }
+    ensures { λ r. ⌜ RateWithin (word (now (s .entry)) month place) maxPrice r ⌝ }
 {
     Rate(sheet::number_at(s, month, place) as u64)
 }
@@ -143,7 +143,7 @@ fn rate_over(s: &[u8], place: usize, from: usize, count: usize) -> Rate
     requires { ⌜ Passed (now s) ⌝ }
     requires { ⌜ (6 ≤ place) × (place < 23) ⌝ }
     requires { ⌜ from + count ≤ 12 ⌝ }
-    ensures { λ r. ⌜ (r ≡ rate (sumBelow count (λ i. word (now (s .entry)) (from + i) place))) × (r .0 ≤ maxPrice * count) ⌝ }
+    ensures { λ r. ⌜ RateWithin (sumBelow count (λ i. word (now (s .entry)) (from + i) place)) (maxPrice * count) r ⌝ }
 {
     let mut sum: u64 = 0;
     for i in 0..count {
@@ -158,7 +158,7 @@ fn mean_over(s: &[u8], place: usize, from: usize, count: usize) -> Rate
     requires { ⌜ Passed (now s) ⌝ }
     requires { ⌜ (6 ≤ place) × (place < 23) ⌝ }
     requires { ⌜ (0 < count) × (from + count ≤ 12) ⌝ }
-    ensures { λ r. ⌜ (r ≡ rate (meanRate count (sumBelow count (λ i. word (now (s .entry)) (from + i) place)))) × (r .0 ≤ maxPrice) ⌝ }
+    ensures { λ r. ⌜ RateWithin (meanRate count (sumBelow count (λ i. word (now (s .entry)) (from + i) place))) maxPrice r ⌝ }
 {
     tariff::mean_rate(rate_over(s, place, from, count), count as u64)
 }
@@ -200,8 +200,8 @@ fn month_flat_rate(
     requires { ⌜ month < 12 ⌝ }
     requires { ⌜ (exchanged .0 ≤ withdrawn .0) × (withdrawn .0 ≤ 3 * maxKwh) ⌝ }
     requires { ⌜ table ≡ rate (unitsPerEuroMwh * tableEuroPerMwh plant power) ⌝ }
-    ensures { λ r. ⌜ (r .0 ≡ flatRateOf (monthlyTiers (withdrawn .0) (exchanged .0)) (monthRate (now (s .entry)) plant power month))
-        × (r .0 ≤ maxTierRate * exchanged .0) ⌝ }
+    ensures { λ r. ⌜ NumberWithin (flatRateOf (monthlyTiers (withdrawn .0) (exchanged .0)) (monthRate (now (s .entry)) plant power month))
+        (maxTierRate * exchanged .0) (r .0) ⌝ }
 {
     let energies = tariff::monthly_tiers(withdrawn, exchanged);
     tariff::flat_rate_of(energies, month_rates(s, month, plant, power, table))
@@ -223,8 +223,8 @@ fn annual_flat_rate(
     requires { ⌜ (0 < count) × (from + count ≤ 12) ⌝ }
     requires { ⌜ (exchanged .0 ≤ withdrawn .0) × (withdrawn .0 ≤ 36 * maxKwh) ⌝ }
     requires { ⌜ table ≡ rate (unitsPerEuroMwh * tableEuroPerMwh plant power) ⌝ }
-    ensures { λ r. ⌜ (r .0 ≡ flatRateOf (annualTiers class (withdrawn .0) (exchanged .0))
-        (annualRate (now (s .entry)) plant power from count)) × (r .0 ≤ maxTierRate * exchanged .0) ⌝ }
+    ensures { λ r. ⌜ NumberWithin (flatRateOf (annualTiers class (withdrawn .0) (exchanged .0))
+        (annualRate (now (s .entry)) plant power from count)) (maxTierRate * exchanged .0) (r .0) ⌝ }
 {
     let energies = tariff::annual_tiers(class, withdrawn, exchanged);
     tariff::flat_rate_of(energies, annual_rates(s, from, count, plant, power, table))
@@ -245,8 +245,8 @@ fn monthly_flat_rate(
     requires { ⌜ from + count ≤ 12 ⌝ }
     requires { ⌜ Months (monthWithdrawn (now s)) withdrawn × Months (monthExchanged (now s)) exchanged ⌝ }
     requires { ⌜ table ≡ rate (unitsPerEuroMwh * tableEuroPerMwh plant power) ⌝ }
-    ensures { λ r. ⌜ (r .0 ≡ sumBelow count (λ i. monthFlatRate (now (s .entry)) plant power (from + i)))
-        × (r .0 ≤ maxTierRate * (3 * maxKwh * count)) ⌝ }
+    ensures { λ r. ⌜ NumberWithin (sumBelow count (λ i. monthFlatRate (now (s .entry)) plant power (from + i)))
+        (maxTierRate * (3 * maxKwh * count)) (r .0) ⌝ }
 {
     let mut sum: u64 = 0;
     for i in 0..count {
@@ -280,7 +280,7 @@ fn flat_rate(
     requires { ⌜ Passed (now s) ⌝ }
     requires { ⌜ (0 < count) × (from + count ≤ 12) ⌝ }
     requires { ⌜ Months (monthWithdrawn (now s)) withdrawn × Months (monthInjected (now s)) injected ⌝ }
-    ensures { λ r. ⌜ (r ≡ ticks (flatRateOver (now (s .entry)) from count class plant power)) × (r .0 ≤ maxFlatRate) ⌝ }
+    ensures { λ r. ⌜ TicksWithin (flatRateOver (now (s .entry)) from count class plant power) maxFlatRate r ⌝ }
 {
     let table = tariff::table_price(plant, power);
     if tariff::monthly_method(class, some_month_above(withdrawn, from, count)) {
@@ -304,7 +304,7 @@ fn flat_rate(
 // All values of a sheet that has passed 11, 13 and 14, for a user with these details.
 pub fn year_values(s: &[u8], details: Details) -> YearValues
     requires { ⌜ Passed (now s) ⌝ }
-    ensures { λ r. ⌜ (r ≡ yearValues (now (s .entry)) details) × ValuesFit r ⌝ }
+    ensures { λ r. ⌜ ValuesWorked (now (s .entry)) details r ⌝ }
 {
     let withdrawn = withdrawn(s);
     let injected = injected(s);

@@ -16,6 +16,7 @@ use Rattle.units.proofs.Folds.{sum-step, sum-cong}
 use Rattle.units.proofs.Products.{product-capped}
 use Rattle.tariff.specs.Tariff.{numbers, tierSum, maxYearKwh, flatRateOf}
 use Rattle.tariff.proofs.Tiers.{numbers-kwh}
+use Rattle.units.specs.InnerWithin.{NumberWithin}
 
 abbrev pub energyAt : List Kwh → ℕ → ℕ
 energyAt energies t = getD (numbers energies) t 0
@@ -64,9 +65,9 @@ sum-fits {energies} {rates} {t} {sum} s l h =
 
 pub all-summed :
     {energies : List Kwh} {rates : List Rate} {t sum : ℕ} → Summed energies rates t sum → t ≡ 4 →
-    (sum ≡ flatRateOf (numbers energies) (λ k. getD rates k (rate 0) .0)) × (sum ≤ maxTierRate * tierSum (numbers energies))
+    NumberWithin (flatRateOf (numbers energies) (λ k. getD rates k (rate 0) .0)) (maxTierRate * tierSum (numbers energies)) sum
 unfolding tierSum flatRateOf
-all-summed s q = (rw q at (s .exact), rw q at (s .capped))
+all-summed s q = record { is = rw q at (s .exact); most = rw q at (s .capped) }
 
 -- what `flat_rate_of` ensures, for energies and rates that are known as numbers
 pub flat-rate-of-parts :

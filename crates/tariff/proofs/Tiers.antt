@@ -7,6 +7,7 @@ use native.Mathlib.Omega.{arith}
 use Rattle.units.specs.Units.{kwh}
 use Rattle.units.specs.Folds.{sumBelow}
 use Rattle.tariff.specs.Tariff.{between, above, tiers, numbers, tierSum}
+use Rattle.tariff.specs.InnerParts.{TiersCut}
 
 between-above : (low high : ℕ) {a b : ℕ} → a ≤ b → between low high a b + above low high b ≡ above low high a
 unfolding between above
@@ -36,6 +37,7 @@ numbers-kwh (p ∷ parts) = ap (λ (ps : List ℕ). p ∷ ps) (numbers-kwh parts
 pub cut-parts :
     (b₁ b₂ b₃ w e : ℕ) {p₁ p₂ p₃ p₄ : ℕ} → (b₁ ≤ b₂) × (b₂ ≤ b₃) → e ≤ w → p₁ ≡ between (w - e) w 0 b₁ →
     p₂ ≡ between (w - e) w b₁ b₂ → p₃ ≡ between (w - e) w b₂ b₃ → p₄ ≡ above (w - e) w b₃ →
-    ((kwh p₁ ∷ kwh p₂ ∷ kwh p₃ ∷ kwh p₄ ∷ []) ≡ map kwh (tiers b₁ b₂ b₃ w e)) × (tierSum (p₁ ∷ p₂ ∷ p₃ ∷ p₄ ∷ []) ≡ e)
+    TiersCut (tiers b₁ b₂ b₃ w e) e (kwh p₁ ∷ kwh p₂ ∷ kwh p₃ ∷ kwh p₄ ∷ [])
 unfolding tiers
-cut-parts b₁ b₂ b₃ w e b h q₁ q₂ q₃ q₄ = (rw (q₁, q₂, q₃, q₄), rw (q₁, q₂, q₃, q₄) (tiers-sum (b .0) (b .1) h))
+cut-parts b₁ b₂ b₃ w e b h q₁ q₂ q₃ q₄ =
+    record { tiers = rw (q₁, q₂, q₃, q₄); whole = rw (q₁, q₂, q₃, q₄) (tiers-sum (b .0) (b .1) h) }

@@ -1,2 +1,3 @@
 pub mod Table1
 pub mod Tariff
+pub mod InnerParts

@@ -5,14 +5,15 @@ use units::Kwh;
 use units::Rate;
 use units::Ticks;
 ghost use mathlib.Core.Path.{_≡_};
-ghost use mathlib.Core.List.{map};
 ghost use Prim.Native.Nat.{ℕ, _-_, _*_, _≤_, _<_, min, max};
 ghost use lib.ListN.{getD};
-ghost use Rattle.units.specs.Units.{kwh, rate, unitsPerEuroMwh};
+ghost use Rattle.units.specs.Units.{rate, unitsPerEuroMwh};
 ghost use Rattle.units.specs.Limits.{maxPrice, maxTierRate};
+ghost use Rattle.units.specs.InnerWithin.{NumberWithin, RateWithin};
 ghost use Rattle.tariff.specs.Table1.{tableEuroPerMwh};
 ghost use Rattle.tariff.specs.Tariff.{domestic, monthlyMethod, between, above, tiers, numbers, tierSum};
 ghost use Rattle.tariff.specs.Tariff.{annualTiers, monthlyTiers, meanRate, tierRate, maxYearKwh, flatRateOf};
+ghost use Rattle.tariff.specs.InnerParts.{TiersCut};
 
 // "Classes: 1 domestic D2, 2 domestic D3".
 pub fn is_domestic(class: u8) -> bool
@@ -73,8 +74,7 @@ fn above(low: Kwh, high: Kwh, a: Kwh) -> Kwh
 fn cut(withdrawn: Kwh, exchanged: Kwh, first: Kwh, second: Kwh, third: Kwh) -> [Kwh; 4]
     requires { ⌜ exchanged .0 ≤ withdrawn .0 ⌝ }
     requires { ⌜ (first .0 ≤ second .0) × (second .0 ≤ third .0) ⌝ }
-    ensures tiers { λ r. ⌜ r ≡ map kwh (tiers (first .0) (second .0) (third .0) (withdrawn .0) (exchanged .0)) ⌝ }
-    ensures whole { λ r. ⌜ tierSum (numbers r) ≡ exchanged .0 ⌝ }
+    ensures { λ r. ⌜ TiersCut (tiers (first .0) (second .0) (third .0) (withdrawn .0) (exchanged .0)) (exchanged .0) r ⌝ }
 {
     let low = Kwh(withdrawn.0 - exchanged.0);
     let high = Kwh(withdrawn.0);
@@ -89,8 +89,7 @@ fn cut(withdrawn: Kwh, exchanged: Kwh, first: Kwh, second: Kwh, third: Kwh) -> [
 // The tiers of a year's exchanged energy. "Other users have tier 1 only."
 pub fn annual_tiers(class: u8, withdrawn: Kwh, exchanged: Kwh) -> [Kwh; 4]
     requires { ⌜ exchanged .0 ≤ withdrawn .0 ⌝ }
-    ensures tiers { λ r. ⌜ r ≡ map kwh (annualTiers class (withdrawn .0) (exchanged .0)) ⌝ }
-    ensures whole { λ r. ⌜ tierSum (numbers r) ≡ exchanged .0 ⌝ }
+    ensures { λ r. ⌜ TiersCut (annualTiers class (withdrawn .0) (exchanged .0)) (exchanged .0) r ⌝ }
 {
     match class {
         1..=2 => cut(
@@ -107,8 +106,7 @@ pub fn annual_tiers(class: u8, withdrawn: Kwh, exchanged: Kwh) -> [Kwh; 4]
 // The tiers of a month's exchanged energy in the monthly method.
 pub fn monthly_tiers(withdrawn: Kwh, exchanged: Kwh) -> [Kwh; 4]
     requires { ⌜ exchanged .0 ≤ withdrawn .0 ⌝ }
-    ensures tiers { λ r. ⌜ r ≡ map kwh (monthlyTiers (withdrawn .0) (exchanged .0)) ⌝ }
-    ensures whole { λ r. ⌜ tierSum (numbers r) ≡ exchanged .0 ⌝ }
+    ensures { λ r. ⌜ TiersCut (monthlyTiers (withdrawn .0) (exchanged .0)) (exchanged .0) r ⌝ }
 {
     cut(
         withdrawn,
@@ -168,8 +166,7 @@ fn limit_of(table: Rate, net: Rate) -> Rate
 pub fn tier_rate(plant: u8, power: u32, table: Rate, net: Rate, system: Rate) -> Rate
     requires { ⌜ table ≡ rate (unitsPerEuroMwh * tableEuroPerMwh plant power) ⌝ }
     requires { ⌜ (net .0 ≤ maxPrice) × (system .0 ≤ maxPrice) ⌝ }
-    ensures rate { λ r. ⌜ r ≡ rate (tierRate plant power (net .0) (system .0)) ⌝ }
-    ensures most { λ r. ⌜ r .0 ≤ maxTierRate ⌝ }
+    ensures { λ r. ⌜ RateWithin (tierRate plant power (net .0) (system .0)) maxTierRate r ⌝ }
 {
     if plant == COGENERATION {
         return net;
@@ -185,8 +182,8 @@ pub fn tier_rate(plant: u8, power: u32, table: Rate, net: Rate, system: Rate) ->
 pub fn flat_rate_of(energies: [Kwh; 4], rates: [Rate; 4]) -> Ticks
     requires { ⌜ ((t : ℕ) → t < 4 → getD rates t (rate 0) .0 ≤ maxTierRate) ⌝ }
     requires { ⌜ tierSum (numbers energies) ≤ maxYearKwh ⌝ }
-    ensures amount { λ r. ⌜ r .0 ≡ flatRateOf (numbers energies) (λ t. getD rates t (rate 0) .0) ⌝ }
-    ensures most { λ r. ⌜ r .0 ≤ maxTierRate * tierSum (numbers energies) ⌝ }
+    ensures { λ r. ⌜ NumberWithin (flatRateOf (numbers energies) (λ t. getD rates t (rate 0) .0))
+        (maxTierRate * tierSum (numbers energies)) (r .0) ⌝ }
 {
     let mut sum = 0;
     for t in 0..4 {

@@ -1,9 +1,8 @@
 // Table 1 of source document 000: document 01's kinds 1 to 16, in printed order.
 ghost use mathlib.Core.Path.{_≡_};
-ghost use Prim.Native.Nat.{_+_, _≤_};
-ghost use lib.ListN.{length};
-ghost use lib.Seq.{slice};
-ghost use Rattle.tariff.specs.Table1.{table1, rowsOfKind, firstRow, tableEuroPerMwh};
+ghost use Prim.Native.Nat.{_+_};
+ghost use Rattle.tariff.specs.Table1.{tableEuroPerMwh};
+ghost use Rattle.tariff.specs.InnerParts.{BlockPlaced, RowsPlaced};
 
 // No power is above it.
 const BEYOND: u32 = 4_294_967_295;
@@ -156,9 +155,7 @@ const EURO_PER_MWH: [u16; 52] = [
 struct Block(u8, usize, usize);
 
 fn block_of(plant: u8) -> Block
-    ensures within { λ b. ⌜ (b .0 ≤ plant) × (firstRow (b .0) (b .1) (b .2) plant + b .2 ≤ length table1) ⌝ }
-    ensures rows { λ b. ⌜ slice (firstRow (b .0) (b .1) (b .2) plant) (firstRow (b .0) (b .1) (b .2) plant + b .2) table1
-        ≡ rowsOfKind plant table1 ⌝ }
+    ensures { λ b. ⌜ BlockPlaced plant (b .0) (b .1) (b .2) ⌝ }
 {
     match plant {
         1..=2 => Block(1, 0, 4),
@@ -178,8 +175,7 @@ fn block_of(plant: u8) -> Block
 struct Rows(usize, usize);
 
 fn rows_of(plant: u8) -> Rows
-    ensures within { λ r. ⌜ (r .0 ≤ r .1) × (r .1 ≤ length table1) ⌝ }
-    ensures rows { λ r. ⌜ slice (r .0) (r .1) table1 ≡ rowsOfKind plant table1 ⌝ }
+    ensures { λ r. ⌜ RowsPlaced plant (r .0) (r .1) ⌝ }
 {
     let block = block_of(plant);
     let place = (plant - block.0) as usize;

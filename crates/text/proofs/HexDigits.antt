@@ -11,6 +11,7 @@ use Rattle.units.proofs.Bools.{and-left, and-right}
 use Rattle.decimals.specs.Decimals.{isDigit}
 use Rattle.text.specs.InnerText.{isHexDigit, hexDigit}
 use Rattle.decimals.proofs.Digits.{inside, digit-bounds}
+use Rattle.units.specs.InnerWithin.{NumberWithin}
 
 letter : (d : Bool) (x : Bool) → d ≡ false → (d || x) ≡ true → x ≡ true
 letter true x f e = absurd (true≢false f)
@@ -37,18 +38,18 @@ hex-to-nine b e l = by-test (isDigit b) refl
         let low = leb-true 97 b (and-left (leb 97 b) (leb b 102) both) in
         let z : ⊥ = omega arith in absurd z
 
-pub value-to-nine : (b : ℕ) → isHexDigit b ≡ true → b ≤ 57 → (48 ≤ b) × ((b - 48 ≡ hexDigit b) × (b - 48 ≤ 15))
+pub value-to-nine : (b : ℕ) → isHexDigit b ≡ true → b ≤ 57 → (48 ≤ b) × NumberWithin (hexDigit b) 15 (b - 48)
 unfolding hexDigit
 value-to-nine b e l =
     let d = hex-to-nine b e l in
     let bounds = digit-bounds b d in
-    (bounds .0, (rw d refl, omega arith))
+    (bounds .0, record { is = rw d refl; most = omega arith })
 
-pub value-above-nine : (b : ℕ) → isHexDigit b ≡ true → 57 < b → (b - 97 + 10 ≡ hexDigit b) × (b - 97 + 10 ≤ 15)
+pub value-above-nine : (b : ℕ) → isHexDigit b ≡ true → 57 < b → NumberWithin (hexDigit b) 15 (b - 97 + 10)
 unfolding hexDigit
 value-above-nine b e l =
     let bounds = hex-above-nine b e l in
-    (rw (above-nine b l) (omega arith), omega arith)
+    record { is = rw (above-nine b l) (omega arith); most = omega arith }
 
 pub hex-inside : (s : List ℕ) (k : ℕ) → isHexDigit (getD s k 0) ≡ true → k < length s
 unfolding isHexDigit isDigit

@@ -1,7 +1,6 @@
 -- One byte more in hexadecimal: its two digits, and what stands before them stays.
 use Prim.Native.Nat.{ℕ, _+_, _-_, _*_, _/_, _%_, _≤_, _<_}
 use mathlib.Core.Path.{_≡_, _∙_}
-use mathlib.Core.Bool.{true}
 use mathlib.Core.List.{List}
 use native.Mathlib.Omega.{arith}
 use borrow.Author.Count.{below-more}
@@ -9,28 +8,28 @@ use borrow.Author.Tests.{le-leb}
 use lib.ListN.{length, getD, set, length-set}
 use lib.Seq.{getD-set-same, getD-set-other}
 use Rattle.decimals.specs.Decimals.{isDigit}
-use Rattle.text.specs.InnerText.{isHexDigit, hexDigit, hexByte, HexSpelt}
+use Rattle.text.specs.InnerText.{isHexDigit, hexDigit, hexByte, HexSpelt, DigitSpelt}
 use Rattle.text.proofs.HexDigits.{above-nine}
 
-pub digit-to-nine : (n : ℕ) → n < 10 → (isHexDigit (48 + n) ≡ true) × (hexDigit (48 + n) ≡ n)
+pub digit-to-nine : (n : ℕ) → n < 10 → DigitSpelt n (48 + n)
 unfolding isHexDigit isDigit hexDigit
 digit-to-nine n l =
     let low = le-leb 48 (48 + n) (omega arith) in
     let high = le-leb (48 + n) 57 (omega arith) in
-    (rw (low, high), rw (low, high) (omega arith))
+    record { hex = rw (low, high); value = rw (low, high) (omega arith) }
 
-pub letter-above-nine : (n : ℕ) → 10 ≤ n → n ≤ 15 → (isHexDigit (97 + (n - 10)) ≡ true) × (hexDigit (97 + (n - 10)) ≡ n)
+pub letter-above-nine : (n : ℕ) → 10 ≤ n → n ≤ 15 → DigitSpelt n (97 + (n - 10))
 unfolding isHexDigit hexDigit
 letter-above-nine n l h =
     let none = above-nine (97 + (n - 10)) (omega arith) in
-    (rw (none, le-leb 97 (97 + (n - 10)) (omega arith), le-leb (97 + (n - 10)) 102 (omega arith)), rw none (omega arith))
+    record { hex = rw (none, le-leb 97 (97 + (n - 10)) (omega arith), le-leb (97 + (n - 10)) 102 (omega arith)); value = rw none (omega arith) }
 
 -- the bytes below k are spelt
 abbrev pub Spelt : List ℕ → List ℕ → ℕ → Type 0
 Spelt bytes t k = (i : ℕ) → i < k → HexSpelt bytes t i
 
-module _ (bytes t : List ℕ) (k a b : ℕ) (room : 2 * k + 1 < length t) (first : (isHexDigit a ≡ true) × (hexDigit a ≡ getD bytes k 0 / 16))
-    (second : (isHexDigit b ≡ true) × (hexDigit b ≡ getD bytes k 0 % 16)) where
+module _ (bytes t : List ℕ) (k a b : ℕ) (room : 2 * k + 1 < length t) (first : DigitSpelt (getD bytes k 0 / 16) a)
+    (second : DigitSpelt (getD bytes k 0 % 16) b) where
   abbrev after : List ℕ
   after = set (set t (2 * k) a) (2 * k + 1) b
 
@@ -52,9 +51,9 @@ module _ (bytes t : List ℕ) (k a b : ℕ) (room : 2 * k + 1 < length t) (first
   unfolding hexByte
   spelt-here =
       record {
-        first = rw at-first (first .0);
-        second = rw at-second (second .0);
-        byte = rw (at-first, at-second, first .1, second .1) (omega arith);
+        first = rw at-first (first .hex);
+        second = rw at-second (second .hex);
+        byte = rw (at-first, at-second, first .value, second .value) (omega arith);
       }
 
   spelt-kept : (i : ℕ) → i < k → HexSpelt bytes t i → HexSpelt bytes after i

@@ -21,6 +21,10 @@ isHexDigit b = isDigit b || (leb 97 b && leb b 102)
 unfoldable pub hexDigit : ℕ → ℕ
 hexDigit b = cond (isDigit b) (b - 48) (b - 87)
 
+pub record DigitSpelt (n r : ℕ) : Type 0 where
+  pub hex : isHexDigit r ≡ true
+  pub value : hexDigit r ≡ n
+
 -- the number at a place, if a digit stands there and the number is below 2^64; and the number after one blank
 unfoldable pub numberAt : List ℕ → ℕ → Number
 numberAt s at =
@@ -41,6 +45,16 @@ fieldAt s at = cond (isBlankAt s at) (numberAt s (at + 1)) number.Missing
 abbrev pub NextWithin : ℕ → Number → Type 0
 NextWithin n (number.Read value next) = next ≤ n
 NextWithin n number.Missing = Unit {0}
+
+-- a number that is read, with the place after it
+pub record NumberRead (size : ℕ) (n r : Number) : Type 0 where
+  pub read : r ≡ n
+  pub next : NextWithin size r
+
+-- the place after a blank
+pub record BlankPassed (s : List ℕ) (at r : ℕ) : Type 0 where
+  pub place : r ≡ afterBlank s at
+  pub within : at ≤ length s → r ≤ length s
 
 -- the place after k numbers, each after one blank
 abbrev pub nextOf : ℕ → Number → ℕ
@@ -66,6 +80,10 @@ wordLength (b ∷ bs) = cond (eqb b 32) 0 (suc (wordLength bs))
 
 unfoldable pub wordEnd : List ℕ → ℕ → ℕ
 wordEnd s at = at + wordLength (drop at s)
+
+pub record WordEnds (s : List ℕ) (from r : ℕ) : Type 0 where
+  pub end : r ≡ wordEnd s from
+  pub after : from ≤ r
 
 -- a number below a bound, else 0
 abbrev pub narrow : ℕ → ℕ → ℕ

@@ -4,8 +4,9 @@ ghost use mathlib.Core.Path.{_≡_};
 ghost use mathlib.Core.Bool.{true};
 ghost use Prim.Native.Nat.{_+_, _*_, _^_, _≤_};
 ghost use lib.ListN.{length, getD, take, drop};
-ghost use Rattle.text.specs.InnerText.{narrow, isHexDigit, hexDigit, hexByte, isHex, numberAt, NextWithin, afterBlank, fieldAt};
-ghost use Rattle.text.specs.InnerText.{wordEnd, FieldsRead, HexRead, HexWritten};
+ghost use Rattle.units.specs.InnerWithin.{NumberWithin};
+ghost use Rattle.text.specs.InnerText.{narrow, isHexDigit, hexDigit, hexByte, isHex, numberAt, fieldAt};
+ghost use Rattle.text.specs.InnerText.{FieldsRead, HexRead, HexWritten, NumberRead, BlankPassed, WordEnds, DigitSpelt};
 
 // A number that stands at a place, and the place after it.
 pub enum Number {
@@ -34,15 +35,14 @@ fn is_hex_digit(b: u8) -> bool
 
 fn hex_digit(b: u8) -> u8
     requires { ⌜ isHexDigit b ≡ true ⌝ }
-    ensures { λ r. ⌜ (r ≡ hexDigit b) × (r ≤ 15) ⌝ }
+    ensures { λ r. ⌜ NumberWithin (hexDigit b) 15 r ⌝ }
 {
     if b <= b'9' { b - b'0' } else { b - b'a' + 10 }
 }
 
 // The decimal number at a place. It is missing where no digit stands there, and where it is 2^64 or more.
 pub fn number_at(s: &[u8], at: usize) -> Number
-    ensures read { λ r. ⌜ r ≡ numberAt (now (s .entry)) at ⌝ }
-    ensures next { λ r. ⌜ NextWithin (length (now (s .entry))) r ⌝ }
+    ensures { λ r. ⌜ NumberRead (length (now (s .entry))) (numberAt (now (s .entry)) at) r ⌝ }
 {
     let mut value: u64 = 0;
     let mut next = at;
@@ -62,8 +62,7 @@ pub fn number_at(s: &[u8], at: usize) -> Number
 
 // The place after one blank; the same place where no blank stands.
 pub fn after_blank(s: &[u8], at: usize) -> usize
-    ensures place { λ r. ⌜ r ≡ afterBlank (now (s .entry)) at ⌝ }
-    ensures within { λ r. ⌜ (at ≤ length (now (s .entry)) → r ≤ length (now (s .entry))) ⌝ }
+    ensures { λ r. ⌜ BlankPassed (now (s .entry)) at r ⌝ }
 {
     if codec::byte_at(s, at) == b' ' {
         at + 1
@@ -74,8 +73,7 @@ pub fn after_blank(s: &[u8], at: usize) -> usize
 
 // One blank, and the number after it.
 pub fn field_at(s: &[u8], at: usize) -> Number
-    ensures read { λ r. ⌜ r ≡ fieldAt (now (s .entry)) at ⌝ }
-    ensures next { λ r. ⌜ NextWithin (length (now (s .entry))) r ⌝ }
+    ensures { λ r. ⌜ NumberRead (length (now (s .entry))) (fieldAt (now (s .entry)) at) r ⌝ }
 {
     let start = after_blank(s, at);
     if start == at {
@@ -115,8 +113,7 @@ pub fn fields_from(s: &[u8], at: usize, count: usize) -> Numbers
 
 // Where the word that begins at a place ends: at the blank after it, or where the text ends.
 pub fn word_end(s: &[u8], from: usize) -> usize
-    ensures end { λ r. ⌜ r ≡ wordEnd (now (s .entry)) from ⌝ }
-    ensures after { λ r. ⌜ from ≤ r ⌝ }
+    ensures { λ r. ⌜ WordEnds (now (s .entry)) from r ⌝ }
 {
     let mut at = from;
     while at < s.len() {
@@ -193,7 +190,7 @@ pub fn hex_from(s: &[u8], at: usize, out: &mut [u8]) -> Bytes
 // The digit of a number below 16.
 fn digit_of(n: u8) -> u8
     requires { ⌜ n ≤ 15 ⌝ }
-    ensures { λ r. ⌜ (isHexDigit r ≡ true) × (hexDigit r ≡ n) ⌝ }
+    ensures { λ r. ⌜ DigitSpelt n r ⌝ }
 {
     if n < 10 { b'0' + n } else { b'a' + (n - 10) }
 }

@@ -37,7 +37,7 @@ charge-of-each-requires : tie.Need-charge-of-each-requires
 charge-of-each-requires c κs =
     let yearly = c .before .before .charge-of in
     let ofOpen = c .before .charge-of-open in
-    (rw (ofOpen .ensures) (open-most _ (yearly .result .0) (yearly .ensures .1)), yearly .ensures .1)
+    (rw (ofOpen .ensures) (open-most _ (yearly .result .0) (yearly .ensures .most)), yearly .ensures .most)
 
 returns : tie.Need-returns
 returns c =
@@ -48,7 +48,7 @@ returns c =
     let yearly = c .before .before .before .charge-of in
     let ofOpen = c .before .before .charge-of-open in
     charges-are (now (a .book)) (a .user .0) (s .pre .0) (s .pre .1 .0) (s .pre .1 .1) (account .result) (account .ensures) (paid .result) (paid .ensures) (yearly .result) (ofOpen .result)
-    (yearly .ensures .0) (ofOpen .ensures) (c .charge-of-each .result) (c .charge-of-each .ensures)
+    (yearly .ensures .is) (ofOpen .ensures) (c .charge-of-each .result) (c .charge-of-each .ensures)
 
 pub charges-of-spec : {M : Type 1} → statement M
 charges-of-spec =

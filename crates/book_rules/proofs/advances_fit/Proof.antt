@@ -25,9 +25,9 @@ mul-result c = search needs
 returns : tie.Need-returns
 unfolding advancesFit
 returns c =
-    let one = c .before .before .before .halves-made .ensures .0 in
-    let two = c .before .before .halves-made2 .ensures .0 in
-    let three = c .before .halves-made3 .ensures .0 in
+    let one = c .before .before .before .halves-made .ensures .is in
+    let two = c .before .before .halves-made2 .ensures .is in
+    let three = c .before .halves-made3 .ensures .is in
     rw (one, two, three)
 
 pub advances-fit-spec : {M : Type 1} → statement M

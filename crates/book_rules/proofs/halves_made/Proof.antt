@@ -23,13 +23,13 @@ returns c =
     let halves = c .before .halves-of .ensures in
     let made = sym (c .before .before .before .is-made .ensures) ∙ c .before .before .if1 .taken in
     let count = c .halves-count .ensures ∙ ap halvesCount halves in
-    (rw made count, rw (c .halves-count .ensures) (halves-at-most (c .before .halves-of .result)))
+    record { is = rw made count; most = rw (c .halves-count .ensures) (halves-at-most (c .before .halves-of .result)) }
 
 returns-2 : tie.Need-returns-2
 unfolding halvesMade
 returns-2 c =
     let made = sym (c .before .is-made .ensures) ∙ c .if1 .left in
-    (rw made, search needs)
+    record { is = rw made; most = search needs }
 
 pub halves-made-spec : {M : Type 1} → statement M
 halves-made-spec =

@@ -24,7 +24,7 @@ returns-2 : tie.Need-returns-2
 unfolding laterFits
 returns-2 c =
     let second = c .before .before in
-    rw (second .before .later-half .ensures .0, second .later-half2 .ensures .0)
+    rw (second .before .later-half .ensures .is, second .later-half2 .ensures .is)
 
 pub later-fits-spec : {M : Type 1} → statement M
 later-fits-spec = tie.close (tie.spec later-half-requires later-half-requires-2 add-halves mul-result returns returns-2)

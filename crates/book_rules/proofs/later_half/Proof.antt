@@ -12,13 +12,13 @@ returns : tie.Need-returns
 unfolding laterHalf
 returns c =
     let made = sym (c .before .is-made .ensures) ∙ c .if1 .taken in
-    (rw made, search needs)
+    record { is = rw made; most = search needs }
 
 returns-2 : tie.Need-returns-2
 unfolding laterHalf
 returns-2 c =
     let made = sym (c .before .is-made .ensures) ∙ c .if1 .left in
-    (rw made, search needs)
+    record { is = rw made; most = search needs }
 
 pub later-half-spec : {M : Type 1} → statement M
 later-half-spec = tie.close (tie.spec is-made-requires returns returns-2)

@@ -21,7 +21,7 @@ returns c =
     let second = c .before .before .before in
     let first = second .before .share .ensures in
     let later = second .share2 .ensures in
-    run-of-shares _ _ _ _ (first .0) (later .0) (first .1 .1) (later .1 .1) (c .paid-of .ensures)
+    run-of-shares _ _ _ _ (first .amount) (later .amount) (first .most) (later .most) (c .paid-of .ensures)
 
 pub amount-of-spec : {M : Type 1} → statement M
 amount-of-spec = tie.close (tie.spec share-requires share-requires-2 add-t7 paid-of-requires returns)

@@ -15,7 +15,7 @@ returns c =
     let start = c .before .before in
     let exact = ap (λ (t : Ticks). t .0) (c .priced-half .ensures) in
     let low = half-at-most (start .pre .0) (start .pre .1) in
-    rw (c .before .if1 .taken) (exact, (omega arith, omega arith))
+    rw (c .before .if1 .taken) (record { amount = exact; small = omega arith; most = omega arith })
 
 returns-2 : tie.Need-returns-2
 returns-2 c = search needs

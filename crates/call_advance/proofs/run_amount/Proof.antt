@@ -28,7 +28,7 @@ returns c =
     let a = c .before .before .before .before .args in
     run-paid (a .a) (a .price .0) (a .estimate1 .0) (a .estimate2 .0) (a .year) (a .run) (c .before .before .before .half-or-estimate .result .0) (c .before .before .half-or-estimate2 .result .0)
     (c .before .before .before .half-or-estimate .ensures) (c .before .before .half-or-estimate2 .ensures) (c .before .halves-in .result) (c .before .halves-in .ensures) (c .amount-of .result)
-    (c .amount-of .ensures .0)
+    (c .amount-of .ensures .is)
 
 pub run-amount-spec : {M : Type 1} → statement M
 run-amount-spec =

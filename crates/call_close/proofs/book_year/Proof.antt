@@ -50,11 +50,11 @@ returns c =
     let image = c .before .before .before .before .before .before .closing-image in
     let last = c .before .before .before .before .withheld in
     let is = sums .ensures (a .account) (ap (λ x. x .settlement) (after .ensures)) in
-    let withheld = withheld-is (a .account) (a .values) (sums .result) is (held .result) (held .ensures) in (
-      year-booked (a .user) (a .account) (a .values) (now (a .book)) (first .result) (first .ensures) (after .result) (after .ensures) (sums .result) is (held .result) withheld
-          (image .result) (image .ensures) (last .result) (last .ensures) _ (c .before .before .write-entry .ensures),
-      is,
-    )
+    let withheld = withheld-is (a .account) (a .values) (sums .result) is (held .result) (held .ensures) in record {
+      book = year-booked (a .user) (a .account) (a .values) (now (a .book)) (first .result) (first .ensures) (after .result) (after .ensures) (sums .result) is (held .result) withheld
+          (image .result) (image .ensures) (last .result) (last .ensures) _ (c .before .before .write-entry .ensures);
+      sums = is;
+    }
 
 pub book-year-spec : {M : Type 1} → statement M
 book-year-spec =

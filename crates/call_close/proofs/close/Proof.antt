@@ -131,8 +131,8 @@ returns-4 c =
     let judged = q .close-objection in
     let reply = c .before .refused3 in
     close-refused b s (looked .is-sound none) right _ there (q .before .before .before .before .before .before .if3 .left) (read .result) (read .ensures) (left .result) (left .ensures) _
-    (q .before .whole .ensures) (judged .result .refusal) (judged .ensures .0)
-    (c .before .before .if4 .taken) (judged .result .position) (judged .ensures .1) (reply .result) (reply .ensures) (c .without-sums4 .result) (c .without-sums4 .ensures)
+    (q .before .whole .ensures) (judged .result .refusal) (judged .ensures .refused)
+    (c .before .before .if4 .taken) (judged .result .position) (judged .ensures .told) (reply .result) (reply .ensures) (c .without-sums4 .result) (c .without-sums4 .ensures)
 
 year-values-requires : tie.Need-year-values-requires
 year-values-requires c κs =
@@ -149,7 +149,7 @@ year-values-requires c κs =
     let left = q .before .before .has-room in
     let judged = q .close-objection in
     passed b s (looked .is-sound none) right _ there (q .before .before .before .before .before .before .if3 .left) (read .result) (read .ensures) (left .result) (left .ensures) _
-    (q .before .whole .ensures) (judged .result .refusal) (judged .ensures .0)
+    (q .before .whole .ensures) (judged .result .refusal) (judged .ensures .refused)
     (c .if4 .left)
 
 book-year-requires : tie.Need-book-year-requires
@@ -168,7 +168,7 @@ book-year-requires c κs =
     let judged = q .close-objection in
     let values = c .before .year-values in
     year-fits b s (looked .is-sound none) right _ there (q .before .before .before .before .before .before .if3 .left) (read .result) (read .ensures) (left .result) (left .ensures) _
-    (q .before .whole .ensures) (judged .result .refusal) (judged .ensures .0)
+    (q .before .whole .ensures) (judged .result .refusal) (judged .ensures .refused)
     (c .before .before .if4 .left) (values .result) (values .ensures)
 
 same-length-5 : tie.Need-same-length-5
@@ -191,8 +191,8 @@ returns-5 c =
     let values = c .before .before .before .before .year-values in
     let booked = c .before .before .book-year in
     close-booked b s (looked .is-sound none) right _ there (q .before .before .before .before .before .before .if3 .left) (read .result) (read .ensures) (left .result) (left .ensures) _
-    (q .before .whole .ensures) (judged .result .refusal) (judged .ensures .0)
-    (c .before .before .before .before .before .if4 .left) (values .result) (values .ensures) _ (booked .ensures .0) (booked .result) (booked .ensures .1)
+    (q .before .whole .ensures) (judged .result .refusal) (judged .ensures .refused)
+    (c .before .before .before .before .before .if4 .left) (values .result) (values .ensures) _ (booked .ensures .book) (booked .result) (booked .ensures .sums)
 
 pub close-spec : {M : Type 1} → statement M
 close-spec =

@@ -92,8 +92,8 @@ returns-4 c =
     let right = sym (f .before .before .before .before .before .header-wrong .ensures) ∙ f .before .before .before .before .if2 .left in
     let some = f .before .if3 .left in
     let reply = c .before .refused3 in
-    leaves-field b s (a .month) (a .band) (looked .is-sound none) right _ there some (f .field-objection .result .refusal) (f .field-objection .ensures .0) (c .before .before .if4 .taken)
-    (f .field-objection .result .position) (f .field-objection .ensures .1) (reply .result) (reply .ensures) (c .nothing-added4 .result) (c .nothing-added4 .ensures)
+    leaves-field b s (a .month) (a .band) (looked .is-sound none) right _ there some (f .field-objection .result .refusal) (f .field-objection .ensures .refused) (c .before .before .if4 .taken)
+    (f .field-objection .result .position) (f .field-objection .ensures .told) (reply .result) (reply .ensures) (c .nothing-added4 .result) (c .nothing-added4 .ensures)
 
 account-at-requires : tie.Need-account-at-requires
 account-at-requires c κs =
@@ -117,7 +117,7 @@ sub-more-sun c =
     let f = c .before .before .before in
     let right = sym (f .before .before .before .before .before .header-wrong .ensures) ∙ f .before .before .before .before .if2 .left in
     let some = f .before .if3 .left in
-    has s (a .month) (a .band) (field-met b s (a .month) (a .band) (looked .is-sound none) right _ there some (f .field-objection .result .refusal) (f .field-objection .ensures .0)
+    has s (a .month) (a .band) (field-met b s (a .month) (a .band) (looked .is-sound none) right _ there some (f .field-objection .result .refusal) (f .field-objection .ensures .refused)
     (c .before .if4 .left)) .month-from
 
 sub-more-sun-2 : tie.Need-sub-more-sun-2
@@ -132,7 +132,7 @@ sub-more-sun-2 c =
     let f = c .before .before .before in
     let right = sym (f .before .before .before .before .before .header-wrong .ensures) ∙ f .before .before .before .before .if2 .left in
     let some = f .before .if3 .left in
-    has s (a .month) (a .band) (field-met b s (a .month) (a .band) (looked .is-sound none) right _ there some (f .field-objection .result .refusal) (f .field-objection .ensures .0)
+    has s (a .month) (a .band) (field-met b s (a .month) (a .band) (looked .is-sound none) right _ there some (f .field-objection .result .refusal) (f .field-objection .ensures .refused)
     (c .before .if4 .left)) .band-from
 
 more-sun-requires : tie.Need-more-sun-requires
@@ -148,9 +148,9 @@ more-sun-requires c κs =
     let right = sym (f .before .before .before .before .before .header-wrong .ensures) ∙ f .before .before .before .before .if2 .left in
     let some = f .before .if3 .left in
     let z = c .before .if4 .left in (
-      passed b s (a .month) (a .band) (looked .is-sound none) right _ there some (f .field-objection .result .refusal) (f .field-objection .ensures .0) z,
+      passed b s (a .month) (a .band) (looked .is-sound none) right _ there some (f .field-objection .result .refusal) (f .field-objection .ensures .refused) z,
       field-stands s (a .month) (a .band)
-          (field-met b s (a .month) (a .band) (looked .is-sound none) right _ there some (f .field-objection .result .refusal) (f .field-objection .ensures .0) z),
+          (field-met b s (a .month) (a .band) (looked .is-sound none) right _ there some (f .field-objection .result .refusal) (f .field-objection .ensures .refused) z),
     )
 
 returns-5 : tie.Need-returns-5
@@ -165,7 +165,7 @@ returns-5 c =
     let f = c .before .before .before .before in
     let right = sym (f .before .before .before .before .before .header-wrong .ensures) ∙ f .before .before .before .before .if2 .left in
     let some = f .before .if3 .left in
-    answers b s (a .month) (a .band) (looked .is-sound none) right _ there some (f .field-objection .result .refusal) (f .field-objection .ensures .0) (c .before .before .if4 .left)
+    answers b s (a .month) (a .band) (looked .is-sound none) right _ there some (f .field-objection .result .refusal) (f .field-objection .ensures .refused) (c .before .before .if4 .left)
     (c .before .account-at .result) (c .before .account-at .ensures) (c .more-sun .result) (c .more-sun .ensures)
 
 pub more-sun-spec : {M : Type 1} → statement M

@@ -16,18 +16,14 @@ use Rattle.call_rules.specs.Refusals.{lookOf, yearOpen}
 use Rattle.call_rules.specs.Rules.{refusedBy}
 use Rattle.call_rules.specs.Calls.{sheetRules}
 use borrow.Author.Needs.{needs}
+use Rattle.call_refusals.specs.InnerObjections.{SheetObjected}
 use Rattle.call_refusals.proofs.close_objection.Statement.{statement}
 use Rattle.call_refusals.proofs.close_objection.Tie as tie
 
--- what is answered of the sheet s, to the user of the account a
-abbrev Objects : Account → Bool → List ℕ → Objection → Type 0
-Objects a room s o =
-    ((user : ℕ) → (user ≡ 0 → ⊥) → o .refusal ≡ refusedBy (sheetRules (lookOf user a room) s)) × Tells s (o .refusal) (o .position)
-
 -- a refusal without a position
 plain : (a : Account) (room : Bool) (s : List ℕ) (n : ℕ) → Tells s n (objectionOf n .position) → ((user : ℕ) → (user ≡ 0 → ⊥) → n ≡ refusedBy (sheetRules (lookOf user a room) s))
-    → (o : Objection) → o ≡ objectionOf n → Objects a room s o
-plain a room s n told by-rule o e = rw e (by-rule, told)
+    → (o : Objection) → o ≡ objectionOf n → SheetObjected a room s o
+plain a room s n told by-rule o e = rw e (record { refused = by-rule; told = told })
 
 -- whether the sheet's year is open, as tested
 open-is : (a : Account) (s : List ℕ) {year : ℕ} {answer t : Bool} → year ≡ sheetYear s → answer ≡ yearOpen a year → answer ≡ t → yearOpen a (sheetYear s) ≡ t
@@ -39,9 +35,9 @@ module _ (a : Account) (room : Bool) (s : List ℕ) where
   year-shut shut user some = rw (ne-eqb user 0 some, shut) refl
 
   module _ (is-open : yearOpen a (sheetYear s) ≡ true) (o : Objection) (f : FaultTold s o) where
-    by-fault : (o .refusal ≡ 0 → ⊥) → Objects a room s o
+    by-fault : (o .refusal ≡ 0 → ⊥) → SheetObjected a room s o
     unfolding refusedBy
-    by-fault some = (λ user there. f .refusal-is ∙ by-tests user there (refused13 s) refl (refused19 s) refl, f .tells)
+    by-fault some = record { refused = λ user there. f .refusal-is ∙ by-tests user there (refused13 s) refl (refused19 s) refl; told = f .tells }
       where
         by-tests : (user : ℕ) → (user ≡ 0 → ⊥) → (x : Bool) → refused13 s ≡ x → (y : Bool) → refused19 s ≡ y
             → cond x 13 (cond y 19 0) ≡ refusedBy (sheetRules (lookOf user a room) s)

@@ -6,7 +6,6 @@ use mathlib.Core.Logic.{⊎-elim}
 use borrow.Author.Needs.{needs}
 use denote.Ref.{now}
 use lib.ListN.{length, set, length-set}
-use Rattle.codec.specs.Bytes.{stored}
 use Rattle.decimals.specs.Decimals.{decimal}
 use Rattle.codec.proofs.Pieces.{stored-none}
 use Rattle.decimals.proofs.Written.{front, front-none, front-more, front-length, front-inside, length-front, last-written}
@@ -18,6 +17,7 @@ use Rattle.decimals.proofs.write_number.Kinds as write-number-kinds
 use Rattle.decimals.proofs.+write_number.Lts-write_number as write-number-lts
 use Rattle.decimals.proofs.+write_number.{statement}
 use Rattle.decimals.proofs.+write_number.Tie.{close}
+use Rattle.decimals.specs.InnerWritten.{TextPut}
 
 abbrev μ-write-number : Measures 1 write-number-kinds.ps ℕ
 μ-write-number κs a = a .1 .1 .0
@@ -41,15 +41,14 @@ write-number-write-number-requires t c κs =
 
 -- where the ways of the test meet: the digits before the last one are written
 written : (t : ℕ) (c : write-number-lts.Joined1 (write-number-below t, write-number.Post) (write-number-at t) write-number.Post)
-    → (c .if1 .end ≡ c .before .before .args .at + length (front (c .before .before .args .n)))
-    × (c .if1 .out ≡ stored (c .before .before .args .at) (front (c .before .before .args .n)) (now (c .before .before .args .out)))
+    → TextPut (c .before .before .args .at) (front (c .before .before .args .n)) (now (c .before .before .args .out)) (c .if1 .out) (c .if1 .end)
 written t c =
     let a = c .before .before .args in
     ⊎-elim
     (λ w. let f : front (a .n) ≡ decimal (a .n / 10) = front-more (a .n) (w .0 .taken) in
-    rw f (w .6 ∙ w .2 .ensures .0, w .5 ∙ w .2 .ensures .1))
+    rw f (record { end = w .6 ∙ w .2 .ensures .end; stands = w .5 ∙ w .2 .ensures .stands }))
     (λ w. let f : front (a .n) ≡ [] = front-none (a .n) (w .0 .left) in
-    rw f (omega (arith, w .2), w .1 ∙ sym (stored-none (a .at) (now (a .out)))))
+    rw f (record { end = omega (arith, w .2); stands = w .1 ∙ sym (stored-none (a .at) (now (a .out))) }))
     (c .if1 .came)
 
 write-number-cast-out :
@@ -75,7 +74,7 @@ write-number-slice-write-out : (t : ℕ) → write-number-lts.Need-slice-write-o
 write-number-slice-write-out t c =
     let a = c .before .before .args in
     let w = written t c in
-    let l : length (c .if1 .out) ≡ length (now (a .out)) = ap length (w .1) ∙ length-front (a .at) (a .n) (now (a .out)) (omega arith) in
+    let l : length (c .if1 .out) ≡ length (now (a .out)) = ap length (w .stands) ∙ length-front (a .at) (a .n) (now (a .out)) (omega arith) in
     omega (arith, front-inside (a .at) (a .n) (now (a .out)) (omega arith))
 
 write-number-add-result : (t : ℕ) → write-number-lts.Need-add-result (
@@ -93,7 +92,7 @@ write-number-same-length : (t : ℕ) → write-number-lts.Need-same-length (
 ) (write-number-at t) write-number.Post
 write-number-same-length t c =
     let a = c .before .before .before .args in
-    simp length-set (ap length (written t (c .before) .1) ∙ length-front (a .at) (a .n) (now (a .out)) (omega arith))
+    simp length-set (ap length (written t (c .before) .stands) ∙ length-front (a .at) (a .n) (now (a .out)) (omega arith))
 
 write-number-returns :
     (t : ℕ) →
@@ -104,7 +103,10 @@ write-number-returns :
 write-number-returns t c =
     let a = c .before .before .before .args in
     let w = written t (c .before) in
-    (omega (arith, front-length (a .n)), ap₂ (λ (l : List ℕ) (e : ℕ). set l e (48 + a .n % 10)) (w .1) (w .0) ∙ last-written (a .at) (a .n) (now (a .out)) (omega arith))
+    record {
+      end = omega (arith, front-length (a .n));
+      stands = ap₂ (λ (l : List ℕ) (e : ℕ). set l e (48 + a .n % 10)) (w .stands) (w .end) ∙ last-written (a .at) (a .n) (now (a .out)) (omega arith);
+    }
 
 pub +write-number-spec : {M : Type 1} → statement M
 +write-number-spec = close μ-write-number λ t. write-number-lts.spec (

@@ -18,12 +18,12 @@ write-number-requires c κs =
 slice-write-out : tie.Need-slice-write-out
 slice-write-out c =
     let a = c .before .before .before .before .before .args in
-    omega (arith, c .before .before .write-number .ensures .0, c .before .before .write-number .kept .0, field-length (a .n) (a .stop))
+    omega (arith, c .before .before .write-number .ensures .end, c .before .before .write-number .kept .0, field-length (a .n) (a .stop))
 
 add-result : tie.Need-add-result
 add-result c =
     let a = c .before .before .before .before .before .args in
-    omega (arith, c .before .before .write-number .ensures .0, field-length (a .n) (a .stop))
+    omega (arith, c .before .before .write-number .ensures .end, field-length (a .n) (a .stop))
 
 same-length : tie.Need-same-length
 same-length c = search needs
@@ -32,8 +32,8 @@ returns : tie.Need-returns
 returns c =
     let a = c .before .before .before .before .before .args in
     let d = c .before .before .write-number in
-    let written = ap₂ (λ (l : List ℕ) (e : ℕ). set l e (a .stop)) (d .ensures .1) (d .ensures .0) ∙ field-written (a .at) (a .n) (a .stop) (now (a .out)) (omega arith) in
-    (omega (arith, d .ensures .0, field-length (a .n) (a .stop)), written)
+    let written = ap₂ (λ (l : List ℕ) (e : ℕ). set l e (a .stop)) (d .ensures .stands) (d .ensures .end) ∙ field-written (a .at) (a .n) (a .stop) (now (a .out)) (omega arith) in
+    record { end = omega (arith, d .ensures .end, field-length (a .n) (a .stop)); stands = written }
 
 pub write-field-spec : {M : Type 1} → statement M
 write-field-spec =

@@ -52,7 +52,7 @@ put-energy-requires-4 c κs = search needs
 flat-rate-of-requires : tie.Need-flat-rate-of-requires
 flat-rate-of-requires c κs =
     let tiers = c .before .before .before .before .before .before .before .before .before in
-    (λ t l. rates-fit t, omega (arith, tiers .annual-tiers .ensures .1, tiers .before .smaller .ensures))
+    (λ t l. rates-fit t, omega (arith, tiers .annual-tiers .ensures .whole, tiers .before .smaller .ensures))
 
 say-requires : tie.Need-say-requires
 say-requires c κs = search needs

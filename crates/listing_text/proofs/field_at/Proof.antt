@@ -23,13 +23,11 @@ returns : tie.Need-returns
 returns c =
     let a = c .before .before .before .before .before .args in
     let w = c .before .before .write-field in
-    let whole = field-whole (a .n) (a .after) (omega arith) in (
-      w .ensures .0 ∙ ap (λ (l : List ℕ). a .at + length l) whole,
-      (
-        w .ensures .1 ∙ ap (λ (l : List ℕ). stored (a .at) l (now (a .out))) whole,
-        omega (arith, w .ensures .0, ap length whole, field-short (a .n) (a .after)),
-      ),
-    )
+    let whole = field-whole (a .n) (a .after) (omega arith) in record {
+      end = w .ensures .end ∙ ap (λ (l : List ℕ). a .at + length l) whole;
+      stands = w .ensures .stands ∙ ap (λ (l : List ℕ). stored (a .at) l (now (a .out))) whole;
+      most = omega (arith, w .ensures .end, ap length whole, field-short (a .n) (a .after));
+    }
 
 pub field-at-spec : {M : Type 1} → statement M
 field-at-spec = tie.close (tie.spec write-field-requires same-length returns)

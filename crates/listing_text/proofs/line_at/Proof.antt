@@ -31,7 +31,7 @@ returns c =
     let start = c .before .before .before .before .before .before .before .before .before .before .before .before .before .before .before in
     let a = start .args in
     line-written (a .at) (a .account) (now (a .out)) (f .result) (g .result) (h .result) (f .last .0) (g .last .0) (h .last .0) (start .pre)
-    (f .ensures .0) (f .ensures .1 .0) (g .ensures .0) (g .ensures .1 .0) (h .ensures .0) (h .ensures .1 .0)
+    (f .ensures .end) (f .ensures .stands) (g .ensures .end) (g .ensures .stands) (h .ensures .end) (h .ensures .stands)
 
 pub line-at-spec : {M : Type 1} → statement M
 line-at-spec =

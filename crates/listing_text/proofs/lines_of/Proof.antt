@@ -57,7 +57,7 @@ loop-again c =
     let t = c .before .before .before .line-at in
     goes-on (now (a .book)) (now (a .out)) (l .out) (l .end) (l .user .0) (l .inv) (c .before .before .before .before .before .before .before .if1 .taken)
     (d .result) (t .last .0) (t .result) (n .result .next .0)
-    (d .ensures) (t .ensures .0) (t .ensures .1) (ap (λ k. k .next .0) (n .ensures))
+    (d .ensures) (t .ensures .end) (t .ensures .stands) (ap (λ k. k .next .0) (n .ensures))
 
 same-length : tie.Need-same-length Inv-loop μ-loop
 same-length c = c .before .before .loop .inv .same

@@ -19,7 +19,7 @@ returns-2 : tie.Need-returns-2
 returns-2 c =
     let a = c .before .before .before .before .before .before .before .args in
     let t = c .before .before .text-of in
-    all-written (now (a .book)) (now (a .out)) (t .last .1 .0) (t .result) (omega arith) (t .ensures .0) (t .ensures .1)
+    all-written (now (a .book)) (now (a .out)) (t .last .1 .0) (t .result) (omega arith) (t .ensures .end) (t .ensures .stands)
 
 pub listing-of-spec : {M : Type 1} → statement M
 listing-of-spec = tie.close (tie.spec returns text-of-requires same-length returns-2)

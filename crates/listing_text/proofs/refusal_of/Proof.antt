@@ -43,7 +43,7 @@ returns : tie.Need-returns
 returns c =
     let f = c .before .before .field-at in
     let start = c .before .before .before .before .before in
-    refusal-written (start .args .n) (f .result) (now (start .args .out)) (f .last .0) (start .pre) (f .ensures .0) (f .ensures .1 .0)
+    refusal-written (start .args .n) (f .result) (now (start .args .out)) (f .last .0) (start .pre) (f .ensures .end) (f .ensures .stands)
 
 pub refusal-of-spec : {M : Type 1} → statement M
 refusal-of-spec =

@@ -17,13 +17,13 @@ write-number-requires c κs = omega (arith, decimal-short 19 (c .before .args .n
 array-share-prefix-digits : tie.Need-array-share-prefix-digits
 array-share-prefix-digits c =
     let w = c .before .write-number in
-    omega (arith, w .ensures .0, w .kept .0, decimal-short 19 (c .before .before .before .args .n) (omega arith))
+    omega (arith, w .ensures .end, w .kept .0, decimal-short 19 (c .before .before .before .args .n) (omega arith))
 
 slice-aggregate-put-text : tie.Need-slice-aggregate-put-text
 slice-aggregate-put-text c =
     let w = c .before .before .write-number in
     let n = c .before .before .before .before .args .n in
-    sym (length-take-le (w .result) (w .last .0) (omega (arith, w .ensures .0, w .kept .0, decimal-short 19 n (omega arith))))
+    sym (length-take-le (w .result) (w .last .0) (omega (arith, w .ensures .end, w .kept .0, decimal-short 19 n (omega arith))))
 
 put-text-requires : tie.Need-put-text-requires
 put-text-requires c κs = search needs
@@ -31,7 +31,7 @@ put-text-requires c κs = search needs
 returns : tie.Need-returns
 returns c =
     let w = c .before .before .before .write-number in
-    c .put-text .ensures ∙ ap (joined _) (number-front (c .before .before .before .before .before .args .n) (w .result) _ (w .last .0) (w .ensures .0) (w .ensures .1))
+    c .put-text .ensures ∙ ap (joined _) (number-front (c .before .before .before .before .before .args .n) (w .result) _ (w .last .0) (w .ensures .end) (w .ensures .stands))
 
 pub put-number-spec : {M : Type 1} → statement M
 put-number-spec =

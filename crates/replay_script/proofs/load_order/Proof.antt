@@ -13,7 +13,7 @@ after-blank-requires c κs = search needs
 
 returns : tie.Need-returns
 unfolding loadOrder
-returns c = rw (sym (c .before .before .bytes-fit .ensures) ∙ c .before .if1 .taken, c .after-blank .ensures .0)
+returns c = rw (sym (c .before .before .bytes-fit .ensures) ∙ c .before .if1 .taken, c .after-blank .ensures .place)
 
 returns-2 : tie.Need-returns-2
 unfolding loadOrder

@@ -42,8 +42,8 @@ is-some-bytes-requires c κs = search needs
 returns : tie.Need-returns
 returns c =
     let a = c .before .before .before .before .before .before .before .args in
-    word-stands (now (a .line)) (a .at) (c .before .before .before .before .before .byte-at .ensures) (c .before .before .before .before .after-blank .ensures .0)
-    (c .before .before .before .word-end .ensures .0) (c .before .before .is-no-bytes .ensures) (c .before .choose .ensures) (c .is-some-bytes .ensures)
+    word-stands (now (a .line)) (a .at) (c .before .before .before .before .before .byte-at .ensures) (c .before .before .before .before .after-blank .ensures .place)
+    (c .before .before .before .word-end .ensures .end) (c .before .before .is-no-bytes .ensures) (c .before .choose .ensures) (c .is-some-bytes .ensures)
 
 pub word-at-spec : {M : Type 1} → statement M
 word-at-spec =

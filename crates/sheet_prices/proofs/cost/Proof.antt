@@ -41,7 +41,10 @@ returns c =
     let prices = c .before .prices in
     let by = ap (λ (n : ℕ). eqb n 1) (c .before .before .before .withdrawn-reading .ensures) in
     let priced : PriceRows (priceRow s (byBands (withdrawnReading s)) true false) (prices .result) = rw by at (prices .ensures) in
-    (c .year-value .ensures .0 ∙ ap ticks (rows-cost s (rows .result) (prices .result) (rows .ensures) priced), c .year-value .ensures .1)
+    record {
+      is = c .year-value .ensures .is ∙ ap ticks (rows-cost s (rows .result) (prices .result) (rows .ensures) priced);
+      most = c .year-value .ensures .most;
+    }
 
 pub cost-spec : {M : Type 1} → statement M
 cost-spec =

@@ -55,7 +55,7 @@ returns c =
     let a = c .before .before .before .before .before .before .before .before .before .before .before .before in
     let sums = row-sum (a .args .t1) (a .args .t2) _ _ _ (a .pre) (c .before .before .before .before .before .before .before .before .before .priced .ensures)
     (c .before .before .before .before .before .before .priced2 .ensures) (c .before .before .before .priced3 .ensures) in
-    (ap ticks (sums .0), sums .1)
+    record { is = ap ticks (sums .0); most = sums .1 }
 
 pub row-value-spec : {M : Type 1} → statement M
 row-value-spec =

@@ -60,7 +60,7 @@ loop-again c =
     record {
       within = search needs;
       bounded = omega arith;
-      sums = sum-next (l .month) (λ m. rowValue (getD (a .t1) m []) (getD (a .t2) m [])) (l .inv .sums) (ap (λ (t : Ticks). t .0) (value .0));
+      sums = sum-next (l .month) (λ m. rowValue (getD (a .t1) m []) (getD (a .t2) m [])) (l .inv .sums) (ap (λ (t : Ticks). t .0) (value .is));
     }
 
 returns : tie.Need-returns Inv-loop μ-loop
@@ -68,7 +68,10 @@ returns c =
     let l = c .before .loop in
     let a = c .before .before .args in
     let end : l .month ≡ 12 = omega arith in
-    (ap ticks (l .inv .sums ∙ ap (λ (n : ℕ). sumBelow n (λ m. rowValue (getD (a .t1) m []) (getD (a .t2) m []))) end), omega arith)
+    record {
+      is = ap ticks (l .inv .sums ∙ ap (λ (n : ℕ). sumBelow n (λ m. rowValue (getD (a .t1) m []) (getD (a .t2) m []))) end);
+      most = omega arith;
+    }
 
 pub year-value-spec : {M : Type 1} → statement M
 year-value-spec =

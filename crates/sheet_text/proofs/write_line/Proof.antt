@@ -24,7 +24,7 @@ write-numbers-requires : tie.Need-write-numbers-requires
 write-numbers-requires c κs =
     let a = c .before .before .before .before .before .before .args in
     let w = c .before .before .before .write-field in
-    omega (arith, line-length (a .month + 1) (kwhOf (a .kwh)), w .ensures .0, w .kept .0)
+    omega (arith, line-length (a .month + 1) (kwhOf (a .kwh)), w .ensures .end, w .kept .0)
 
 same-length : tie.Need-same-length
 same-length c = search needs
@@ -34,12 +34,12 @@ returns c =
     let a = c .before .before .before .before .before .before .before .before .before .args in
     let w = c .before .before .before .before .before .before .write-field in
     let n = c .before .before .write-numbers in
-    let kwh = kwhOf (a .kwh) in (
-      omega (arith, line-length (a .month + 1) kwh, w .ensures .0, n .ensures .0),
-      n .ensures .1
-          ∙ ap₂ (λ (e : ℕ) (o : List ℕ). stored e (numbersTo kwh places) o) (w .ensures .0) (w .ensures .1)
-          ∙ line-written (a .at) (a .month + 1) kwh (now (a .out)) (omega arith),
-    )
+    let kwh = kwhOf (a .kwh) in record {
+      end = omega (arith, line-length (a .month + 1) kwh, w .ensures .end, n .ensures .end);
+      stands = n .ensures .stands
+          ∙ ap₂ (λ (e : ℕ) (o : List ℕ). stored e (numbersTo kwh places) o) (w .ensures .end) (w .ensures .stands)
+          ∙ line-written (a .at) (a .month + 1) kwh (now (a .out)) (omega arith);
+    }
 
 pub write-line-spec : {M : Type 1} → statement M
 write-line-spec =

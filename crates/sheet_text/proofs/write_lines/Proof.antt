@@ -66,8 +66,8 @@ loop-again c =
     let room = sizes-of s out (start .pre .0) .1 in record {
       within = search needs;
       same = w .kept .0 ∙ l .inv .same;
-      ends = omega (arith, ap length same, lines-length (l .month) (word s), w .ensures .0, l .inv .ends);
-      written = w .ensures .1
+      ends = omega (arith, ap length same, lines-length (l .month) (word s), w .ensures .end, l .inv .ends);
+      written = w .ensures .stands
           ∙ ap (λ (t : List ℕ). stored (l .end) t (l .out)) same
           ∙ ap₂ (λ (e : ℕ) (o : List ℕ). stored e (line (l .month + 1) (word s (l .month))) o) (l .inv .ends) (l .inv .written)
           ∙ lines-written (l .month) (word s) out (omega arith) (sheet-within s (start .pre .1)) room;
@@ -82,10 +82,11 @@ returns c =
     let start = c .before .before .before .before in
     let s = now (start .args .sheet) in
     let end : l .month ≡ months = omega arith in
-    let whole = l .inv .ends ∙ ap (λ (m : ℕ). length (lines m (word s))) end in (
-      (whole, omega (arith, year-room (word s) (sheet-within s (start .pre .1)))),
-      l .inv .written ∙ ap (λ (m : ℕ). stored 0 (lines m (word s)) (now (start .args .out))) end,
-    )
+    let whole = l .inv .ends ∙ ap (λ (m : ℕ). length (lines m (word s))) end in record {
+      end = whole;
+      most = omega (arith, year-room (word s) (sheet-within s (start .pre .1)));
+      stands = l .inv .written ∙ ap (λ (m : ℕ). stored 0 (lines m (word s)) (now (start .args .out))) end;
+    }
 
 pub write-lines-spec : {M : Type 1} → statement M
 write-lines-spec =

@@ -42,7 +42,7 @@ returns-3 c =
     let first = c .before .before .before .before .before .before .first-above in
     let w = c .before .before .write-lines in
     text-answered (now (a .sheet)) (now (a .text)) (c .before .before .before .before .before .before .before .if1 .left) (first .result) (first .ensures) (omega arith)
-    (w .result) (w .last .1 .0) (w .ensures .0 .0) (w .ensures .1)
+    (w .result) (w .last .1 .0) (w .ensures .end) (w .ensures .stands)
 
 pub write-measures-spec : {M : Type 1} → statement M
 write-measures-spec =

@@ -70,8 +70,8 @@ loop-again c =
     let long : length (field (kwh p) (stop .result)) ≡ length (field (kwh p) (stopAt p)) = ap (λ (b : ℕ). length (field (kwh p) b)) (stop .ensures) in record {
       within = search needs;
       same = w .kept .0 ∙ l .inv .same;
-      ends = omega (arith, numbers-length kwh p, w .ensures .0, l .inv .ends);
-      written = w .ensures .1
+      ends = omega (arith, numbers-length kwh p, w .ensures .end, l .inv .ends);
+      written = w .ensures .stands
           ∙ ap (λ (b : ℕ). stored (l .end) (field (kwh p) b) (l .out)) (stop .ensures)
           ∙ ap₂ (λ (e : ℕ) (o : List ℕ). stored e (field (kwh p) (stopAt p)) o) (l .inv .ends) (l .inv .written)
           ∙ numbers-written kwh (a .at) p (now (a .out)) (omega arith) (omega arith);
@@ -84,10 +84,10 @@ returns : tie.Need-returns Inv-loop μ-loop
 returns c =
     let l = c .before .loop in
     let a = c .before .before .before .args in
-    let end : l .place ≡ places = omega arith in (
-      l .inv .ends ∙ ap (λ (p : ℕ). a .at + length (numbersTo (kwhOf (a .t3)) p)) end,
-      l .inv .written ∙ ap (λ (p : ℕ). stored (a .at) (numbersTo (kwhOf (a .t3)) p) (now (a .out))) end,
-    )
+    let end : l .place ≡ places = omega arith in record {
+      end = l .inv .ends ∙ ap (λ (p : ℕ). a .at + length (numbersTo (kwhOf (a .t3)) p)) end;
+      stands = l .inv .written ∙ ap (λ (p : ℕ). stored (a .at) (numbersTo (kwhOf (a .t3)) p) (now (a .out))) end;
+    }
 
 pub write-numbers-spec : {M : Type 1} → statement M
 write-numbers-spec =

@@ -25,18 +25,18 @@ flat-rate-of-requires c κs =
     let p = start .pre .0 in (
       rates-capped (annualRate s (a .plant) (a .power) (a .from) (a .count)) (c .annual-rates .result) (c .annual-rates .ensures)
           (λ t l. annual-rate-capped s p (a .plant) (a .power) (a .from) (a .count) t (start .pre .1 .0 .0) (start .pre .1 .0 .1) l),
-      omega (arith, c .before .annual-tiers .ensures .1),
+      omega (arith, c .before .annual-tiers .ensures .whole),
     )
 
 returns : tie.Need-returns
 returns c =
     let a = c .before .before .before .before .args in
     let s = now (a .s) in
-    let f = c .flat-rate-of .ensures in (
-      f .0 ∙ flat-rate-of-parts (c .before .annual-rates .result) (annualTiers (a .class) (a .withdrawn .0) (a .exchanged .0)) (annualRate s (a .plant) (a .power) (a .from) (a .count))
-          (c .before .before .annual-tiers .ensures .0) (c .before .annual-rates .ensures),
-      omega (arith, f .1, c .before .before .annual-tiers .ensures .1),
-    )
+    let f = c .flat-rate-of .ensures in record {
+      is = f .is ∙ flat-rate-of-parts (c .before .annual-rates .result) (annualTiers (a .class) (a .withdrawn .0) (a .exchanged .0)) (annualRate s (a .plant) (a .power) (a .from) (a .count))
+          (c .before .before .annual-tiers .ensures .tiers) (c .before .annual-rates .ensures);
+      most = omega (arith, f .most, c .before .before .annual-tiers .ensures .whole);
+    }
 
 pub annual-flat-rate-spec : {M : Type 1} → statement M
 annual-flat-rate-spec =

@@ -56,12 +56,12 @@ unfolding annualRate
 loop-again c =
     let l = c .before .before .before .before .loop in
     let a = c .before .before .before .before .before .before .args in
-    let net-rate = ap (λ (x : Rate). x .0) (c .before .before .mean-over .ensures .0) in
-    let system-rate = ap (λ (x : Rate). x .0) (c .before .mean-over2 .ensures .0) in record {
+    let net-rate = ap (λ (x : Rate). x .0) (c .before .before .mean-over .ensures .is) in
+    let system-rate = ap (λ (x : Rate). x .0) (c .before .mean-over2 .ensures .is) in record {
       within = search needs;
       long = simp length-set (l .inv .long);
       filled = filled-next (rate 0) (λ t. rate (annualRate (now (a .s)) (a .plant) (a .power) (a .from) (a .count) t)) (l .tier) (l .rates) (c .tier-rate .result)
-          (omega arith) (c .tier-rate .ensures .0 ∙ ap₂ (λ (n m : ℕ). rate (tierRate (a .plant) (a .power) n m)) net-rate system-rate) (l .inv .filled);
+          (omega arith) (c .tier-rate .ensures .is ∙ ap₂ (λ (n m : ℕ). rate (tierRate (a .plant) (a .power) n m)) net-rate system-rate) (l .inv .filled);
     }
 
 returns : tie.Need-returns Inv-loop μ-loop

@@ -56,7 +56,7 @@ returns c =
     let l = c .before .loop in
     let a = c .before .before .args in
     let end : l .i ≡ a .count = omega arith in
-    (ap kwh (l .inv .sums ∙ ap (λ (n : ℕ). sumBelow n (λ j. energyAt (a .from + j) (a .t1))) end), omega arith)
+    record { is = ap kwh (l .inv .sums ∙ ap (λ (n : ℕ). sumBelow n (λ j. energyAt (a .from + j) (a .t1))) end); most = omega arith }
 
 pub energy-over-spec : {M : Type 1} → statement M
 energy-over-spec =

@@ -55,7 +55,7 @@ annual-flat-rate-requires c κs =
     let start = c .before .before .before .before .before .before .before .before in
     let shared = c .smaller .ensures in
     let table = c .before .before .before .before .before .before .table-price .ensures in
-    (start .pre .0, (start .pre .1 .0, ((omega arith, omega (arith, c .before .before .energy-over .ensures .1)), table)))
+    (start .pre .0, (start .pre .1 .0, ((omega arith, omega (arith, c .before .before .energy-over .ensures .most)), table)))
 
 returns : tie.Need-returns
 returns c =
@@ -65,11 +65,11 @@ returns c =
     let above = c .before .before .before .before .some-month-above in
     let method = c .before .before .before .monthly-method in
     let test = sym (ap (monthlyMethod (a .class)) (above .ensures ∙ above-over s (start .args .withdrawn) (start .pre .1 .1 .0) (a .from) (a .count) (start .pre .1 .0 .1))) ∙ sym (method .ensures)
-    ∙ c .before .before .if1 .taken in (
-      ap ticks (flat-monthly s (a .from) (a .count) (a .class) (a .plant) (a .power) (c .monthly-flat-rate .result .0) test (c .monthly-flat-rate .ensures .0)),
-      omega
-          (arith, c .monthly-flat-rate .ensures .1),
-    )
+    ∙ c .before .before .if1 .taken in record {
+      is = ap ticks (flat-monthly s (a .from) (a .count) (a .class) (a .plant) (a .power) (c .monthly-flat-rate .result .0) test (c .monthly-flat-rate .ensures .is));
+      most = omega
+          (arith, c .monthly-flat-rate .ensures .most);
+    }
 
 returns-2 : tie.Need-returns-2
 returns-2 c =
@@ -82,12 +82,12 @@ returns-2 c =
     let injected = c .before .before .energy-over2 in
     let test = sym (ap (monthlyMethod (a .class)) (above .ensures ∙ above-over s (start .args .withdrawn) (start .pre .1 .1 .0) (a .from) (a .count) (start .pre .1 .0 .1))) ∙ sym (method .ensures)
     ∙ c .before .before .before .before .if1 .left in
-    let shared = c .before .smaller .ensures in (
-      ap ticks (flat-annual s (start .args .withdrawn) (start .args .injected) (a .from) (a .count) (a .class) (a .plant) (a .power) (c .annual-flat-rate .result .0) (total .result) (injected .result)
-          (c .before .smaller .result) (start .pre .1 .0 .1) (start .pre .1 .1 .0) (start .pre .1 .1 .1) test (total .ensures .0) (injected .ensures .0) (ap kwh (c .before .smaller .ensures))
-          (c .annual-flat-rate .ensures .0)),
-      omega (arith, c .annual-flat-rate .ensures .1, total .ensures .1),
-    )
+    let shared = c .before .smaller .ensures in record {
+      is = ap ticks (flat-annual s (start .args .withdrawn) (start .args .injected) (a .from) (a .count) (a .class) (a .plant) (a .power) (c .annual-flat-rate .result .0) (total .result)
+          (injected .result) (c .before .smaller .result) (start .pre .1 .0 .1) (start .pre .1 .1 .0) (start .pre .1 .1 .1) test (total .ensures .is) (injected .ensures .is)
+          (ap kwh (c .before .smaller .ensures)) (c .annual-flat-rate .ensures .is));
+      most = omega (arith, c .annual-flat-rate .ensures .most, total .ensures .most);
+    }
 
 pub flat-rate-spec : {M : Type 1} → statement M
 flat-rate-spec =

@@ -19,11 +19,11 @@ returns : tie.Need-returns
 returns c =
     let start = c .before .before .before in
     let n = start .args .count in
-    let sum = c .before .rate-over in (
-      c .mean-rate .ensures ∙ ap (λ (x : Rate). rate (meanRate n (x .0))) (sum .ensures .0),
-      rw (c .mean-rate .ensures)
-          (mean-rate-capped n (sum .result .0) maxPrice (start .pre .1 .1 .0) (sum .ensures .1)),
-    )
+    let sum = c .before .rate-over in record {
+      is = c .mean-rate .ensures ∙ ap (λ (x : Rate). rate (meanRate n (x .0))) (sum .ensures .is);
+      most = rw (c .mean-rate .ensures)
+          (mean-rate-capped n (sum .result .0) maxPrice (start .pre .1 .1 .0) (sum .ensures .most));
+    }
 
 pub mean-over-spec : {M : Type 1} → statement M
 mean-over-spec = tie.close (tie.spec rate-over-requires mean-rate-requires returns)

@@ -25,18 +25,18 @@ flat-rate-of-requires c κs =
     let p = start .pre .0 in (
       rates-capped (monthRate s (a .plant) (a .power) (a .month)) (c .month-rates .result) (c .month-rates .ensures)
           (λ t l. month-rate-capped s p (a .plant) (a .power) (a .month) t (start .pre .1 .0) l),
-      omega (arith, c .before .monthly-tiers .ensures .1),
+      omega (arith, c .before .monthly-tiers .ensures .whole),
     )
 
 returns : tie.Need-returns
 returns c =
     let a = c .before .before .before .before .args in
     let s = now (a .s) in
-    let f = c .flat-rate-of .ensures in (
-      f .0 ∙ flat-rate-of-parts (c .before .month-rates .result) (monthlyTiers (a .withdrawn .0) (a .exchanged .0)) (monthRate s (a .plant) (a .power) (a .month))
-          (c .before .before .monthly-tiers .ensures .0) (c .before .month-rates .ensures),
-      omega (arith, f .1, c .before .before .monthly-tiers .ensures .1),
-    )
+    let f = c .flat-rate-of .ensures in record {
+      is = f .is ∙ flat-rate-of-parts (c .before .month-rates .result) (monthlyTiers (a .withdrawn .0) (a .exchanged .0)) (monthRate s (a .plant) (a .power) (a .month))
+          (c .before .before .monthly-tiers .ensures .tiers) (c .before .month-rates .ensures);
+      most = omega (arith, f .most, c .before .before .monthly-tiers .ensures .whole);
+    }
 
 pub month-flat-rate-spec : {M : Type 1} → statement M
 month-flat-rate-spec =

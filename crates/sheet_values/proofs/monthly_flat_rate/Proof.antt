@@ -68,7 +68,7 @@ within c =
     let w = sheets-bounded s (start .pre .0 .past13) .month-withdrawn m inside in
     let e = exchanged-within s m in
     let held = ap (λ (k : Kwh). k .0) (months .1 m inside) in
-    omega (arith, c .before .month-flat-rate .ensures .1)
+    omega (arith, c .before .month-flat-rate .ensures .most)
 
 add-sum : tie.Need-add-sum Inv-loop μ-loop
 add-sum c = let small = within c in omega arith
@@ -93,7 +93,7 @@ loop-again c =
       within = search needs;
       bounded = omega arith;
       sums = sum-next (l .i) (λ j. monthFlatRate s (a .plant) (a .power) (a .from + j)) (l .inv .sums)
-          (month-flat s (a .t4) (a .t5) (a .plant) (a .power) m (c .before .month-flat-rate .result .0) inside (months .0) (months .1) (part .0));
+          (month-flat s (a .t4) (a .t5) (a .plant) (a .power) m (c .before .month-flat-rate .result .0) inside (months .0) (months .1) (part .is));
     }
 
 returns : tie.Need-returns Inv-loop μ-loop
@@ -101,7 +101,10 @@ returns c =
     let l = c .before .loop in
     let a = c .before .before .before .args in
     let end : l .i ≡ a .count = omega arith in
-    (l .inv .sums ∙ ap (λ (n : ℕ). sumBelow n (λ j. monthFlatRate (now (a .s)) (a .plant) (a .power) (a .from + j))) end, omega arith)
+    record {
+      is = l .inv .sums ∙ ap (λ (n : ℕ). sumBelow n (λ j. monthFlatRate (now (a .s)) (a .plant) (a .power) (a .from + j))) end;
+      most = omega arith;
+    }
 
 pub monthly-flat-rate-spec : {M : Type 1} → statement M
 monthly-flat-rate-spec =

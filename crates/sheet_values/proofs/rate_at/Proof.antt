@@ -22,7 +22,10 @@ returns c =
     let start = c .before .before in
     let a = start .args in
     let place = start .pre .1 in
-    (ap rate (c .number-at .ensures), rw (c .number-at .ensures) (passed-price (now (a .s)) (start .pre .0 .past13) (a .month) (a .place) (place .0) (place .1 .0) (place .1 .1)))
+    record {
+      is = ap rate (c .number-at .ensures);
+      most = rw (c .number-at .ensures) (passed-price (now (a .s)) (start .pre .0 .past13) (a .month) (a .place) (place .0) (place .1 .0) (place .1 .1));
+    }
 
 pub rate-at-spec : {M : Type 1} → statement M
 rate-at-spec = tie.close (tie.spec number-at-requires cast-t5 returns)

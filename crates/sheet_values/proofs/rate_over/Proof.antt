@@ -48,7 +48,7 @@ loop-again c =
     record {
       within = search needs;
       bounded = omega arith;
-      sums = sum-next (l .i) (λ j. word (now (a .s)) (a .from + j) (a .place)) (l .inv .sums) (ap (λ (x : Rate). x .0) (c .before .rate-at .ensures .0));
+      sums = sum-next (l .i) (λ j. word (now (a .s)) (a .from + j) (a .place)) (l .inv .sums) (ap (λ (x : Rate). x .0) (c .before .rate-at .ensures .is));
     }
 
 returns : tie.Need-returns Inv-loop μ-loop
@@ -56,7 +56,7 @@ returns c =
     let l = c .before .loop in
     let a = c .before .before .before .args in
     let end : l .i ≡ a .count = omega arith in
-    (ap rate (l .inv .sums ∙ ap (λ (n : ℕ). sumBelow n (λ j. word (now (a .s)) (a .from + j) (a .place))) end), omega arith)
+    record { is = ap rate (l .inv .sums ∙ ap (λ (n : ℕ). sumBelow n (λ j. word (now (a .s)) (a .from + j) (a .place))) end); most = omega arith }
 
 pub rate-over-spec : {M : Type 1} → statement M
 rate-over-spec =

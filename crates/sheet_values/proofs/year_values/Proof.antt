@@ -61,15 +61,15 @@ returns c =
     let i = c .before .before .before .before .before .before .before .before .injected in
     let e = c .before .before .before .before .before .before .before .exchanged in
     let months = exchanged-months s (w .result) (i .result) (e .result) (w .ensures) (i .ensures) (e .ensures) in
-    let first = half-is s (e .result) 0 (c .before .energy-over .result) (lit< tt) months (c .before .energy-over .ensures .0) in
-    let second = half-is s (e .result) 1 (c .energy-over2 .result) (lit< tt) months (c .energy-over2 .ensures .0) in
+    let first = half-is s (e .result) 0 (c .before .energy-over .result) (lit< tt) months (c .before .energy-over .ensures .is) in
+    let second = half-is s (e .result) 1 (c .energy-over2 .result) (lit< tt) months (c .energy-over2 .ensures .is) in
     let value = c .before .before .before .before .value .ensures in
     let cost = c .before .before .before .cost .ensures in
-    let flat = c .before .before .flat-rate .ensures in (
-      λ k. record { value = value .0 k; cost = cost .0 k; «flat_rate» = flat .0 k; half1 = first k; half2 = second k },
-      record
-          { value = value .1; cost = cost .1; flatRate = flat .1; half1 = omega (arith, c .before .energy-over .ensures .1); half2 = omega (arith, c .energy-over2 .ensures .1) },
-    )
+    let flat = c .before .before .flat-rate .ensures in record {
+      are = λ k. record { value = value .is k; cost = cost .is k; «flat_rate» = flat .is k; half1 = first k; half2 = second k };
+      fit = record
+          { value = value .most; cost = cost .most; flatRate = flat .most; half1 = omega (arith, c .before .energy-over .ensures .most); half2 = omega (arith, c .energy-over2 .ensures .most) };
+    }
 
 pub year-values-spec : {M : Type 1} → statement M
 year-values-spec =

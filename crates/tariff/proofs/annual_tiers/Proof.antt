@@ -21,7 +21,7 @@ unfolding domestic annualTiers
 returns-2 c =
     let other : domestic (c .before .args .class) ≡ false =
     ⊎-elim (λ w. under 1 2 (w .taken)) (λ w. over 1 2 (w .1 .left)) (c .if1 .came) in
-    (rw other, first-tier-sum (c .before .args .exchanged .0))
+    record { tiers = rw other; whole = first-tier-sum (c .before .args .exchanged .0) }
 
 pub annual-tiers-spec : {M : Type 1} → statement M
 annual-tiers-spec = tie.close (tie.spec cut-requires returns returns-2)

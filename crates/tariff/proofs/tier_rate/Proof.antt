@@ -8,7 +8,7 @@ use Rattle.tariff.proofs.tier_rate.Statement.{statement}
 use Rattle.tariff.proofs.tier_rate.Tie as tie
 
 returns : tie.Need-returns
-returns c = (ap rate (sym (rate-of-cogeneration _ _ _ (c .if1 .taken))), omega arith)
+returns c = record { is = ap rate (sym (rate-of-cogeneration _ _ _ (c .if1 .taken))); most = omega arith }
 
 add-t8 : tie.Need-add-t8
 add-t8 c = search needs
@@ -16,7 +16,7 @@ add-t8 c = search needs
 returns-2 : tie.Need-returns-2
 returns-2 c =
     let large = c .before .before in
-    (ap rate (sym (rate-of-small _ _ (large .before .if1 .left) (large .if2 .taken))), omega arith)
+    record { is = ap rate (sym (rate-of-small _ _ (large .before .if1 .left) (large .if2 .taken))); most = omega arith }
 
 limit-of-requires : tie.Need-limit-of-requires
 limit-of-requires c κs = search needs
@@ -34,7 +34,7 @@ returns-3 c =
     let table = ap (λ r. r .0) (large .before .before .pre .0) in
     let cap = called .before .limit-of .ensures in
     let exact = rate-of-large _ _ (large .before .if1 .left) (large .if2 .left) table cap (called .smaller-rate .ensures) in
-    (ap rate (sym exact), omega (arith, called .smaller-rate .ensures))
+    record { is = ap rate (sym exact); most = omega (arith, called .smaller-rate .ensures) }
 
 pub tier-rate-spec : {M : Type 1} → statement M
 tier-rate-spec =

@@ -24,13 +24,16 @@ unfolding afterBlank
 returns c =
     let a = c .before .before .before .args in
     let blank = sym (c .before .byte-at .ensures) ∙ c .if1 .taken in
-    (rw (eq-eqb (getD (now (a .s)) (a .at) 0) 32 blank), λ h. omega (arith, inside (now (a .s)) (a .at) (λ z. omega arith)))
+    record {
+      place = rw (eq-eqb (getD (now (a .s)) (a .at) 0) 32 blank);
+      within = λ h. omega (arith, inside (now (a .s)) (a .at) (λ z. omega arith));
+    }
 
 returns-2 : tie.Need-returns-2
 unfolding afterBlank
 returns-2 c =
     let a = c .before .before .before .args in
-    (rw (ne-eqb (getD (now (a .s)) (a .at) 0) 32 (λ z. c .if1 .left (c .before .byte-at .ensures ∙ z))), λ h. h)
+    record { place = rw (ne-eqb (getD (now (a .s)) (a .at) 0) 32 (λ z. c .if1 .left (c .before .byte-at .ensures ∙ z))); within = λ h. h }
 
 pub after-blank-spec : {M : Type 1} → statement M
 after-blank-spec = tie.close (tie.spec byte-at-requires add-result returns returns-2)

@@ -11,7 +11,10 @@ after-blank-requires c κs = search needs
 returns : tie.Need-returns
 returns c =
     let a = c .before .before .before .args in
-    (field-none (now (a .s)) (a .at) (c .before .after-blank .result) (c .before .after-blank .ensures .0) (c .if1 .taken), tt)
+    record {
+      read = field-none (now (a .s)) (a .at) (c .before .after-blank .result) (c .before .after-blank .ensures .place) (c .if1 .taken);
+      next = tt;
+    }
 
 number-at-requires : tie.Need-number-at-requires
 number-at-requires c κs = search needs
@@ -20,7 +23,10 @@ returns-2 : tie.Need-returns-2
 returns-2 c =
     let start = c .before .before in
     let a = start .before .before .args in
-    (field-some (now (a .s)) (a .at) (start .after-blank .result) (c .number-at .result) (start .after-blank .ensures .0) (c .before .if1 .left) (c .number-at .ensures .0), c .number-at .ensures .1)
+    record {
+      read = field-some (now (a .s)) (a .at) (start .after-blank .result) (c .number-at .result) (start .after-blank .ensures .place) (c .before .if1 .left) (c .number-at .ensures .read);
+      next = c .number-at .ensures .next;
+    }
 
 pub field-at-spec : {M : Type 1} → statement M
 field-at-spec = tie.close (tie.spec after-blank-requires returns number-at-requires returns-2)

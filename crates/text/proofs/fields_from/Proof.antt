@@ -59,7 +59,7 @@ returns c =
       within = l .inv .inside;
       place = l .inv .place;
       each = l .inv .each;
-      stopped = λ m. sym (field .ensures .0) ∙ c .enum-told .given .1;
+      stopped = λ m. sym (field .ensures .read) ∙ c .enum-told .given .1;
     }
 
 add-k : tie.Need-add-k Inv-loop μ-loop
@@ -76,11 +76,11 @@ loop-again c =
     let field = c .before .before .before .field-at in
     let value = c .before .value .given .0 .0 in
     let after = c .before .value .given .0 .1 .0 in
-    let read = sym (field .ensures .0) ∙ c .before .value .given .1 in
+    let read = sym (field .ensures .read) ∙ c .before .value .given .1 in
     let place = l .inv .place in record {
       within = search needs;
       long = simp length-set (l .inv .long);
-      inside = λ h. rw (c .before .value .given .1) at (field .ensures .1);
+      inside = λ h. rw (c .before .value .given .1) at (field .ensures .next);
       place = field-more s (a .at) (l .k) (l .next) value after place read;
       each = each-more s (a .at)
           (l .k) (l .next) value after place read (l .values) (search needs) (l .inv .each);

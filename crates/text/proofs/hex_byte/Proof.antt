@@ -34,8 +34,8 @@ add-result c = search needs
 returns : tie.Need-returns
 unfolding hexByte
 returns c =
-    let high = c .before .before .hex-digit .ensures .0 ∙ ap hexDigit (c .before .before .before .byte-at .ensures) in
-    let low = c .hex-digit2 .ensures .0 ∙ ap hexDigit (c .before .byte-at2 .ensures) in
+    let high = c .before .before .hex-digit .ensures .is ∙ ap hexDigit (c .before .before .before .byte-at .ensures) in
+    let low = c .hex-digit2 .ensures .is ∙ ap hexDigit (c .before .byte-at2 .ensures) in
     omega arith
 
 pub hex-byte-spec : {M : Type 1} → statement M

@@ -62,7 +62,7 @@ returns c =
     let b = c .before .byte-at2 .ensures in
     let more = value-more (l .value) s (l .next) d in
     let least = value-least (l .value * 10 + (getD s (l .next) 0 - 48)) (drop (l .next + 1) s) in
-    (number-large s at (omega (arith, digit-bounds (getD s (l .next) 0) d .1, l .inv .number)), tt)
+    record { read = number-large s at (omega (arith, digit-bounds (getD s (l .next) 0) d .1, l .inv .number)); next = tt }
 
 mul-value : tie.Need-mul-value Inv-loop μ-loop
 mul-value c = search needs
@@ -114,7 +114,7 @@ returns-2 c =
     let at = t .before .before .before .before .before .args .at in
     let d = sym (ap isDigit (t .before .before .byte-at .ensures)) ∙ sym (t .before .is-digit .ensures) ∙ t .if1 .left in
     let none = digits-none s (l .next) d in
-    (number-none s at (omega (arith, l .inv .count, c .if3 .taken)), tt)
+    record { read = number-none s at (omega (arith, l .inv .count, c .if3 .taken)); next = tt }
 
 returns-3 : tie.Need-returns-3 Inv-loop μ-loop
 returns-3 c =
@@ -125,7 +125,10 @@ returns-3 c =
     let d = sym (ap isDigit (t .before .before .byte-at .ensures)) ∙ sym (t .before .is-digit .ensures) ∙ t .if1 .left in
     let none = digits-none s (l .next) d in
     let more : at < l .next = omega (arith, c .if3 .left) in
-    (number-read s at (l .next) (l .value) more (l .inv .small) (omega (arith, l .inv .count)) (sym (value-none (l .value) s (l .next) d) ∙ l .inv .number), l .inv .inside more)
+    record {
+      read = number-read s at (l .next) (l .value) more (l .inv .small) (omega (arith, l .inv .count)) (sym (value-none (l .value) s (l .next) d) ∙ l .inv .number);
+      next = l .inv .inside more;
+    }
 
 pub number-at-spec : {M : Type 1} → statement M
 number-at-spec =

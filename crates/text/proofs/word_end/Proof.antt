@@ -42,7 +42,7 @@ returns : tie.Need-returns Inv-loop μ-loop
 returns c =
     let l = c .before .before .before .loop in
     let a = c .before .before .before .before .args in
-    (ends-here (now (a .s)) (l .at) (search needs) (c .if1 .taken) ∙ l .inv .1, search needs)
+    record { end = ends-here (now (a .s)) (l .at) (search needs) (c .if1 .taken) ∙ l .inv .1; after = search needs }
 
 add-at : tie.Need-add-at Inv-loop μ-loop
 add-at c = search needs
@@ -60,7 +60,7 @@ returns-2 : tie.Need-returns-2 Inv-loop μ-loop
 returns-2 c =
     let l = c .before .loop in
     let a = c .before .before .args in
-    (ends-with-text (now (a .s)) (l .at) (search needs) ∙ l .inv .1, search needs)
+    record { end = ends-with-text (now (a .s)) (l .at) (search needs) ∙ l .inv .1; after = search needs }
 
 pub word-end-spec : {M : Type 1} → statement M
 word-end-spec =

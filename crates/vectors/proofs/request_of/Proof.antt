@@ -49,8 +49,8 @@ returns-3 : tie.Need-returns-3
 returns-3 c =
     let blank = c .before .before .before .before .before .before in
     let first = blank .before .before .before .before .before .before in
-    let next = rw (blank .before .before .before .before .class .given .1) at (first .number-at .ensures .1) in
-    blank .after-blank .ensures .1 (blank .before .before .fields-from .ensures .within next)
+    let next = rw (blank .before .before .before .before .class .given .1) at (first .number-at .ensures .next) in
+    blank .after-blank .ensures .within (blank .before .before .fields-from .ensures .within next)
 
 pub request-of-spec : {M : Type 1} → statement M
 request-of-spec =

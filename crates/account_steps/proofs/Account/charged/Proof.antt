@@ -17,7 +17,7 @@ returns : tie.Need-returns
 unfolding accountCharged
 returns c =
     let a = c .before .before .before .args .self in
-    ap (λ (t : Ticks). withCharge (chargeIs 1 (a .charge .rest .0 + t .0)) a) (c .before .before .charge-of .ensures .0)
+    ap (λ (t : Ticks). withCharge (chargeIs 1 (a .charge .rest .0 + t .0)) a) (c .before .before .charge-of .ensures .is)
 
 pub charged-spec : {M : Type 1} → statement M
 charged-spec = tie.close (tie.spec charge-of-requires add-t5 returns)

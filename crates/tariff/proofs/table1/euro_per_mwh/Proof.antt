@@ -23,7 +23,7 @@ rows-of-requires c κs = search needs
 
 loop-holds : tie.Need-loop-holds Inv-loop μ-loop
 unfolding tableEuroPerMwh
-loop-holds c = (omega arith, ap (firstReaching (c .before .args .power)) (c .rows-of .ensures .1))
+loop-holds c = (omega arith, ap (firstReaching (c .before .args .power)) (c .rows-of .ensures .rows))
 
 mul-if1 : tie.Need-mul-if1 Inv-loop μ-loop
 unfolding table1
