@@ -341,12 +341,18 @@ pub fn entry_record_fits(r: &[u8], owner: &[u8]) -> bool
     let open_year = book_layout::open_year_of(owner);
     match book_layout::kind_of(r) {
         ADVANCE => {
-            let ranges = advance_fits(activation, open_year, book_records::read_advance(r));
-            ranges & book_layout::advance_rest_zero(r)
+            if advance_fits(activation, open_year, book_records::read_advance(r)) {
+                book_layout::advance_rest_zero(r)
+            } else {
+                false
+            }
         }
         CLOSING => {
-            let ranges = closing_fits(activation, open_year, book_records::read_closing(r));
-            ranges & book_layout::closing_rest_zero(r)
+            if closing_fits(activation, open_year, book_records::read_closing(r)) {
+                book_layout::closing_rest_zero(r)
+            } else {
+                false
+            }
         }
         _ => false,
     }

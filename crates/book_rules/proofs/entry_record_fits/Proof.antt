@@ -66,30 +66,46 @@ closing-rest-zero-requires c κs = search needs
 
 returns : tie.Need-returns
 returns c =
-    let k = c .before .before .before .before in
+    let k = c .before .before .before .before .before in
     let w = k .before .before .before in
-    let a = w .before .before .before .args in
-    let o = now (a .owner) in
-    let ranges = by-years advanceFits o (k .before .before .activation-year-of .ensures) (k .before .open-year-of .ensures) (c .before .before .read-advance .ensures)
-    (c .before .advance-fits .ensures) in
-    let rest = c .advance-rest-zero .ensures in
-    subst (λ (r : List ℕ). (c .before .advance-fits .result && c .advance-rest-zero .result) ≡ own o r) (w .whole .ensures)
-    (rw (ranges, rest) (of-advance o (now (w .whole .result)) (k .kind-of .ensures) (c .before .before .before .match .keys1)))
+    let o = now (w .before .before .before .args .owner) in
+    let ranges = by-years advanceFits o (k .before .before .activation-year-of .ensures) (k .before .open-year-of .ensures) (c .before .before .before .read-advance .ensures)
+    (c .before .before .advance-fits .ensures) in
+    let fine = sym ranges ∙ c .before .if1 .taken in
+    subst (λ (r : List ℕ). c .advance-rest-zero .result ≡ own o r) (w .whole .ensures) (c .advance-rest-zero .ensures ∙ (rw fine at (of-advance o (now (w .whole .result)) (k .kind-of .ensures) (c .before .before .before .before .match .keys1))))
 
 returns-2 : tie.Need-returns-2
 returns-2 c =
     let k = c .before .before .before .before in
     let w = k .before .before .before in
-    let a = w .before .before .before .args in
-    let o = now (a .owner) in
-    let ranges = by-years closingFits o (k .before .before .activation-year-of .ensures) (k .before .open-year-of .ensures) (c .before .before .read-closing .ensures)
-    (c .before .closing-fits .ensures) in
-    let rest = c .closing-rest-zero .ensures in
-    subst (λ (r : List ℕ). (c .before .closing-fits .result && c .closing-rest-zero .result) ≡ own o r) (w .whole .ensures)
-    (rw (ranges, rest) (of-closing o (now (w .whole .result)) (k .kind-of .ensures) (c .before .before .before .match .keys2)))
+    let o = now (w .before .before .before .args .owner) in
+    let ranges = by-years advanceFits o (k .before .before .activation-year-of .ensures) (k .before .open-year-of .ensures) (c .before .before .read-advance .ensures)
+    (c .before .advance-fits .ensures) in
+    let wrong = sym ranges ∙ c .if1 .left in
+    subst (λ (r : List ℕ). false ≡ own o r) (w .whole .ensures) (rw wrong at (of-advance o (now (w .whole .result)) (k .kind-of .ensures) (c .before .before .before .match .keys1)))
 
 returns-3 : tie.Need-returns-3
 returns-3 c =
+    let k = c .before .before .before .before .before in
+    let w = k .before .before .before in
+    let o = now (w .before .before .before .args .owner) in
+    let ranges = by-years closingFits o (k .before .before .activation-year-of .ensures) (k .before .open-year-of .ensures) (c .before .before .before .read-closing .ensures)
+    (c .before .before .closing-fits .ensures) in
+    let fine = sym ranges ∙ c .before .if2 .taken in
+    subst (λ (r : List ℕ). c .closing-rest-zero .result ≡ own o r) (w .whole .ensures) (c .closing-rest-zero .ensures ∙ (rw fine at (of-closing o (now (w .whole .result)) (k .kind-of .ensures) (c .before .before .before .before .match .keys2))))
+
+returns-4 : tie.Need-returns-4
+returns-4 c =
+    let k = c .before .before .before .before in
+    let w = k .before .before .before in
+    let o = now (w .before .before .before .args .owner) in
+    let ranges = by-years closingFits o (k .before .before .activation-year-of .ensures) (k .before .open-year-of .ensures) (c .before .before .read-closing .ensures)
+    (c .before .closing-fits .ensures) in
+    let wrong = sym ranges ∙ c .if2 .left in
+    subst (λ (r : List ℕ). false ≡ own o r) (w .whole .ensures) (rw wrong at (of-closing o (now (w .whole .result)) (k .kind-of .ensures) (c .before .before .before .match .keys2)))
+
+returns-5 : tie.Need-returns-5
+returns-5 c =
     let w = c .before .before .before .before in
     let o = now (w .before .before .before .args .owner) in
     subst (λ (r : List ℕ). false ≡ own o r) (w .whole .ensures)
@@ -111,4 +127,6 @@ entry-record-fits-spec =
     closing-rest-zero-requires
     returns
     returns-2
-    returns-3)
+    returns-3
+    returns-4
+    returns-5)
