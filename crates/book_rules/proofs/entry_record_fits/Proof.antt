@@ -72,7 +72,8 @@ returns c =
     let ranges = by-years advanceFits o (k .before .before .activation-year-of .ensures) (k .before .open-year-of .ensures) (c .before .before .before .read-advance .ensures)
     (c .before .before .advance-fits .ensures) in
     let fine = sym ranges ∙ c .before .if1 .taken in
-    subst (λ (r : List ℕ). c .advance-rest-zero .result ≡ own o r) (w .whole .ensures) (c .advance-rest-zero .ensures ∙ (rw fine at (of-advance o (now (w .whole .result)) (k .kind-of .ensures) (c .before .before .before .before .match .keys1))))
+    subst (λ (r : List ℕ). c .advance-rest-zero .result ≡ own o r) (w .whole .ensures)
+    (c .advance-rest-zero .ensures ∙ (rw fine at (of-advance o (now (w .whole .result)) (k .kind-of .ensures) (c .before .before .before .before .match .keys1))))
 
 returns-2 : tie.Need-returns-2
 returns-2 c =
@@ -92,7 +93,8 @@ returns-3 c =
     let ranges = by-years closingFits o (k .before .before .activation-year-of .ensures) (k .before .open-year-of .ensures) (c .before .before .before .read-closing .ensures)
     (c .before .before .closing-fits .ensures) in
     let fine = sym ranges ∙ c .before .if2 .taken in
-    subst (λ (r : List ℕ). c .closing-rest-zero .result ≡ own o r) (w .whole .ensures) (c .closing-rest-zero .ensures ∙ (rw fine at (of-closing o (now (w .whole .result)) (k .kind-of .ensures) (c .before .before .before .before .match .keys2))))
+    subst (λ (r : List ℕ). c .closing-rest-zero .result ≡ own o r) (w .whole .ensures)
+    (c .closing-rest-zero .ensures ∙ (rw fine at (of-closing o (now (w .whole .result)) (k .kind-of .ensures) (c .before .before .before .before .match .keys2))))
 
 returns-4 : tie.Need-returns-4
 returns-4 c =
