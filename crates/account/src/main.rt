@@ -382,5 +382,5 @@ fn main() {
         os::fail(b"account: standard input");
         return;
     };
-    answer(&book[..count], number);
+    answer(text::front(&book, count), number);
 }

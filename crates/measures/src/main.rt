@@ -91,5 +91,5 @@ fn main() {
         os::fail(b"measures: standard input");
         return;
     };
-    check(&file[..count]);
+    check(text::front(&file, count));
 }

@@ -139,20 +139,13 @@ fn say_stated(answer: Stated) -> bool {
     say(put_sums(refusal_of(answer.reply), answer.sums))
 }
 
-// Prints a text up to a place.
-fn say_front(text: &[u8], end: usize) -> bool
-    requires { ⌜ end ≤ length (now text) ⌝ }
-{
-    say_text(&text[..end])
-}
-
 // Prints bytes in hexadecimal, behind what stands in `out` up to a place.
 fn say_hex(bytes: &[u8], out: &mut [u8], at: usize) -> bool
     requires { ⌜ at + 2 * length (now bytes) + 1 ≤ length (now out) ⌝ }
 {
     let end = at + text::hex_to(bytes, &mut out[at..]);
     out[end] = b'\n';
-    say_front(out, end + 1)
+    say_text(text::front(out, end + 1))
 }
 
 // Prints the listing, by way of `out`, which has room for every listing.
@@ -160,7 +153,7 @@ fn list(book: &[u8], out: &mut [u8]) -> bool {
     let Listed::Written(count) = listing_text::listing_of(book, out) else {
         return false;
     };
-    say_text(&out[..count])
+    say_text(text::front(out, count))
 }
 
 fn close_year(book: &mut [u8], line: &[u8], at: usize) -> bool {
@@ -168,7 +161,7 @@ fn close_year(book: &mut [u8], line: &[u8], at: usize) -> bool {
     let Bytes::Read(count) = text::hex_from(line, at, &mut sheet) else {
         return say_error();
     };
-    say_closed(call_close::close(book, &sheet[..count]))
+    say_closed(call_close::close(book, text::front(&sheet, count)))
 }
 
 // 1 and the least addition, or zeros where there is none.
@@ -197,7 +190,7 @@ fn ask_more_sun(book: &[u8], line: &[u8], digits: Digits, month: u32, band: u32)
     else {
         return say_error();
     };
-    say_more_sun(call_more_sun::more_sun(book, &sheet[..count], month, band))
+    say_more_sun(call_more_sun::more_sun(book, text::front(&sheet, count), month, band))
 }
 
 // The number of an accepted call, and a blank.

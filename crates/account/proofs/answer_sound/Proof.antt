@@ -3,12 +3,6 @@ use borrow.Author.Needs.{needs}
 use Rattle.account.proofs.answer_sound.Statement.{statement}
 use Rattle.account.proofs.answer_sound.Tie as tie
 
-slice-aggregate-say-text : tie.Need-slice-aggregate-say-text
-slice-aggregate-say-text c = search needs
-
-say-text-requires : tie.Need-say-text-requires
-say-text-requires c κs = search needs
-
 say-account-requires : tie.Need-say-account-requires
 say-account-requires c κs =
     let s = c .before .before .before in
@@ -24,8 +18,8 @@ pub answer-sound-spec : {M : Type 1} → statement M
 answer-sound-spec =
     tie.close
     (tie.spec
-    slice-aggregate-say-text
-    say-text-requires
+    (search needs)
+    (search needs)
     say-account-requires
     returns
     returns-2)

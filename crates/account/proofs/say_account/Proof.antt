@@ -5,35 +5,17 @@ use borrow.Author.Needs.{needs}
 use Rattle.account.proofs.say_account.Statement.{statement}
 use Rattle.account.proofs.say_account.Tie as tie
 
-say-headings-requires : tie.Need-say-headings-requires
-say-headings-requires c κs = search needs
-
 returns : tie.Need-returns
 returns c = search needs
-
-say-years-requires : tie.Need-say-years-requires
-say-years-requires c κs = search needs
 
 returns-2 : tie.Need-returns-2
 returns-2 c = search needs
 
-statement-of-requires : tie.Need-statement-of-requires
-statement-of-requires c κs = search needs
-
-say-totals-requires : tie.Need-say-totals-requires
-say-totals-requires c κs = search needs
-
 returns-3 : tie.Need-returns-3
 returns-3 c = search needs
 
-say-charges-requires : tie.Need-say-charges-requires
-say-charges-requires c κs = search needs
-
 returns-4 : tie.Need-returns-4
 returns-4 c = search needs
-
-say-open-year-requires : tie.Need-say-open-year-requires
-say-open-year-requires c κs = search needs
 
 returns-5 : tie.Need-returns-5
 returns-5 c = search needs
@@ -52,16 +34,16 @@ pub say-account-spec : {M : Type 1} → statement M
 say-account-spec =
     tie.close
     (tie.spec
-    say-headings-requires
+    (λ c κs. search needs)
     returns
-    say-years-requires
+    (λ c κs. search needs)
     returns-2
-    statement-of-requires
-    say-totals-requires
+    (λ c κs. search needs)
+    (λ c κs. search needs)
     returns-3
-    say-charges-requires
+    (λ c κs. search needs)
     returns-4
-    say-open-year-requires
+    (λ c κs. search needs)
     returns-5
     say-rest-requires
     returns-6)

@@ -14,12 +14,6 @@ Inv-loop book user activation «open» n₀ n-end n = (n ≤ n-end) × (n-end �
 abbrev μ-loop : tie.MeasureT-loop
 μ-loop book user activation «open» n₀ n-end n = n-end - n
 
-activation-of-requires : tie.Need-activation-of-requires Inv-loop μ-loop
-activation-of-requires c κs = search needs
-
-open-year-of-requires : tie.Need-open-year-of-requires Inv-loop μ-loop
-open-year-of-requires c κs = search needs
-
 sub-n-end : tie.Need-sub-n-end Inv-loop μ-loop
 sub-n-end c =
     let s = c .before .before .before in
@@ -40,17 +34,8 @@ year-of-requires c κs =
     let l = c .before .loop in
     (s .pre .0 .fits, (s .pre .0 .isSound, (s .pre .1, omega (arith, l .inv .1))))
 
-say-year-requires : tie.Need-say-year-requires Inv-loop μ-loop
-say-year-requires c κs = search needs
-
 returns : tie.Need-returns Inv-loop μ-loop
 returns c = search needs
-
-add-n : tie.Need-add-n Inv-loop μ-loop
-add-n c = search needs
-
-loop-less : tie.Need-loop-less Inv-loop μ-loop
-loop-less c = search needs
 
 loop-again : tie.Need-loop-again Inv-loop μ-loop
 loop-again c = search needs
@@ -64,14 +49,14 @@ say-years-spec =
     (tie.spec
     Inv-loop
     μ-loop
-    activation-of-requires
-    open-year-of-requires
+    (search needs)
+    (search needs)
     sub-n-end
     loop-holds
     year-of-requires
-    say-year-requires
+    (search needs)
     returns
-    add-n
-    loop-less
+    (search needs)
+    (search needs)
     loop-again
     returns-2)

@@ -10,9 +10,6 @@ use borrow.Author.Needs.{needs}
 use Rattle.account_years.proofs.closing_after.Statement.{statement}
 use Rattle.account_years.proofs.closing_after.Tie as tie
 
-activation-of-requires : tie.Need-activation-of-requires
-activation-of-requires c κs = search needs
-
 add-closing-of : tie.Need-add-closing-of
 add-closing-of c =
     let s = c .before .before in
@@ -32,4 +29,4 @@ returns c =
 
 pub closing-after-spec : {M : Type 1} → statement M
 closing-after-spec =
-    tie.close (tie.spec activation-of-requires add-closing-of closing-of-requires returns)
+    tie.close (tie.spec (search needs) add-closing-of closing-of-requires returns)

@@ -14,16 +14,10 @@ Inv-loop book year at₀ at = Seeking book year (at₀ .0) (at .0)
 abbrev μ-loop : tie.MeasureT-loop
 μ-loop book year at₀ at = at .0
 
-first-entry-of-requires : tie.Need-first-entry-of-requires Inv-loop μ-loop
-first-entry-of-requires c κs = search needs
-
 loop-holds : tie.Need-loop-holds Inv-loop μ-loop
 loop-holds c =
     let s = c .before .before in
     seek (now (s .args .book)) (s .args .user .0) (s .args .year) (s .pre .0) (s .pre .1 .0) (s .pre .1 .1) (c .first-entry-of .result) (c .first-entry-of .ensures)
-
-is-closing-of-requires : tie.Need-is-closing-of-requires Inv-loop μ-loop
-is-closing-of-requires c κs = search needs
 
 returns : tie.Need-returns Inv-loop μ-loop
 returns c =
@@ -31,9 +25,6 @@ returns c =
     let first = c .before .before .before .before .before .first-entry-of in
     let l = c .before .before .before .before .loop in
     sought (now (a .book)) (a .user .0) (a .year) (first .result) (l .at) (first .ensures) (l .inv) (c .before .before .if1 .taken) (sym (c .before .is-closing-of .ensures) ∙ c .if2 .taken)
-
-next-of-requires : tie.Need-next-of-requires Inv-loop μ-loop
-next-of-requires c κs = search needs
 
 loop-less : tie.Need-loop-less Inv-loop μ-loop
 loop-less c =
@@ -62,11 +53,11 @@ closing-of-spec =
     (tie.spec
     Inv-loop
     μ-loop
-    first-entry-of-requires
+    (search needs)
     loop-holds
-    is-closing-of-requires
+    (search needs)
     returns
-    next-of-requires
+    (search needs)
     loop-less
     loop-again
     returns-2)

@@ -9,9 +9,6 @@ use borrow.Author.Needs.{needs}
 use Rattle.account_years.proofs.year_of.Statement.{statement}
 use Rattle.account_years.proofs.year_of.Tie as tie
 
-activation-of-requires : tie.Need-activation-of-requires
-activation-of-requires c κs = search needs
-
 add-year : tie.Need-add-year
 add-year c =
     let s = c .before .before in
@@ -23,19 +20,10 @@ closing-after-requires c κs =
     let p = c .before .before .pre in
     (p .0, (p .1 .0, (p .1 .1 .0, omega (arith, p .1 .1 .1))))
 
-record-requires : tie.Need-record-requires
-record-requires c κs = search needs
-
-closing-of-requires : tie.Need-closing-of-requires
-closing-of-requires c κs = search needs
-
 payments-of-requires : tie.Need-payments-of-requires
 payments-of-requires c κs =
     let p = c .before .before .before .before .before .pre in
     (p .0, (p .1 .0, p .1 .1 .0))
-
-add-credit-after-years : tie.Need-add-credit-after-years
-add-credit-after-years c = search needs
 
 credit-after-years-requires : tie.Need-credit-after-years-requires
 credit-after-years-requires c κs =
@@ -59,12 +47,12 @@ pub year-of-spec : {M : Type 1} → statement M
 year-of-spec =
     tie.close
     (tie.spec
-    activation-of-requires
+    (search needs)
     add-year
     closing-after-requires
-    record-requires
-    closing-of-requires
+    (search needs)
+    (search needs)
     payments-of-requires
-    add-credit-after-years
+    (search needs)
     credit-after-years-requires
     returns)

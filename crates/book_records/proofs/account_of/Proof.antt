@@ -6,42 +6,6 @@ use borrow.Author.Needs.{needs}
 use Rattle.book_records.proofs.account_of.Statement.{statement}
 use Rattle.book_records.proofs.account_of.Tie as tie
 
-number-of-requires : tie.Need-number-of-requires
-number-of-requires c κs = search needs
-
-read-details-requires : tie.Need-read-details-requires
-read-details-requires c κs = search needs
-
-read-u8-requires : tie.Need-read-u8-requires
-read-u8-requires c κs = search needs
-
-open-year-of-requires : tie.Need-open-year-of-requires
-open-year-of-requires c κs = search needs
-
-read-u8-requires-2 : tie.Need-read-u8-requires-2
-read-u8-requires-2 c κs = search needs
-
-read-u8-requires-3 : tie.Need-read-u8-requires-3
-read-u8-requires-3 c κs = search needs
-
-read-u64-requires : tie.Need-read-u64-requires
-read-u64-requires c κs = search needs
-
-read-u64-requires-2 : tie.Need-read-u64-requires-2
-read-u64-requires-2 c κs = search needs
-
-read-u64-requires-3 : tie.Need-read-u64-requires-3
-read-u64-requires-3 c κs = search needs
-
-read-u32-requires : tie.Need-read-u32-requires
-read-u32-requires c κs = search needs
-
-read-u32-requires-2 : tie.Need-read-u32-requires-2
-read-u32-requires-2 c κs = search needs
-
-charge-of-requires : tie.Need-charge-of-requires
-charge-of-requires c κs = search needs
-
 returns : tie.Need-returns
 unfolding accountIn get
 returns c =
@@ -76,16 +40,16 @@ pub account-of-spec : {M : Type 1} → statement M
 account-of-spec =
     tie.close
     (tie.spec
-    number-of-requires
-    read-details-requires
-    read-u8-requires
-    open-year-of-requires
-    read-u8-requires-2
-    read-u8-requires-3
-    read-u64-requires
-    read-u64-requires-2
-    read-u64-requires-3
-    read-u32-requires
-    read-u32-requires-2
-    charge-of-requires
+    (search needs)
+    (search needs)
+    (search needs)
+    (search needs)
+    (search needs)
+    (search needs)
+    (search needs)
+    (search needs)
+    (search needs)
+    (search needs)
+    (search needs)
+    (search needs)
     returns)

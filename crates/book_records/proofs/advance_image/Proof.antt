@@ -5,30 +5,6 @@ use borrow.Author.Needs.{needs}
 use Rattle.book_records.proofs.advance_image.Statement.{statement}
 use Rattle.book_records.proofs.advance_image.Tie as tie
 
-put-u32-requires : tie.Need-put-u32-requires
-put-u32-requires c κs = search needs
-
-put-u8-requires : tie.Need-put-u8-requires
-put-u8-requires c κs = search needs
-
-put-u8-requires-2 : tie.Need-put-u8-requires-2
-put-u8-requires-2 c κs = search needs
-
-put-u16-requires : tie.Need-put-u16-requires
-put-u16-requires c κs = search needs
-
-put-u64-requires : tie.Need-put-u64-requires
-put-u64-requires c κs = search needs
-
-put-u32-requires-2 : tie.Need-put-u32-requires-2
-put-u32-requires-2 c κs = search needs
-
-put-u16-requires-2 : tie.Need-put-u16-requires-2
-put-u16-requires-2 c κs = search needs
-
-put-u64-requires-2 : tie.Need-put-u64-requires-2
-put-u64-requires-2 c κs = search needs
-
 returns : tie.Need-returns
 unfolding advanceImage written
 returns c =
@@ -54,12 +30,12 @@ pub advance-image-spec : {M : Type 1} → statement M
 advance-image-spec =
     tie.close
     (tie.spec
-    put-u32-requires
-    put-u8-requires
-    put-u8-requires-2
-    put-u16-requires
-    put-u64-requires
-    put-u32-requires-2
-    put-u16-requires-2
-    put-u64-requires-2
+    (search needs)
+    (search needs)
+    (search needs)
+    (search needs)
+    (search needs)
+    (search needs)
+    (search needs)
+    (search needs)
     returns)

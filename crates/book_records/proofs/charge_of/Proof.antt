@@ -6,15 +6,9 @@ use borrow.Author.Needs.{needs}
 use Rattle.book_records.proofs.charge_of.Statement.{statement}
 use Rattle.book_records.proofs.charge_of.Tie as tie
 
-read-u8-requires : tie.Need-read-u8-requires
-read-u8-requires c κs = search needs
-
-read-u64-requires : tie.Need-read-u64-requires
-read-u64-requires c κs = search needs
-
 returns : tie.Need-returns
 unfolding accountIn get
 returns c = λ i. record { made = c .before .read-u8 .ensures i; rest = ticks (c .read-u64 .ensures i) }
 
 pub charge-of-spec : {M : Type 1} → statement M
-charge-of-spec = tie.close (tie.spec read-u8-requires read-u64-requires returns)
+charge-of-spec = tie.close (tie.spec (search needs) (search needs) returns)

@@ -6,27 +6,6 @@ use borrow.Author.Needs.{needs}
 use Rattle.book_records.proofs.sums_of.Statement.{statement}
 use Rattle.book_records.proofs.sums_of.Tie as tie
 
-read-u64-requires : tie.Need-read-u64-requires
-read-u64-requires c κs = search needs
-
-read-u64-requires-2 : tie.Need-read-u64-requires-2
-read-u64-requires-2 c κs = search needs
-
-read-u64-requires-3 : tie.Need-read-u64-requires-3
-read-u64-requires-3 c κs = search needs
-
-read-u64-requires-4 : tie.Need-read-u64-requires-4
-read-u64-requires-4 c κs = search needs
-
-read-u64-requires-5 : tie.Need-read-u64-requires-5
-read-u64-requires-5 c κs = search needs
-
-read-u64-requires-6 : tie.Need-read-u64-requires-6
-read-u64-requires-6 c κs = search needs
-
-read-u64-requires-7 : tie.Need-read-u64-requires-7
-read-u64-requires-7 c κs = search needs
-
 returns : tie.Need-returns
 unfolding closingIn get
 returns c =
@@ -51,11 +30,11 @@ pub sums-of-spec : {M : Type 1} → statement M
 sums-of-spec =
     tie.close
     (tie.spec
-    read-u64-requires
-    read-u64-requires-2
-    read-u64-requires-3
-    read-u64-requires-4
-    read-u64-requires-5
-    read-u64-requires-6
-    read-u64-requires-7
+    (search needs)
+    (search needs)
+    (search needs)
+    (search needs)
+    (search needs)
+    (search needs)
+    (search needs)
     returns)

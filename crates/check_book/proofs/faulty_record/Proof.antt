@@ -56,9 +56,6 @@ by-owner-requires c κs =
     let s = c .before .before in
     (used-counted (now (s .args .book)) (s .pre .1 .0) (s .pre .0), s .pre .1 .0)
 
-used-requires : tie.Need-used-requires Inv-entries μ-entries Inv-users μ-users
-used-requires c κs = search needs
-
 users-holds : tie.Need-users-holds Inv-entries μ-entries Inv-users μ-users
 users-holds c =
     let s = c .before .before .before .before in
@@ -89,15 +86,6 @@ place c =
 under : (c : tie.Else1 Inv-entries μ-entries Inv-users μ-users) → c .before .before .users .i < c .before .before .users .bad
 under c = omega (arith, c .before .before .users .inv .before, c .if1 .left)
 
-is-user-requires : tie.Need-is-user-requires Inv-entries μ-entries Inv-users μ-users
-is-user-requires c κs = search needs
-
-number-of-requires : tie.Need-number-of-requires Inv-entries μ-entries Inv-users μ-users
-number-of-requires c κs = search needs
-
-slice-aggregate-insert : tie.Need-slice-aggregate-insert Inv-entries μ-entries Inv-users μ-users
-slice-aggregate-insert c = search needs
-
 insert-requires : tie.Need-insert-requires Inv-entries μ-entries Inv-users μ-users
 insert-requires c κs =
     let r = c .before .before .before in
@@ -117,12 +105,6 @@ is-new-requires c κs =
     let number = ap (λ (n : UserNumber). n .0) (c .before .before .before .number-of .ensures) in
     seen-new b (a .users .i) (a .users .all-seen) (c .before .insert .result) (a .users .inv .seen) number (c .before .insert .ensures .inserted)
 
-cast-good-record : tie.Need-cast-good-record Inv-entries μ-entries Inv-users μ-users
-cast-good-record c = search needs
-
-mul-good-record : tie.Need-mul-good-record Inv-entries μ-entries Inv-users μ-users
-mul-good-record c = search needs
-
 array-read-good-record : tie.Need-array-read-good-record Inv-entries μ-entries Inv-users μ-users
 array-read-good-record c = place (c .before .before .before .before .before .before .before .before) .1
 
@@ -134,9 +116,6 @@ good-record-requires c κs =
     let i = a .users .i in
     let own = s .pre .1 .1 .own i (a .users .inv .from) (omega (arith, under n, a .users .inv .most)) in
     (a .before .before .before .counts .ensures i (a .users .inv .from) (place (n .before) .1), (λ _. c .is-new .ensures, (own, (s .pre .1 .0, place (n .before) .0))))
-
-cast-e : tie.Need-cast-e Inv-entries μ-entries Inv-users μ-users
-cast-e c = search needs
 
 mul-e : tie.Need-mul-e Inv-entries μ-entries Inv-users μ-users
 mul-e c = let p = place (c .before .before .before .before .before .before .before .before .before .before) in search needs
@@ -230,15 +209,6 @@ entries-again c =
     let some = e-some (l .entries .e) (l .entries .bad) (t .entries-test .taken) .0 in
     let good = sym (c .before .before .good-record2 .ensures) ∙ not-false _ (c .before .if4 .left) in
     (l .entries .inv .0, entries-next b (a .users .bad) (a .users .i) (l .entries .e) (l .entries .inv .1) some _ (entry-next t) good)
-
-owned-requires : tie.Need-owned-requires Inv-entries μ-entries Inv-users μ-users
-owned-requires c κs = search needs
-
-add-i : tie.Need-add-i Inv-entries μ-entries Inv-users μ-users
-add-i c = search needs
-
-users-less : tie.Need-users-less Inv-entries μ-entries Inv-users μ-users
-users-less c = search needs
 
 users-again : tie.Need-users-again Inv-entries μ-entries Inv-users μ-users
 users-again c =
@@ -346,18 +316,18 @@ faulty-record-spec =
     μ-users
     counts-requires
     by-owner-requires
-    used-requires
+    (search needs)
     users-holds
-    is-user-requires
-    number-of-requires
-    slice-aggregate-insert
+    (search needs)
+    (search needs)
+    (search needs)
     insert-requires
     is-new-requires
-    cast-good-record
-    mul-good-record
+    (search needs)
+    (search needs)
     array-read-good-record
     good-record-requires
-    cast-e
+    (search needs)
     mul-e
     element-copy-out-e
     entries-holds
@@ -370,9 +340,9 @@ faulty-record-spec =
     element-copy-out-e-2
     entries-less
     entries-again
-    owned-requires
-    add-i
-    users-less
+    (search needs)
+    (search needs)
+    (search needs)
     users-again
     returns
     returns-2

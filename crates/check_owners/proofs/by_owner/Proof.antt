@@ -68,19 +68,10 @@ read-here c =
     let whole = w .whole-record .ensures in
     (entry-here b n whole (omega arith) (omega arith) (c .before .kind-of .ensures) (c .is-entry-kind .ensures), owner-here b n whole (c .before .before .owner-of .ensures))
 
-used-requires : tie.Need-used-requires Inv-loop μ-loop
-used-requires c κs = search needs
-
 loop-holds : tie.Need-loop-holds Inv-loop μ-loop
 loop-holds c =
     let s = c .before .before in
     record { within = search needs; firsts = refl; laters = refl; linked = linked-none (now (s .args .book)) _ _ (c .used .ensures) (s .pre .0) }
-
-sub-e : tie.Need-sub-e Inv-loop μ-loop
-sub-e c = search needs
-
-cast-whole-record : tie.Need-cast-whole-record Inv-loop μ-loop
-cast-whole-record c = search needs
 
 whole-record-requires : tie.Need-whole-record-requires Inv-loop μ-loop
 whole-record-requires c κs =
@@ -88,44 +79,20 @@ whole-record-requires c κs =
     let s = l .before .before .before in
     used-whole (now (s .args .book)) (s .pre .1) (l .loop .left - 1) (omega arith)
 
-owner-of-requires : tie.Need-owner-of-requires Inv-loop μ-loop
-owner-of-requires c κs = search needs
-
-kind-of-requires : tie.Need-kind-of-requires Inv-loop μ-loop
-kind-of-requires c κs = search needs
-
-is-entry-kind-requires : tie.Need-is-entry-kind-requires Inv-loop μ-loop
-is-entry-kind-requires c κs = search needs
-
-cast-later : tie.Need-cast-later Inv-loop μ-loop
-cast-later c = search needs
-
 mul-later : tie.Need-mul-later Inv-loop μ-loop
 mul-later c = let f = found-here c in omega arith
 
 array-read-later : tie.Need-array-read-later Inv-loop μ-loop
 array-read-later c = let f = found-here c in omega arith
 
-cast-later-2 : tie.Need-cast-later-2 Inv-loop μ-loop
-cast-later-2 c = search needs
-
-mul-later-2 : tie.Need-mul-later-2 Inv-loop μ-loop
-mul-later-2 c = search needs
-
 array-write-later : tie.Need-array-write-later Inv-loop μ-loop
 array-write-later c = omega arith
-
-cast-first : tie.Need-cast-first Inv-loop μ-loop
-cast-first c = search needs
 
 mul-first : tie.Need-mul-first Inv-loop μ-loop
 mul-first c = let f = found-here c in omega arith
 
 array-write-first : tie.Need-array-write-first Inv-loop μ-loop
 array-write-first c = let f = found-here c in omega arith
-
-loop-less : tie.Need-loop-less Inv-loop μ-loop
-loop-less c = search needs
 
 loop-again : tie.Need-loop-again Inv-loop μ-loop
 loop-again c =
@@ -141,9 +108,6 @@ loop-again c =
       laters = simp length-set (l .loop .inv .laters);
       linked = linked-entry b (l .loop .left - 1) linked (sym (is .0) ∙ f .0) (is .1) (omega arith) (omega arith);
     }
-
-loop-less-2 : tie.Need-loop-less-2 Inv-loop μ-loop
-loop-less-2 c = search needs
 
 loop-again-2 : tie.Need-loop-again-2 Inv-loop μ-loop
 loop-again-2 c =
@@ -170,25 +134,25 @@ by-owner-spec =
     (tie.spec
     Inv-loop
     μ-loop
-    used-requires
+    (search needs)
     loop-holds
-    sub-e
-    cast-whole-record
+    (search needs)
+    (search needs)
     whole-record-requires
-    owner-of-requires
-    kind-of-requires
-    is-entry-kind-requires
-    cast-later
+    (search needs)
+    (search needs)
+    (search needs)
+    (search needs)
     mul-later
     array-read-later
-    cast-later-2
-    mul-later-2
+    (search needs)
+    (search needs)
     array-write-later
-    cast-first
+    (search needs)
     mul-first
     array-write-first
-    loop-less
+    (search needs)
     loop-again
-    loop-less-2
+    (search needs)
     loop-again-2
     returns)

@@ -6,27 +6,6 @@ use borrow.Author.Needs.{needs}
 use Rattle.replay.proofs.raise.Statement.{statement}
 use Rattle.replay.proofs.raise.Tie as tie
 
-large-buffer-requires : tie.Need-large-buffer-requires
-large-buffer-requires c κs = search needs
-
-front-requires : tie.Need-front-requires
-front-requires c κs = search needs
-
-slice-aggregate-hex-from : tie.Need-slice-aggregate-hex-from
-slice-aggregate-hex-from c = search needs
-
-hex-from-requires : tie.Need-hex-from-requires
-hex-from-requires c κs = search needs
-
-enum-known-count : tie.Need-enum-known-count
-enum-known-count c = search needs
-
-enum-told : tie.Need-enum-told
-enum-told c = search needs
-
-say-error-requires : tie.Need-say-error-requires
-say-error-requires c κs = search needs
-
 returns : tie.Need-returns
 returns c = search needs
 
@@ -42,9 +21,6 @@ slice-aggregate-lent c =
     let filled = rw (count .1) at (read .ensures) in
     sym (length-take-le (count .0 .0) (read .last .1 .1 .0) (filled .room))
 
-raise-requires : tie.Need-raise-requires
-raise-requires c κs = search needs
-
 say-raised-requires : tie.Need-say-raised-requires
 say-raised-requires c κs =
     let raised = c .before .before .before .before in
@@ -55,9 +31,6 @@ say-raised-requires c κs =
     let lent = length-take-le (count .0 .0) (read .hex-from .last .1 .1 .0) (filled .room) in
     omega (arith, raised .raise .kept .0, filled .room, filled .same, read .before .before .before .before .before .before .pre)
 
-same-length : tie.Need-same-length
-same-length c = search needs
-
 returns-2 : tie.Need-returns-2
 returns-2 c = search needs
 
@@ -65,17 +38,17 @@ pub raise-spec : {M : Type 1} → statement M
 raise-spec =
     tie.close
     (tie.spec
-    large-buffer-requires
-    front-requires
-    slice-aggregate-hex-from
-    hex-from-requires
-    enum-known-count
-    enum-told
-    say-error-requires
+    (search needs)
+    (search needs)
+    (search needs)
+    (search needs)
+    (search needs)
+    (search needs)
+    (search needs)
     returns
     array-borrow-prefix-sheet
     slice-aggregate-lent
-    raise-requires
+    (search needs)
     say-raised-requires
-    same-length
+    (λ c. search needs)
     returns-2)

@@ -5,12 +5,6 @@ use Rattle.replay_script.specs.Orders.{closeOrder}
 use Rattle.replay_script.proofs.close_order.Statement.{statement}
 use Rattle.replay_script.proofs.close_order.Tie as tie
 
-bytes-fit-requires : tie.Need-bytes-fit-requires
-bytes-fit-requires c κs = search needs
-
-after-blank-requires : tie.Need-after-blank-requires
-after-blank-requires c κs = search needs
-
 returns : tie.Need-returns
 unfolding closeOrder
 returns c = rw (sym (c .before .before .bytes-fit .ensures) ∙ c .before .if1 .taken, c .after-blank .ensures .place)
@@ -20,4 +14,4 @@ unfolding closeOrder
 returns-2 c = rw (sym (c .before .bytes-fit .ensures) ∙ c .if1 .left)
 
 pub close-order-spec : {M : Type 1} → statement M
-close-order-spec = tie.close (tie.spec bytes-fit-requires after-blank-requires returns returns-2)
+close-order-spec = tie.close (tie.spec (search needs) (search needs) returns returns-2)

@@ -6,46 +6,25 @@ use Rattle.replay_script.specs.Orders.{electOrder}
 use Rattle.replay_script.proofs.elect_order.Statement.{statement}
 use Rattle.replay_script.proofs.elect_order.Tie as tie
 
-slice-aggregate-numbers-at : tie.Need-slice-aggregate-numbers-at
-slice-aggregate-numbers-at c = search needs
-
-numbers-at-requires : tie.Need-numbers-at-requires
-numbers-at-requires c κs = search needs
-
-array-read-t11 : tie.Need-array-read-t11
-array-read-t11 c = search needs
-
 cast-t12 : tie.Need-cast-t12
 cast-t12 c =
     let read = c .before .before .numbers-at .ensures in
     record { fits = omega (arith, read .within (c .if1 .taken) 0 (omega arith)) }
-
-array-read-t15 : tie.Need-array-read-t15
-array-read-t15 c = search needs
 
 cast-t16 : tie.Need-cast-t16
 cast-t16 c =
     let read = c .before .before .numbers-at .ensures in
     record { fits = omega (arith, read .within (c .if1 .taken) 1 (omega arith)) }
 
-array-read-t19 : tie.Need-array-read-t19
-array-read-t19 c = search needs
-
 cast-t20 : tie.Need-cast-t20
 cast-t20 c =
     let read = c .before .before .numbers-at .ensures in
     record { fits = omega (arith, read .within (c .if1 .taken) 2 (omega arith)) }
 
-array-read-t23 : tie.Need-array-read-t23
-array-read-t23 c = search needs
-
 cast-t24 : tie.Need-cast-t24
 cast-t24 c =
     let read = c .before .before .numbers-at .ensures in
     record { fits = omega (arith, read .within (c .if1 .taken) 3 (omega arith)) }
-
-array-read-t27 : tie.Need-array-read-t27
-array-read-t27 c = search needs
 
 cast-t28 : tie.Need-cast-t28
 cast-t28 c =
@@ -67,17 +46,17 @@ pub elect-order-spec : {M : Type 1} → statement M
 elect-order-spec =
     tie.close
     (tie.spec
-    slice-aggregate-numbers-at
-    numbers-at-requires
-    array-read-t11
+    (search needs)
+    (search needs)
+    (search needs)
     cast-t12
-    array-read-t15
+    (search needs)
     cast-t16
-    array-read-t19
+    (search needs)
     cast-t20
-    array-read-t23
+    (search needs)
     cast-t24
-    array-read-t27
+    (search needs)
     cast-t28
     returns
     returns-2)

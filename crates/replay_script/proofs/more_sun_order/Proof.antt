@@ -26,26 +26,11 @@ module _ (line : List ℕ) (word : Word) (e : word ≡ wordAt line (length moreS
   unfolding moreSunOrder
   wrong f = rw (sym e, sym (numbers .fit), f)
 
-word-at-requires : tie.Need-word-at-requires
-word-at-requires c κs = search needs
-
-slice-aggregate-numbers-at : tie.Need-slice-aggregate-numbers-at
-slice-aggregate-numbers-at c = search needs
-
-numbers-at-requires : tie.Need-numbers-at-requires
-numbers-at-requires c κs = search needs
-
-array-read-t13 : tie.Need-array-read-t13
-array-read-t13 c = search needs
-
 cast-t14 : tie.Need-cast-t14
 cast-t14 c =
     let word = c .before .before .before .before .before .before .before .word-at .result in
     let read = c .before .before .before .before .numbers-at in
     record { fits = omega (arith, read .ensures .within (and-right (word .fit) (read .result .fit) (c .if1 .taken)) 0 (omega arith)) }
-
-array-read-t17 : tie.Need-array-read-t17
-array-read-t17 c = search needs
 
 cast-t18 : tie.Need-cast-t18
 cast-t18 c =
@@ -69,12 +54,12 @@ pub more-sun-order-spec : {M : Type 1} → statement M
 more-sun-order-spec =
     tie.close
     (tie.spec
-    word-at-requires
-    slice-aggregate-numbers-at
-    numbers-at-requires
-    array-read-t13
+    (search needs)
+    (search needs)
+    (search needs)
+    (search needs)
     cast-t14
-    array-read-t17
+    (search needs)
     cast-t18
     returns
     returns-2)

@@ -6,15 +6,6 @@ use Rattle.replay_script.specs.Orders.{newOrder}
 use Rattle.replay_script.proofs.new_order.Statement.{statement}
 use Rattle.replay_script.proofs.new_order.Tie as tie
 
-slice-aggregate-numbers-at : tie.Need-slice-aggregate-numbers-at
-slice-aggregate-numbers-at c = search needs
-
-numbers-at-requires : tie.Need-numbers-at-requires
-numbers-at-requires c κs = search needs
-
-array-read-t12 : tie.Need-array-read-t12
-array-read-t12 c = search needs
-
 returns : tie.Need-returns
 unfolding newOrder
 returns c =
@@ -29,4 +20,4 @@ returns-2 c = rw (sym (c .before .before .numbers-at .ensures .fit) ∙ c .if1 .
 pub new-order-spec : {M : Type 1} → statement M
 new-order-spec =
     tie.close
-    (tie.spec slice-aggregate-numbers-at numbers-at-requires array-read-t12 returns returns-2)
+    (tie.spec (search needs) (search needs) (search needs) returns returns-2)

@@ -9,12 +9,9 @@ returns : tie.Need-returns
 unfolding orderOf
 returns c = rw (lt-ltb _ _ (c .if1 .taken))
 
-book-order-requires : tie.Need-book-order-requires
-book-order-requires c κs = search needs
-
 returns-2 : tie.Need-returns-2
 unfolding orderOf
 returns-2 c = rw (le-ltb _ _ (c .before .if1 .left)) (c .book-order .ensures)
 
 pub order-of-spec : {M : Type 1} → statement M
-order-of-spec = tie.close (tie.spec returns book-order-requires returns-2)
+order-of-spec = tie.close (tie.spec returns (search needs) returns-2)

@@ -23,18 +23,6 @@ module _ (line : List ℕ) (word : Word) (fit : Bool) (w : word ≡ wordAt line 
   unfolding raiseOrder
   one-wrong t = rw (sym w, sym f, t)
 
-word-at-requires : tie.Need-word-at-requires
-word-at-requires c κs = search needs
-
-slice-aggregate-numbers-at : tie.Need-slice-aggregate-numbers-at
-slice-aggregate-numbers-at c = search needs
-
-numbers-at-requires : tie.Need-numbers-at-requires
-numbers-at-requires c κs = search needs
-
-array-read-t13 : tie.Need-array-read-t13
-array-read-t13 c = search needs
-
 cast-t14 : tie.Need-cast-t14
 cast-t14 c =
     let numbers = c .before .before .before .before .numbers-at in
@@ -62,10 +50,10 @@ pub raise-order-spec : {M : Type 1} → statement M
 raise-order-spec =
     tie.close
     (tie.spec
-    word-at-requires
-    slice-aggregate-numbers-at
-    numbers-at-requires
-    array-read-t13
+    (search needs)
+    (search needs)
+    (search needs)
+    (search needs)
     cast-t14
     returns
     returns-2)

@@ -5,29 +5,11 @@ use borrow.Author.Needs.{needs}
 use Rattle.replay_script.proofs.sheet_order.Statement.{statement}
 use Rattle.replay_script.proofs.sheet_order.Tie as tie
 
-slice-aggregate-begins : tie.Need-slice-aggregate-begins
-slice-aggregate-begins c = search needs
-
-begins-requires : tie.Need-begins-requires
-begins-requires c κs = search needs
-
-archive-order-requires : tie.Need-archive-order-requires
-archive-order-requires c κs = search needs
-
 returns : tie.Need-returns
 unfolding sheetOrder
 returns c =
     let one = c .before in
     rw (sym (one .before .begins .ensures) ∙ one .if1 .taken) (c .archive-order .ensures)
-
-slice-aggregate-begins-2 : tie.Need-slice-aggregate-begins-2
-slice-aggregate-begins-2 c = search needs
-
-begins-requires-2 : tie.Need-begins-requires-2
-begins-requires-2 c κs = search needs
-
-restore-order-requires : tie.Need-restore-order-requires
-restore-order-requires c κs = search needs
 
 returns-2 : tie.Need-returns-2
 unfolding sheetOrder
@@ -35,18 +17,6 @@ returns-2 c =
     let two = c .before in
     let one = two .before .before .before in
     rw (sym (one .before .begins .ensures) ∙ one .if1 .left, sym (two .before .begins2 .ensures) ∙ two .if2 .taken) (c .restore-order .ensures)
-
-slice-aggregate-begins-3 : tie.Need-slice-aggregate-begins-3
-slice-aggregate-begins-3 c = search needs
-
-begins-requires-3 : tie.Need-begins-requires-3
-begins-requires-3 c κs = search needs
-
-raise-order-requires : tie.Need-raise-order-requires
-raise-order-requires c κs = search needs
-
-text-order-requires : tie.Need-text-order-requires
-text-order-requires c κs = search needs
 
 returns-3 : tie.Need-returns-3
 unfolding sheetOrder
@@ -70,17 +40,17 @@ pub sheet-order-spec : {M : Type 1} → statement M
 sheet-order-spec =
     tie.close
     (tie.spec
-    slice-aggregate-begins
-    begins-requires
-    archive-order-requires
+    (search needs)
+    (search needs)
+    (search needs)
     returns
-    slice-aggregate-begins-2
-    begins-requires-2
-    restore-order-requires
+    (search needs)
+    (search needs)
+    (search needs)
     returns-2
-    slice-aggregate-begins-3
-    begins-requires-3
-    raise-order-requires
+    (search needs)
+    (search needs)
+    (search needs)
     returns-3
-    text-order-requires
+    (search needs)
     returns-4)

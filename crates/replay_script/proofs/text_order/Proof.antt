@@ -5,29 +5,11 @@ use borrow.Author.Needs.{needs}
 use Rattle.replay_script.proofs.text_order.Statement.{statement}
 use Rattle.replay_script.proofs.text_order.Tie as tie
 
-slice-aggregate-begins : tie.Need-slice-aggregate-begins
-slice-aggregate-begins c = search needs
-
-begins-requires : tie.Need-begins-requires
-begins-requires c κs = search needs
-
-read-measures-order-requires : tie.Need-read-measures-order-requires
-read-measures-order-requires c κs = search needs
-
 returns : tie.Need-returns
 unfolding textOrder
 returns c =
     let one = c .before in
     rw (sym (one .before .begins .ensures) ∙ one .if1 .taken) (c .read-measures-order .ensures)
-
-slice-aggregate-begins-2 : tie.Need-slice-aggregate-begins-2
-slice-aggregate-begins-2 c = search needs
-
-begins-requires-2 : tie.Need-begins-requires-2
-begins-requires-2 c κs = search needs
-
-write-measures-order-requires : tie.Need-write-measures-order-requires
-write-measures-order-requires c κs = search needs
 
 returns-2 : tie.Need-returns-2
 unfolding textOrder
@@ -47,12 +29,12 @@ pub text-order-spec : {M : Type 1} → statement M
 text-order-spec =
     tie.close
     (tie.spec
-    slice-aggregate-begins
-    begins-requires
-    read-measures-order-requires
+    (search needs)
+    (search needs)
+    (search needs)
     returns
-    slice-aggregate-begins-2
-    begins-requires-2
-    write-measures-order-requires
+    (search needs)
+    (search needs)
+    (search needs)
     returns-2
     returns-3)

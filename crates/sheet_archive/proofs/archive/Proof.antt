@@ -18,9 +18,6 @@ Inv-loop sheet archive₀ column₀ archive column = Filling sheetColumns sheetM
 abbrev μ-loop : tie.MeasureT-loop
 μ-loop sheet archive₀ column₀ archive column = sheetColumns - column
 
-sizes-fit-requires : tie.Need-sizes-fit-requires Inv-loop μ-loop
-sizes-fit-requires c κs = search needs
-
 returns : tie.Need-returns Inv-loop μ-loop
 returns c =
     let a = c .before .before .before .before .args in
@@ -40,15 +37,6 @@ loop-holds c =
     begins sheetColumns sheetMonths (now (a .sheet)) (archiveLines (now (a .sheet))) (h .last .1 .0) (now (a .archive))
     (source-fits (length (now (a .sheet))) (length (now (a .archive))) fit)
     (destination-fits (length (now (a .sheet))) (length (now (a .archive))) fit) (h .kept .1 .0) (h .ensures)
-
-archive-column-requires : tie.Need-archive-column-requires Inv-loop μ-loop
-archive-column-requires c κs = search needs
-
-add-column : tie.Need-add-column Inv-loop μ-loop
-add-column c = search needs
-
-loop-less : tie.Need-loop-less Inv-loop μ-loop
-loop-less c = search needs
 
 loop-again : tie.Need-loop-again Inv-loop μ-loop
 loop-again c =
@@ -78,13 +66,13 @@ archive-spec =
     (tie.spec
     Inv-loop
     μ-loop
-    sizes-fit-requires
+    (search needs)
     returns
     copy-header-requires
     loop-holds
-    archive-column-requires
-    add-column
-    loop-less
+    (search needs)
+    (search needs)
+    (search needs)
     loop-again
     same-length
     returns-2)

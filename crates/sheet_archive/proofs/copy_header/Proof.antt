@@ -33,29 +33,8 @@ Inv-loop from to₀ words k₀ to k = Copying from to₀ words to k
 abbrev μ-loop : tie.MeasureT-loop
 μ-loop from to₀ words k₀ to k = headerWords - k
 
-header-words-requires : tie.Need-header-words-requires Inv-loop μ-loop
-header-words-requires c κs = search needs
-
 loop-holds : tie.Need-loop-holds Inv-loop μ-loop
 loop-holds c = record { within = search needs; words = c .header-words .ensures; same = refl; written = line-begun _ _ _ }
-
-mul-store-u32 : tie.Need-mul-store-u32 Inv-loop μ-loop
-mul-store-u32 c = search needs
-
-mul-store-u32-2 : tie.Need-mul-store-u32-2 Inv-loop μ-loop
-mul-store-u32-2 c = search needs
-
-array-read-store-u32 : tie.Need-array-read-store-u32 Inv-loop μ-loop
-array-read-store-u32 c = search needs
-
-store-u32-requires : tie.Need-store-u32-requires Inv-loop μ-loop
-store-u32-requires c κs = search needs
-
-add-k : tie.Need-add-k Inv-loop μ-loop
-add-k c = search needs
-
-loop-less : tie.Need-loop-less Inv-loop μ-loop
-loop-less c = search needs
 
 loop-again : tie.Need-loop-again Inv-loop μ-loop
 loop-again c =
@@ -72,9 +51,6 @@ loop-again c =
           (l .inv .words (l .k) (search needs));
     }
 
-same-length : tie.Need-same-length Inv-loop μ-loop
-same-length c = search needs
-
 returns : tie.Need-returns Inv-loop μ-loop
 returns c =
     let l = c .before .loop in
@@ -89,14 +65,14 @@ copy-header-spec =
     (tie.spec
     Inv-loop
     μ-loop
-    header-words-requires
+    (search needs)
     loop-holds
-    mul-store-u32
-    mul-store-u32-2
-    array-read-store-u32
-    store-u32-requires
-    add-k
-    loop-less
+    (search needs)
+    (search needs)
+    (search needs)
+    (search needs)
+    (search needs)
+    (search needs)
     loop-again
-    same-length
+    (λ c. search needs)
     returns)

@@ -24,12 +24,6 @@ loop-holds c = record { within = search needs; same = refl; written = months-non
 fill-month-requires : tie.Need-fill-month-requires Inv-loop μ-loop
 fill-month-requires c κs = (omega (arith, c .before .before .loop .inv .same), omega arith)
 
-add-month : tie.Need-add-month Inv-loop μ-loop
-add-month c = search needs
-
-loop-less : tie.Need-loop-less Inv-loop μ-loop
-loop-less c = search needs
-
 loop-again : tie.Need-loop-again Inv-loop μ-loop
 loop-again c =
     let l = c .before .before .before .before .before .loop in
@@ -60,8 +54,8 @@ fill-spec =
     μ-loop
     loop-holds
     fill-month-requires
-    add-month
-    loop-less
+    (search needs)
+    (search needs)
     loop-again
     same-length
     returns)

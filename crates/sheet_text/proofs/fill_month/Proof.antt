@@ -24,38 +24,8 @@ loop-holds c =
     let a = c .before .args in
     record { within = search needs; same = refl; written = month-none (yearOf (a .t3) (a .month)) (a .month) (now (a .sheet)) }
 
-mul-store-u32 : tie.Need-mul-store-u32 Inv-loop μ-loop
-mul-store-u32 c = search needs
-
-add-store-u32 : tie.Need-add-store-u32 Inv-loop μ-loop
-add-store-u32 c = search needs
-
-mul-store-u32-2 : tie.Need-mul-store-u32-2 Inv-loop μ-loop
-mul-store-u32-2 c = search needs
-
-add-store-u32-2 : tie.Need-add-store-u32-2 Inv-loop μ-loop
-add-store-u32-2 c = search needs
-
-mul-store-u32-3 : tie.Need-mul-store-u32-3 Inv-loop μ-loop
-mul-store-u32-3 c = search needs
-
-add-store-u32-3 : tie.Need-add-store-u32-3 Inv-loop μ-loop
-add-store-u32-3 c = search needs
-
-mul-store-u32-4 : tie.Need-mul-store-u32-4 Inv-loop μ-loop
-mul-store-u32-4 c = search needs
-
-array-read-store-u32 : tie.Need-array-read-store-u32 Inv-loop μ-loop
-array-read-store-u32 c = search needs
-
 store-u32-requires : tie.Need-store-u32-requires Inv-loop μ-loop
 store-u32-requires c κs = omega (arith, c .before .before .loop .inv .same)
-
-add-place : tie.Need-add-place Inv-loop μ-loop
-add-place c = search needs
-
-loop-less : tie.Need-loop-less Inv-loop μ-loop
-loop-less c = search needs
 
 loop-again : tie.Need-loop-again Inv-loop μ-loop
 loop-again c =
@@ -86,17 +56,17 @@ fill-month-spec =
     Inv-loop
     μ-loop
     loop-holds
-    mul-store-u32
-    add-store-u32
-    mul-store-u32-2
-    add-store-u32-2
-    mul-store-u32-3
-    add-store-u32-3
-    mul-store-u32-4
-    array-read-store-u32
+    (search needs)
+    (search needs)
+    (search needs)
+    (search needs)
+    (search needs)
+    (search needs)
+    (search needs)
+    (search needs)
     store-u32-requires
-    add-place
-    loop-less
+    (search needs)
+    (search needs)
     loop-again
     same-length
     returns)

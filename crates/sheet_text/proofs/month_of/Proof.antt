@@ -21,21 +21,6 @@ abbrev μ-loop : tie.MeasureT-loop
 loop-holds : tie.Need-loop-holds Inv-loop μ-loop
 loop-holds c = record { within = search needs; long = refl; filled = λ m l. absurd (not-suc-le-zero l) }
 
-number-at-requires : tie.Need-number-at-requires Inv-loop μ-loop
-number-at-requires c κs = search needs
-
-mul-kwh : tie.Need-mul-kwh Inv-loop μ-loop
-mul-kwh c = search needs
-
-array-write-kwh : tie.Need-array-write-kwh Inv-loop μ-loop
-array-write-kwh c = search needs
-
-add-place : tie.Need-add-place Inv-loop μ-loop
-add-place c = search needs
-
-loop-less : tie.Need-loop-less Inv-loop μ-loop
-loop-less c = search needs
-
 loop-again : tie.Need-loop-again Inv-loop μ-loop
 loop-again c =
     let l = c .before .before .loop in
@@ -60,10 +45,10 @@ month-of-spec =
     Inv-loop
     μ-loop
     loop-holds
-    number-at-requires
-    mul-kwh
-    array-write-kwh
-    add-place
-    loop-less
+    (search needs)
+    (search needs)
+    (search needs)
+    (search needs)
+    (search needs)
     loop-again
     returns)

@@ -27,30 +27,6 @@ abbrev μ-loop : tie.MeasureT-loop
 loop-holds : tie.Need-loop-holds Inv-loop μ-loop
 loop-holds c = search needs
 
-mul-filled : tie.Need-mul-filled Inv-loop μ-loop
-mul-filled c = search needs
-
-array-read-filled : tie.Need-array-read-filled Inv-loop μ-loop
-array-read-filled c = search needs
-
-mul-filled-2 : tie.Need-mul-filled-2 Inv-loop μ-loop
-mul-filled-2 c = search needs
-
-add-filled : tie.Need-add-filled Inv-loop μ-loop
-add-filled c = search needs
-
-mul-filled-3 : tie.Need-mul-filled-3 Inv-loop μ-loop
-mul-filled-3 c = search needs
-
-array-write-filled : tie.Need-array-write-filled Inv-loop μ-loop
-array-write-filled c = search needs
-
-add-place : tie.Need-add-place Inv-loop μ-loop
-add-place c = search needs
-
-loop-less : tie.Need-loop-less Inv-loop μ-loop
-loop-less c = search needs
-
 loop-again : tie.Need-loop-again Inv-loop μ-loop
 loop-again c =
     let l = c .before .loop in
@@ -78,13 +54,13 @@ with-month-spec =
     Inv-loop
     μ-loop
     loop-holds
-    mul-filled
-    array-read-filled
-    mul-filled-2
-    add-filled
-    mul-filled-3
-    array-write-filled
-    add-place
-    loop-less
+    (search needs)
+    (search needs)
+    (search needs)
+    (search needs)
+    (search needs)
+    (search needs)
+    (search needs)
+    (search needs)
     loop-again
     returns)

@@ -12,9 +12,6 @@ use Rattle.sheet_text.proofs.LineWriting.{line-length, line-written}
 use Rattle.sheet_text.proofs.write_line.Statement.{statement}
 use Rattle.sheet_text.proofs.write_line.Tie as tie
 
-add-write-field : tie.Need-add-write-field
-add-write-field c = search needs
-
 write-field-requires : tie.Need-write-field-requires
 write-field-requires c κs =
     let a = c .before .before .args in
@@ -25,9 +22,6 @@ write-numbers-requires c κs =
     let a = c .before .before .before .before .before .before .args in
     let w = c .before .before .before .write-field in
     omega (arith, line-length (a .month + 1) (kwhOf (a .kwh)), w .ensures .end, w .kept .0)
-
-same-length : tie.Need-same-length
-same-length c = search needs
 
 returns : tie.Need-returns
 returns c =
@@ -44,4 +38,4 @@ returns c =
 pub write-line-spec : {M : Type 1} → statement M
 write-line-spec =
     tie.close
-    (tie.spec add-write-field write-field-requires write-numbers-requires same-length returns)
+    (tie.spec (search needs) write-field-requires write-numbers-requires (λ c. search needs) returns)

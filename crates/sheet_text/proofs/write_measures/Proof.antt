@@ -30,12 +30,6 @@ write-lines-requires c κs =
     let right = c .before .before .before .before .if1 .left in
     (sizes-right (now (a .sheet)) (now (a .text)) right, none-told (now (a .sheet)) (now (a .text)) right (first .result) (first .ensures) (omega arith))
 
-cast-length : tie.Need-cast-length
-cast-length c = search needs
-
-same-length : tie.Need-same-length
-same-length c = search needs
-
 returns-3 : tie.Need-returns-3
 returns-3 c =
     let a = c .before .before .before .before .before .before .before .before .before .before .args in
@@ -52,6 +46,6 @@ write-measures-spec =
     first-above-requires
     returns-2
     write-lines-requires
-    cast-length
-    same-length
+    (search needs)
+    (λ c. search needs)
     returns-3)

@@ -32,18 +32,6 @@ loop-holds c =
       written = sym (ap (λ (t : List ℕ). stored (a .at) t (now (a .out))) (sym none) ∙ stored-none (a .at) (now (a .out)));
     }
 
-mul-write-field : tie.Need-mul-write-field Inv-loop μ-loop
-mul-write-field c = search needs
-
-array-read-write-field : tie.Need-array-read-write-field Inv-loop μ-loop
-array-read-write-field c = search needs
-
-cast-write-field : tie.Need-cast-write-field Inv-loop μ-loop
-cast-write-field c = search needs
-
-stop-at-requires : tie.Need-stop-at-requires Inv-loop μ-loop
-stop-at-requires c κs = search needs
-
 write-field-requires : tie.Need-write-field-requires Inv-loop μ-loop
 write-field-requires c κs =
     let l = c .before .before .before .loop in
@@ -52,12 +40,6 @@ write-field-requires c κs =
     let stop : length (field (kwh (l .place)) (c .stop-at .result)) ≡ length (field (kwh (l .place)) (stopAt (l .place)))
     = ap (λ (b : ℕ). length (field (kwh (l .place)) b)) (c .stop-at .ensures) in
     omega (arith, numbers-room kwh (l .place) (omega arith), l .inv .same, l .inv .ends)
-
-add-place : tie.Need-add-place Inv-loop μ-loop
-add-place c = search needs
-
-loop-less : tie.Need-loop-less Inv-loop μ-loop
-loop-less c = search needs
 
 loop-again : tie.Need-loop-again Inv-loop μ-loop
 loop-again c =
@@ -96,13 +78,13 @@ write-numbers-spec =
     Inv-loop
     μ-loop
     loop-holds
-    mul-write-field
-    array-read-write-field
-    cast-write-field
-    stop-at-requires
+    (search needs)
+    (search needs)
+    (λ c. search needs)
+    (search needs)
     write-field-requires
-    add-place
-    loop-less
+    (search needs)
+    (search needs)
     loop-again
     same-length
     returns)
