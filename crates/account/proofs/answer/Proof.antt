@@ -15,15 +15,6 @@ answer-sound-requires c κs =
     let said = subst (BookJudged b n) (c .before .user .given .1) (c .before .before .before .find .ensures) in
     (said .0, named b n _ (said .1))
 
-returns : tie.Need-returns
-returns c = search needs
-
-returns-2 : tie.Need-returns-2
-returns-2 c = search needs
-
-returns-3 : tie.Need-returns-3
-returns-3 c = search needs
-
 pub answer-spec : {M : Type 1} → statement M
 answer-spec =
     tie.close
@@ -37,6 +28,6 @@ answer-spec =
     (search needs)
     (search needs)
     answer-sound-requires
-    returns
-    returns-2
-    returns-3)
+    (search needs)
+    (search needs)
+    (search needs))

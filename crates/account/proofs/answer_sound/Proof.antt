@@ -8,12 +8,6 @@ say-account-requires c κs =
     let s = c .before .before .before in
     (s .pre .0, s .pre .1 (c .if1 .left))
 
-returns : tie.Need-returns
-returns c = search needs
-
-returns-2 : tie.Need-returns-2
-returns-2 c = search needs
-
 pub answer-sound-spec : {M : Type 1} → statement M
 answer-sound-spec =
     tie.close
@@ -21,5 +15,5 @@ answer-sound-spec =
     (search needs)
     (search needs)
     say-account-requires
-    returns
-    returns-2)
+    (search needs)
+    (search needs))

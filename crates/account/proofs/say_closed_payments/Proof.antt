@@ -10,18 +10,6 @@ Inv-loop book user each activation «open» year₀ year = Unit {0}
 abbrev μ-loop : tie.MeasureT-loop
 μ-loop book user each activation «open» year₀ year = «open» - year
 
-loop-holds : tie.Need-loop-holds Inv-loop μ-loop
-loop-holds c = search needs
-
-returns : tie.Need-returns Inv-loop μ-loop
-returns c = search needs
-
-loop-again : tie.Need-loop-again Inv-loop μ-loop
-loop-again c = search needs
-
-returns-2 : tie.Need-returns-2 Inv-loop μ-loop
-returns-2 c = search needs
-
 pub say-closed-payments-spec : {M : Type 1} → statement M
 say-closed-payments-spec =
     tie.close
@@ -30,11 +18,11 @@ say-closed-payments-spec =
     μ-loop
     (λ c κs. search needs)
     (λ c κs. search needs)
-    loop-holds
+    (search needs)
     (λ c κs. search needs)
     (λ c κs. search needs)
-    returns
     (search needs)
     (search needs)
-    loop-again
-    returns-2)
+    (search needs)
+    (search needs)
+    (search needs))

@@ -6,17 +6,11 @@ use borrow.Author.Needs.{needs}
 use Rattle.account.proofs.say_open_payments.Statement.{statement}
 use Rattle.account.proofs.say_open_payments.Tie as tie
 
-returns : tie.Need-returns
-returns c = search needs
-
 add-later : tie.Need-add-later
 add-later c =
     let o = c .before .before .before in
     let s = o .before .before in
     omega (arith, year-fits (now (s .args .book)) (s .pre .0) (s .args .user .0) (s .pre .1) (o .open-year-of .result) (o .open-year-of .ensures))
-
-returns-2 : tie.Need-returns-2
-returns-2 c = search needs
 
 pub say-open-payments-spec : {M : Type 1} → statement M
 say-open-payments-spec =
@@ -25,8 +19,8 @@ say-open-payments-spec =
     (λ c κs. search needs)
     (λ c κs. search needs)
     (λ c κs. search needs)
-    returns
+    (search needs)
     add-later
     (λ c κs. search needs)
     (λ c κs. search needs)
-    returns-2)
+    (search needs))

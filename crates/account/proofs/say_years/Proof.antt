@@ -28,20 +28,11 @@ loop-holds c =
     let o = c .open-year-of in
     (search needs, years-closed (now (s .args .book)) (s .pre .0) (s .args .user .0) (s .pre .1) (a .result) (o .result) (a .ensures) (o .ensures) .1)
 
-year-of-requires : tie.Need-year-of-requires Inv-loop μ-loop
-year-of-requires c κs =
+closed-year-requires : tie.Need-closed-year-requires Inv-loop μ-loop
+closed-year-requires c κs =
     let s = c .before .before .before .before .before in
     let l = c .before .loop in
     (s .pre .0 .fits, (s .pre .0 .isSound, (s .pre .1, omega (arith, l .inv .1))))
-
-returns : tie.Need-returns Inv-loop μ-loop
-returns c = search needs
-
-loop-again : tie.Need-loop-again Inv-loop μ-loop
-loop-again c = search needs
-
-returns-2 : tie.Need-returns-2 Inv-loop μ-loop
-returns-2 c = search needs
 
 pub say-years-spec : {M : Type 1} → statement M
 say-years-spec =
@@ -53,10 +44,10 @@ say-years-spec =
     (search needs)
     sub-n-end
     loop-holds
-    year-of-requires
-    (search needs)
-    returns
+    closed-year-requires
     (search needs)
     (search needs)
-    loop-again
-    returns-2)
+    (search needs)
+    (search needs)
+    (search needs)
+    (search needs))

@@ -4,14 +4,14 @@ use Prim.Native.Nat.{ℕ, _+_, _-_}
 use mathlib.Core.Path.{ap, _∙_}
 use native.Mathlib.Omega.{arith}
 use Rattle.account_years.specs.History.{byClosing}
-use Rattle.account_years.proofs.PaidOut.{balance-most}
+use Rattle.call_keeps.proofs.Widths.{paid-capped}
 use borrow.Author.Needs.{needs}
 use Rattle.account_years.proofs.by_closing.Statement.{statement}
 use Rattle.account_years.proofs.by_closing.Tie as tie
 
 add-t7 : tie.Need-add-t7
 add-t7 c =
-    omega (arith, c .before .before .before .before .before .pre, c .before .before .paid-balance .ensures, balance-most (c .before .before .before .before .before .args .closing .sums .balance .0))
+    omega (arith, c .before .before .before .before .before .pre, c .before .before .paid-balance .ensures, paid-capped (c .before .before .before .before .before .args .closing .sums .balance .0))
 
 returns : tie.Need-returns
 unfolding byClosing

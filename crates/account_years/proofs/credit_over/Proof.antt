@@ -2,7 +2,6 @@
 use denote.Ref.{now}
 use Rattle.account_years.proofs.Years.{credit-room, credited}
 use borrow.Author.Needs.{needs}
-use borrow.Author.Needs.{needs}
 use Rattle.account_years.proofs.credit_over.Statement.{statement}
 use Rattle.account_years.proofs.credit_over.Tie as tie
 

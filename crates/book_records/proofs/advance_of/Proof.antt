@@ -1,4 +1,4 @@
--- `advance_of` is held to `advanceIn`: field by field. Each name stands for the place after its field is read.
+-- `advance_of` is held to `advanceIn`: field by field.
 use Rattle.book_layout.specs.Fields.{get}
 use Rattle.book_records.specs.Records.{advanceIn}
 use borrow.Author.Needs.{needs}
@@ -7,23 +7,7 @@ use Rattle.book_records.proofs.advance_of.Tie as tie
 
 returns : tie.Need-returns
 unfolding advanceIn get
-returns c =
-    let booked = c .before in
-    let owner = booked .before in
-    let ticks = owner .before in
-    let year = ticks .before in
-    let run = year .before in
-    let next = run .before in
-    λ i.
-    record {
-      next = next .next-of .ensures i;
-      run = run .read-u8 .ensures i;
-      year = year .year-of .ensures i;
-      ticks = record { 0 = ticks .read-u64 .ensures i };
-      owner = owner .owner-of .ensures i;
-      booked = booked .booked-of .ensures i;
-      withheld = record { 0 = c .read-u642 .ensures i };
-    }
+returns c = cc
 
 pub advance-of-spec : {M : Type 1} → statement M
 advance-of-spec =

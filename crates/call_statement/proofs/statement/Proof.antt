@@ -13,7 +13,7 @@ returns c =
     let a = c .before .before .before .before .before .before .args in
     let some = c .before .if1 .taken in
     leaves (now (a .book)) (a .number .0) (c .before .before .before .before .look .result .reply) some
-    (damaged (now (a .book)) (calls.statement (a .number .0)) 0 (c .before .before .before .before .look .ensures) some) (c .no-sums .result) (c .no-sums .ensures)
+    (damaged (now (a .book)) (calls.statement (a .number .0)) 0 (c .before .before .before .before .look .ensures) some) (c .no-statement .result) (c .no-statement .ensures)
 
 returns-2 : tie.Need-returns-2
 returns-2 c =
@@ -22,8 +22,8 @@ returns-2 c =
     let none = c .before .before .before .before .before .if1 .left in
     let reply = c .before .refused in
     leaves (now (a .book)) (a .number .0) (reply .result) (refuses 6 (reply .result) (reply .ensures) (omega arith))
-    (unknown (now (a .book)) (a .number .0) (looked .is-sound none) _ (looked .found none) (c .before .before .if2 .taken) (reply .result) (reply .ensures)) (c .no-sums2 .result)
-    (c .no-sums2 .ensures)
+    (unknown (now (a .book)) (a .number .0) (looked .is-sound none) _ (looked .found none) (c .before .before .if2 .taken) (reply .result) (reply .ensures)) (c .no-statement2 .result)
+    (c .no-statement2 .ensures)
 
 statement-of-requires : tie.Need-statement-of-requires
 statement-of-requires c κs =

@@ -9,14 +9,14 @@ use denote.Ref.{now}
 use native.Mathlib.Omega.{arith}
 use borrow.Author.Tests.{not-true, not-false, ltb-true, eqb-false}
 use lib.Dec.{eqb, ltb}
-use lib.ListN.{length, getD}
+use lib.ListN.{length}
 use Rattle.units.proofs.Bools.{and-left, and-right}
 use Rattle.units.specs.declared.UserNumber.{UserNumber}
 use Rattle.units.specs.Limits.{mostRecords}
 use Rattle.book_rules.specs.Book.{used}
 use Rattle.book_rules.proofs.Faults.{used-counted}
 use Rattle.book_rules.proofs.RecordKinds.{entry-no-user}
-use Rattle.check_owners.specs.InnerOwners.{NextOwned}
+use Rattle.check_owners.specs.InnerOwners.{NextOwned, indexAt}
 use Rattle.check_numbers.specs.InnerHeld.{places}
 use Rattle.check_book.proofs.Homes.{home-user, home-other, Homes, homes-sooner, homes-next, Bad, bad-first, bad-here, EntriesMet, entries-none, entry-here, entry-place, entries-next}
 use Rattle.check_book.proofs.Homes.{entries-left, entries-ended, entry-after, ahead, ahead-less, stray-bad, judged}
@@ -25,10 +25,10 @@ use Rattle.check_book.proofs.faulty_record.Statement.{statement}
 use Rattle.check_book.proofs.faulty_record.Tie as tie
 
 abbrev Inv-entries : tie.InvT-entries
-Inv-entries book broken counts entries records seen all-seen bad₀ i new e₀ bad e = (bad ≡ bad₀) × EntriesMet book bad₀ i e
+Inv-entries book counts entries records seen all-seen bad₀ i new e₀ bad e = (bad ≡ bad₀) × EntriesMet book bad₀ i e
 
 abbrev μ-entries : tie.MeasureT-entries
-μ-entries book broken counts entries records seen all-seen bad₀ i new e₀ bad e = ahead records e
+μ-entries book counts entries records seen all-seen bad₀ i new e₀ bad e = ahead records e
 
 -- the users before i have had their turn
 record UsersMet (book : List ℕ) (broken : ℕ) (table : List ℕ) (all-seen : Bool) (bad i : ℕ) : Type 0 where
@@ -41,10 +41,10 @@ record UsersMet (book : List ℕ) (broken : ℕ) (table : List ℕ) (all-seen : 
   pub homes : Homes book bad i
 
 abbrev Inv-users : tie.InvT-users
-Inv-users book broken counts entries records seen₀ all-seen₀ bad₀ i₀ seen all-seen bad i = UsersMet book broken seen all-seen bad i
+Inv-users book counts entries records seen₀ all-seen₀ bad₀ i₀ seen all-seen bad i = UsersMet book bad₀ seen all-seen bad i
 
 abbrev μ-users : tie.MeasureT-users
-μ-users book broken counts entries records seen₀ all-seen₀ bad₀ i₀ seen all-seen bad i = records - i
+μ-users book counts entries records seen₀ all-seen₀ bad₀ i₀ seen all-seen bad i = records - i
 
 counts-requires : tie.Need-counts-requires Inv-entries μ-entries Inv-users μ-users
 counts-requires c κs =
@@ -65,7 +65,7 @@ users-holds c =
       from = search needs;
       before = p .from;
       most = omega arith;
-      is = bad-first b (s .args .broken) p;
+      is = bad-first b (s .args .broken .0) p;
       long = refl;
       seen = λ _. seen-none b _;
       homes = λ j q h. let z : ⊥ = omega arith in absurd z;
@@ -117,13 +117,14 @@ good-record-requires c κs =
     let own = s .pre .1 .1 .own i (a .users .inv .from) (omega (arith, under n, a .users .inv .most)) in
     (a .before .before .before .counts .ensures i (a .users .inv .from) (place (n .before) .1), (λ _. c .is-new .ensures, (own, (s .pre .1 .0, place (n .before) .0))))
 
-mul-e : tie.Need-mul-e Inv-entries μ-entries Inv-users μ-users
-mul-e c = let p = place (c .before .before .before .before .before .before .before .before .before .before) in search needs
+mul-first : tie.Need-mul-first Inv-entries μ-entries Inv-users μ-users
+mul-first c = let p = place (c .before .before .before .before .before .before .before .before .before .before) in search needs
 
-element-copy-out-e : tie.Need-element-copy-out-e Inv-entries μ-entries Inv-users μ-users
-element-copy-out-e c = place (c .before .before .before .before .before .before .before .before .before .before) .1
+element-copy-out-first : tie.Need-element-copy-out-first Inv-entries μ-entries Inv-users μ-users
+element-copy-out-first c = place (c .before .before .before .before .before .before .before .before .before .before) .1
 
 entries-holds : tie.Need-entries-holds Inv-entries μ-entries Inv-users μ-users
+unfolding indexAt
 entries-holds c =
     let u = c .before .before .before .before .before .before .before .before .before .before .before in
     let a = u .before in
@@ -171,20 +172,20 @@ good-record-requires-2 c κs =
     let entry = entry-here b (a .users .bad) (a .users .i) e (l .entries .inv .1) (test .0) in
     (a .before .before .before .counts .ensures e (at .0 .0) (at .1), (λ user. absurd (entry-no-user b e entry user), (own, (s .pre .1 .0, at .0 .1))))
 
-cast-e-2 : tie.Need-cast-e-2 Inv-entries μ-entries Inv-users μ-users
-cast-e-2 c = let p = entry-there (c .before .before) in search needs
+cast-later : tie.Need-cast-later Inv-entries μ-entries Inv-users μ-users
+cast-later c = let p = entry-there (c .before .before) in search needs
 
-mul-e-2 : tie.Need-mul-e-2 Inv-entries μ-entries Inv-users μ-users
-mul-e-2 c = let p = entry-there (c .before .before) in search needs
+mul-later : tie.Need-mul-later Inv-entries μ-entries Inv-users μ-users
+mul-later c = let p = entry-there (c .before .before) in search needs
 
-element-copy-out-e-2 : tie.Need-element-copy-out-e-2 Inv-entries μ-entries Inv-users μ-users
-element-copy-out-e-2 c = entry-there (c .before .before) .1
+element-copy-out-later : tie.Need-element-copy-out-later Inv-entries μ-entries Inv-users μ-users
+element-copy-out-later c = entry-there (c .before .before) .1
 
 -- the next one is that after it of the same user
 entry-next : (c : tie.In-entries Inv-entries μ-entries Inv-users μ-users)
     → NextOwned (now (c .before .before .before .before .before .before .before .before .before .before .before .before .before .before .before .before .before .before .before .args .book))
     (c .before .before .before .before .before .before .before .before .before .before .before .before .before .before .users .i) (c .before .entries .e + 1)
-    (getD (c .before .before .before .before .before .before .before .before .before .before .before .before .before .before .before .before .by-owner .result .later) (c .before .entries .e) 0)
+    (indexAt (c .before .before .before .before .before .before .before .before .before .before .before .before .before .before .before .before .by-owner .result .later) (c .before .entries .e))
 entry-next c =
     let a = c .before .before .before .before .before .before .before .before .before .before .before .before .before .before in
     let l = c .before in
@@ -193,6 +194,7 @@ entry-next c =
     (l .entries .inv .1 .here some)
 
 entries-less : tie.Need-entries-less Inv-entries μ-entries Inv-users μ-users
+unfolding indexAt
 entries-less c =
     let t = c .before .before .before in
     let a = t .before .before .before .before .before .before .before .before .before .before .before .before .before .before in
@@ -201,6 +203,7 @@ entries-less c =
     ahead-less b (a .users .i) _ (t .before .entries .e) _ (a .before .used .ensures) (at .0 .1) (at .0 .0) (entry-next t)
 
 entries-again : tie.Need-entries-again Inv-entries μ-entries Inv-users μ-users
+unfolding indexAt
 entries-again c =
     let t = c .before .before .before in
     let l = t .before in
@@ -328,16 +331,16 @@ faulty-record-spec =
     array-read-good-record
     good-record-requires
     (search needs)
-    mul-e
-    element-copy-out-e
+    mul-first
+    element-copy-out-first
     entries-holds
     cast-good-record-2
     mul-good-record-2
     array-read-good-record-2
     good-record-requires-2
-    cast-e-2
-    mul-e-2
-    element-copy-out-e-2
+    cast-later
+    mul-later
+    element-copy-out-later
     entries-less
     entries-again
     (search needs)

@@ -35,10 +35,10 @@ module _ (b : List ℕ) (n : ℕ) {r : List ℕ} (whole : r ≡ recordAt b n) wh
   owner-here w = ap (λ (i : RecordIndex). i .0) w ∙ ap (get ownerField) whole
 
 -- the record before `left`
-one-down : (b : List ℕ) (left : ℕ) (firsts laters : List ℕ) → 1 < left → LinkedFrom b left firsts laters → LinkedFrom b (left - 1 + 1) firsts laters
+one-down : (b : List ℕ) (left : ℕ) (firsts laters : List RecordIndex) → 1 < left → LinkedFrom b left firsts laters → LinkedFrom b (left - 1 + 1) firsts laters
 one-down b left firsts laters some linked = let same : left ≡ left - 1 + 1 = omega arith in subst (λ n. LinkedFrom b n firsts laters) same linked
 
-record Linking (book : List ℕ) (records : ℕ) (first later : List ℕ) (left : ℕ) : Type 0 where
+record Linking (book : List ℕ) (records : ℕ) (first later : List RecordIndex) (left : ℕ) : Type 0 where
   pub within : left ≤ records
   pub firsts : length first ≡ mostRecords
   pub laters : length later ≡ mostRecords
@@ -82,25 +82,25 @@ whole-record-requires c κs =
 mul-later : tie.Need-mul-later Inv-loop μ-loop
 mul-later c = let f = found-here c in omega arith
 
-array-read-later : tie.Need-array-read-later Inv-loop μ-loop
-array-read-later c = let f = found-here c in omega arith
+array-copy-out-later : tie.Need-array-copy-out-later Inv-loop μ-loop
+array-copy-out-later c = let f = found-here c in omega arith
 
-array-write-later : tie.Need-array-write-later Inv-loop μ-loop
-array-write-later c = omega arith
+array-set-from-later : tie.Need-array-set-from-later Inv-loop μ-loop
+array-set-from-later c = omega arith
 
 mul-first : tie.Need-mul-first Inv-loop μ-loop
-mul-first c = let f = found-here c in omega arith
+mul-first c = let f = found-here (c .before) in omega arith
 
-array-write-first : tie.Need-array-write-first Inv-loop μ-loop
-array-write-first c = let f = found-here c in omega arith
+array-set-from-first : tie.Need-array-set-from-first Inv-loop μ-loop
+array-set-from-first c = let f = found-here (c .before) in omega arith
 
 loop-again : tie.Need-loop-again Inv-loop μ-loop
 loop-again c =
-    let t = c .before .before .before .before .before in
+    let t = c .before .before .before .before .before .before in
     let l = t .before in
     let b = now (l .before .before .before .args .book) in
-    let f = found-here c in
-    let is = read-here (c .before) in
+    let f = found-here (c .before) in
+    let is = read-here (c .before .before) in
     let linked = one-down b (l .loop .left) _ _ (t .loop-test .taken) (l .loop .inv .linked) in
     record {
       within = search needs;
@@ -144,13 +144,13 @@ by-owner-spec =
     (search needs)
     (search needs)
     mul-later
-    array-read-later
+    array-copy-out-later
     (search needs)
     (search needs)
-    array-write-later
+    array-set-from-later
     (search needs)
     mul-first
-    array-write-first
+    array-set-from-first
     (search needs)
     loop-again
     (search needs)

@@ -1,34 +1,27 @@
 -- `pass_over` is held to `PassedOver`: from the last record down.
-use Prim.Native.Nat.{ℕ, _+_, _-_, _≤_, _<_}
+use Prim.Native.Nat.{_+_, _-_, _≤_, _<_}
 use mathlib.Core.Path.{_≡_, sym, ap, _∙_}
-use mathlib.Core.Bool.{true, false, _||_, _&&_, false≢true}
+use mathlib.Core.Bool.{true, _&&_, false≢true}
 use mathlib.Core.Logic.{⊎-elim}
 use native.Mathlib.Omega.{arith}
-use borrow.Author.Tests.{eqb-false, leb-false, not-false}
+use borrow.Author.Tests.{not-false}
 use denote.Ref.{now}
-use lib.Dec.{eqb, leb}
 use lib.ListN.{length}
 use Rattle.units.specs.declared.RecordIndex.{RecordIndex}
 use Rattle.units.specs.declared.UserNumber.{UserNumber}
 use Rattle.units.specs.Limits.{mostRecords}
-use Rattle.units.proofs.Bools.{or-left, or-right}
 use Rattle.book_rules.specs.Book.{used, ownRulesFit}
 use Rattle.book_rules.proofs.Faults.{used-counted, own-bad}
+use Rattle.book_rules.proofs.Guards.{owner-below}
 use Rattle.check_pass.proofs.OwnRules.{number-some, user-own, entry-own, owner-bad}
 use Rattle.check_pass.proofs.Passing.{Passing, first, inside, place, whole, counted, broken-here, passed-by, user-passed, entry-passed, passed, parted}
 use borrow.Author.Needs.{needs}
 use Rattle.check_pass.proofs.pass_over.Statement.{statement}
 use Rattle.check_pass.proofs.pass_over.Tie as tie
 
--- an owner that is a record below the entry
-below : (home index : ℕ) → (eqb home 0 || leb index home) ≡ false → (1 ≤ home) × (home < index)
-below home index e =
-    let some = eqb-false home 0 (or-left (eqb home 0) (leb index home) e) in
-    (omega (arith, some), leb-false index home (or-right (eqb home 0) (leb index home) e))
-
 abbrev Inv-loop : tie.InvT-loop
 Inv-loop book wanted states₀ seen₀ chained below records broken₀ found₀ expected₀ left₀ states seen broken found expected left =
-    Passing book (wanted .0) (length states₀) (length seen₀) left expected found broken chained states seen
+    Passing book (wanted .0) (length states₀) (length seen₀) left expected (found .0) broken chained states seen
 
 abbrev μ-loop : tie.MeasureT-loop
 μ-loop book wanted states₀ seen₀ chained below records broken₀ found₀ expected₀ left₀ states seen broken found expected left =
@@ -141,7 +134,7 @@ returns-3 c =
 -- the owner has its places too
 home-place : (c : tie.Else6 Inv-loop μ-loop)
     → (1 ≤ c .before .before .before .owner-of .result .0) × (c .before .before .before .owner-of .result .0 < c .before .before .before .before .before .before .before .before .loop .left - 1)
-home-place c = below (c .before .before .before .owner-of .result .0) (c .before .before .before .before .before .before .before .before .loop .left - 1) (c .if6 .left)
+home-place c = owner-below (c .before .before .before .owner-of .result .0) (c .before .before .before .before .before .before .before .before .loop .left - 1) (c .if6 .left)
 
 home-small : (c : tie.Else6 Inv-loop μ-loop) → c .before .before .before .owner-of .result .0 < mostRecords
 home-small c = let h = home-place c in omega (arith, small (c .before .before .before .before .before .before .before))

@@ -5,7 +5,8 @@ use native.Mathlib.Omega.{arith}
 use denote.Ref.{now}
 use Rattle.units.specs.declared.RecordIndex.{RecordIndex}
 use Rattle.book_rules.proofs.Faults.{used-whole}
-use Rattle.check_rules.proofs.EntryLinks.{below, unowned, no-user, ended, ahead, behind}
+use Rattle.book_rules.proofs.Guards.{owner-below}
+use Rattle.check_rules.proofs.EntryLinks.{unowned, no-user, ended, ahead, behind}
 use borrow.Author.Needs.{needs}
 use Rattle.check_rules.proofs.entry_links_fit.Statement.{statement}
 use Rattle.check_rules.proofs.entry_links_fit.Tie as tie
@@ -23,7 +24,7 @@ returns c =
 lower : (c : tie.Else1)
     → (1 ≤ c .before .before .before .before .owner-of .result .0)
     × (c .before .before .before .before .owner-of .result .0 < c .before .before .before .before .before .before .before .before .args .index .0)
-lower c = below (c .before .before .before .before .owner-of .result .0) (c .before .before .before .before .before .before .before .before .args .index .0) (c .if1 .left)
+lower c = owner-below (c .before .before .before .before .owner-of .result .0) (c .before .before .before .before .before .before .before .before .args .index .0) (c .if1 .left)
 
 whole-record-requires-2 : tie.Need-whole-record-requires-2
 whole-record-requires-2 c κs =

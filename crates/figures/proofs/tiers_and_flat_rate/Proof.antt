@@ -21,12 +21,6 @@ flat-rate-of-requires c κs =
     let tiers = c .before .before .before .before .before .before .before .before .before in
     (λ t l. rates-fit t, omega (arith, tiers .annual-tiers .ensures .whole, tiers .before .smaller .ensures))
 
-returns : tie.Need-returns
-returns c = search needs
-
-returns-2 : tie.Need-returns-2
-returns-2 c = search needs
-
 pub tiers-and-flat-rate-spec : {M : Type 1} → statement M
 tiers-and-flat-rate-spec =
     tie.close
@@ -44,6 +38,6 @@ tiers-and-flat-rate-spec =
     (search needs)
     flat-rate-of-requires
     (search needs)
-    returns
     (search needs)
-    returns-2)
+    (search needs)
+    (search needs))

@@ -1,7 +1,7 @@
 -- By what the check says of the book: one of three texts.
 use denote.Ref.{now}
 use Rattle.book_rules.specs.Chains.{usersOf}
-use Rattle.listing_text.specs.Listing.{lines, refused}
+use Rattle.listing_text.specs.Listing.{userLines, refused}
 use Rattle.listing_text.proofs.Texts.{refused-length, accepted, listed, refused-faulty, answered}
 use borrow.Author.Needs.{needs}
 use Rattle.listing_text.proofs.text_of.Statement.{statement}
@@ -28,7 +28,8 @@ returns-2 c =
     let k = c .before .before .before .before .before .before .check in
     let b = now (a .book) in
     let w = c .before .before .lines-of in
-    answered b (lines b (usersOf b)) (now (a .out)) (w .last .1 .0) (w .result) (listed b (accepted b (k .result) (k .ensures) (c .before .before .before .before .enum-told2 .given .1))) (w .ensures)
+    answered b (userLines b (usersOf b)) (now (a .out)) (w .last .1 .0) (w .result) (listed b (accepted b (k .result) (k .ensures) (c .before .before .before .before .enum-told2 .given .1)))
+    (w .ensures)
 
 returns-3 : tie.Need-returns-3
 returns-3 c =

@@ -10,25 +10,12 @@ Inv-loop kwh month₀ month = month ≤ 12
 abbrev μ-loop : tie.MeasureT-loop
 μ-loop kwh month₀ month = 12 - month
 
-loop-holds : tie.Need-loop-holds Inv-loop μ-loop
-loop-holds c = search needs
-
-returns : tie.Need-returns Inv-loop μ-loop
-returns c = search needs
-
-loop-again : tie.Need-loop-again Inv-loop μ-loop
-loop-again c = search needs
-
-returns-2 : tie.Need-returns-2 Inv-loop μ-loop
-returns-2 c = search needs
-
 pub say-sums-spec : {M : Type 1} → statement M
 say-sums-spec =
     tie.close
     (tie.spec
     Inv-loop
     μ-loop
-    loop-holds
     (search needs)
     (search needs)
     (search needs)
@@ -40,8 +27,9 @@ say-sums-spec =
     (search needs)
     (search needs)
     (search needs)
-    returns
     (search needs)
     (search needs)
-    loop-again
-    returns-2)
+    (search needs)
+    (search needs)
+    (search needs)
+    (search needs))

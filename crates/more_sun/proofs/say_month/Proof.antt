@@ -10,15 +10,6 @@ Inv-loop book s month bands row₀ band₀ row band = band ≤ bands
 abbrev μ-loop : tie.MeasureT-loop
 μ-loop book s month bands row₀ band₀ row band = bands - band
 
-loop-holds : tie.Need-loop-holds Inv-loop μ-loop
-loop-holds c = search needs
-
-loop-again : tie.Need-loop-again Inv-loop μ-loop
-loop-again c = search needs
-
-returns : tie.Need-returns Inv-loop μ-loop
-returns c = search needs
-
 pub say-month-spec : {M : Type 1} → statement M
 say-month-spec =
     tie.close
@@ -27,12 +18,12 @@ say-month-spec =
     μ-loop
     (search needs)
     (search needs)
-    loop-holds
     (search needs)
     (search needs)
     (search needs)
     (search needs)
     (search needs)
-    loop-again
     (search needs)
-    returns)
+    (search needs)
+    (search needs)
+    (search needs))

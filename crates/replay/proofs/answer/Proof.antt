@@ -15,8 +15,8 @@ use Rattle.replay.proofs.answer.Tie as tie
 new-book-requires : tie.Need-new-book-requires
 new-book-requires c κs =
     let a = c .before .before .before .before .before .before .before .before .args in
-    let order = sym (c .before .before .before .before .order-of .ensures) ∙ c .before .before .order .given .1 in
-    let fits = rw order at (new-fits (now (a .line))) in
+    let request = sym (c .before .before .before .before .request-of .ensures) ∙ c .before .before .request .given .1 in
+    let fits = rw request at (new-fits (now (a .line))) in
     omega arith
 
 slice-aggregate-call : tie.Need-slice-aggregate-call
@@ -34,7 +34,7 @@ call-requires c κs =
 returns : tie.Need-returns
 returns c =
     let asked = c .before .before .before .before .before .before in
-    let read = asked .before .order-of .ensures in
+    let read = asked .before .request-of .ensures in
     record {
       within = search needs;
       wrong = λ e. let other = rw (read ∙ e) at (asked .match .keys1) in absurd (miss (0 ∷ []) 17 tt other);
@@ -43,7 +43,7 @@ returns c =
 returns-2 : tie.Need-returns-2
 returns-2 c =
     let asked = c .before .before .before .before .before .before in
-    let read = asked .before .order-of .ensures in
+    let read = asked .before .request-of .ensures in
     record {
       within = search needs;
       wrong = λ e. let other = rw (read ∙ e) at (asked .match .keys2) in absurd (miss (1 ∷ []) 17 tt other);
@@ -55,7 +55,7 @@ returns-3 c = search needs
 returns-4 : tie.Need-returns-4
 returns-4 c =
     let asked = c .before .before .before .before .before .before .before in
-    let read = asked .before .order-of .ensures in
+    let read = asked .before .request-of .ensures in
     record {
       within = search needs;
       wrong = λ e. let other = rw (read ∙ e) at (asked .match .keys4) in absurd (miss (2 ∷ 3 ∷ 4 ∷ 5 ∷ 6 ∷ 7 ∷ 8 ∷ 9 ∷ 10 ∷ 11 ∷ 12 ∷ 13 ∷ 14 ∷ 15 ∷ 16 ∷ []) 17 tt other);

@@ -6,9 +6,6 @@ use borrow.Author.Needs.{needs}
 use Rattle.replay.proofs.raise.Statement.{statement}
 use Rattle.replay.proofs.raise.Tie as tie
 
-returns : tie.Need-returns
-returns c = search needs
-
 array-borrow-prefix-sheet : tie.Need-array-borrow-prefix-sheet
 array-borrow-prefix-sheet c =
     let filled = rw (c .before .count .given .1) at (c .before .before .before .before .hex-from .ensures) in
@@ -31,9 +28,6 @@ say-raised-requires c κs =
     let lent = length-take-le (count .0 .0) (read .hex-from .last .1 .1 .0) (filled .room) in
     omega (arith, raised .raise .kept .0, filled .room, filled .same, read .before .before .before .before .before .before .pre)
 
-returns-2 : tie.Need-returns-2
-returns-2 c = search needs
-
 pub raise-spec : {M : Type 1} → statement M
 raise-spec =
     tie.close
@@ -45,10 +39,10 @@ raise-spec =
     (search needs)
     (search needs)
     (search needs)
-    returns
+    (search needs)
     array-borrow-prefix-sheet
     slice-aggregate-lent
     (search needs)
     say-raised-requires
     (λ c. search needs)
-    returns-2)
+    (search needs))

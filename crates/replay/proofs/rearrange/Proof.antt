@@ -6,12 +6,6 @@ use borrow.Author.Needs.{needs}
 use Rattle.replay.proofs.rearrange.Statement.{statement}
 use Rattle.replay.proofs.rearrange.Tie as tie
 
-returns : tie.Need-returns
-returns c = search needs
-
-returns-2 : tie.Need-returns-2
-returns-2 c = search needs
-
 array-share-prefix-from : tie.Need-array-share-prefix-from
 array-share-prefix-from c =
     let filled = rw (c .before .before .before .before .before .before .before .before .before .read .given .1) at
@@ -50,9 +44,6 @@ work-on-requires c κs =
       c .before .before .before .before .before .before .before .before .before .before .before .before .before .before .before .before .before .before .before .before .before .pre,
     )
 
-returns-3 : tie.Need-returns-3
-returns-3 c = search needs
-
 pub rearrange-spec : {M : Type 1} → statement M
 rearrange-spec =
     tie.close
@@ -64,7 +55,6 @@ rearrange-spec =
     (search needs)
     (search needs)
     (search needs)
-    returns
     (search needs)
     (search needs)
     (search needs)
@@ -72,11 +62,12 @@ rearrange-spec =
     (search needs)
     (search needs)
     (search needs)
-    returns-2
+    (search needs)
+    (search needs)
     array-share-prefix-from
     slice-aggregate-work-on
     array-borrow-prefix-to
     slice-aggregate-work-on-2
     work-on-requires
     (λ c. search needs)
-    returns-3)
+    (search needs))

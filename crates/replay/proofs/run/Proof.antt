@@ -26,9 +26,6 @@ abbrev μ-loop : tie.MeasureT-loop
 loop-holds : tie.Need-loop-holds Inv-loop μ-loop
 loop-holds c = record { line = rw (c .start .ensures) (nothing-is-held _ _); held = refl; book = search needs; buffer = refl; out = refl }
 
-returns : tie.Need-returns Inv-loop μ-loop
-returns c = search needs
-
 loop-again : tie.Need-loop-again Inv-loop μ-loop
 loop-again c =
     let read = c .before .before .before .before .before .before .before .before .before .before .before .before .before .next-line in
@@ -39,9 +36,6 @@ loop-again c =
       buffer = search needs;
       out = search needs;
     }
-
-returns-2 : tie.Need-returns-2 Inv-loop μ-loop
-returns-2 c = search needs
 
 pub run-spec : {M : Type 1} → statement M
 run-spec =
@@ -59,11 +53,11 @@ run-spec =
     (λ c. search needs)
     (λ c. search needs)
     (λ c. search needs)
-    returns
+    (search needs)
     (search needs)
     (search needs)
     loop-again
     (λ c. search needs)
     (λ c. search needs)
     (λ c. search needs)
-    returns-2)
+    (search needs))

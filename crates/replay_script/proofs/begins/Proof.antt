@@ -8,7 +8,7 @@ use lib.Dec.{eqb}
 use lib.ListN.{length, getD}
 use Rattle.units.specs.Folds.{allBelow}
 use Rattle.units.proofs.Folds.{all-zero, all-next}
-use Rattle.replay_script.specs.Orders.{begins}
+use Rattle.replay_script.specs.Requests.{begins}
 use Rattle.replay_script.proofs.begins.Statement.{statement}
 use Rattle.replay_script.proofs.begins.Tie as tie
 

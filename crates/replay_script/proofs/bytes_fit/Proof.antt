@@ -1,6 +1,6 @@
 -- `bytes_fit` is held to `bytesFit`: by the tests alone.
 use borrow.Author.Needs.{needs}
-use Rattle.replay_script.specs.Orders.{bytesFit}
+use Rattle.replay_script.specs.Requests.{bytesFit}
 use Rattle.replay_script.proofs.bytes_fit.Statement.{statement}
 use Rattle.replay_script.proofs.bytes_fit.Tie as tie
 

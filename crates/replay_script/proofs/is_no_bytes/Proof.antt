@@ -1,5 +1,5 @@
 -- By the byte and the length of the word.
-use Rattle.replay_script.specs.Orders.{isNoBytes}
+use Rattle.replay_script.specs.Requests.{isNoBytes}
 use borrow.Author.Needs.{needs}
 use Rattle.replay_script.proofs.is_no_bytes.Statement.{statement}
 use Rattle.replay_script.proofs.is_no_bytes.Tie as tie

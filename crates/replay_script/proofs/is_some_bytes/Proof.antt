@@ -1,5 +1,5 @@
 -- By the length of the word and its digits.
-use Rattle.replay_script.specs.Orders.{isSomeBytes}
+use Rattle.replay_script.specs.Requests.{isSomeBytes}
 use borrow.Author.Needs.{needs}
 use Rattle.replay_script.proofs.is_some_bytes.Statement.{statement}
 use Rattle.replay_script.proofs.is_some_bytes.Tie as tie

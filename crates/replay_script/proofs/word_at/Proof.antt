@@ -9,7 +9,7 @@ use lib.Dec.{eqb}
 use lib.ListN.{getD}
 use Rattle.text.specs.InnerText.{afterBlank, wordEnd}
 use Rattle.replay_script.specs.declared.Word.{Word}
-use Rattle.replay_script.specs.Orders.{isNoBytes, isSomeBytes, wordAt}
+use Rattle.replay_script.specs.Requests.{isNoBytes, isSomeBytes, wordAt}
 use Rattle.replay_script.proofs.word_at.Statement.{statement}
 use Rattle.replay_script.proofs.word_at.Tie as tie
 

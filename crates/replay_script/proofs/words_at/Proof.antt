@@ -9,7 +9,7 @@ use lib.Dec.{eqb}
 use lib.ListN.{length}
 use Rattle.replay_script.specs.declared.Word.{Word}
 use Rattle.replay_script.specs.declared.Words.{Words}
-use Rattle.replay_script.specs.Orders.{wordAt, wordsAt}
+use Rattle.replay_script.specs.Requests.{wordAt, wordsAt}
 use Rattle.replay_script.proofs.words_at.Statement.{statement}
 use Rattle.replay_script.proofs.words_at.Tie as tie
 

@@ -6,7 +6,7 @@ use borrow.Author.Needs.{needs}
 use borrow.Author.Tests.{not-true, not-false}
 use denote.Ref.{now}
 use lib.ListN.{length}
-use Rattle.sheet_archive.specs.Tables.{line}
+use Rattle.sheet_archive.specs.Tables.{tableLine}
 use Rattle.sheet_archive.specs.Archive.{archiveOf, sheetColumns, sheetMonths}
 use Rattle.sheet_archive.proofs.Calls.{source-fits, destination-fits, refused-archive, accepted-archive, Filling, begins, goes-on, ends, archiveLines}
 use Rattle.sheet_archive.proofs.archive.Statement.{statement}
@@ -45,7 +45,7 @@ loop-again c =
     let w = c .before .before .archive-column in
     let t₀ = c .before .before .before .before .before .before .before .before .copy-header .last .1 .0 in
     goes-on sheetColumns sheetMonths (now (a .sheet)) (archiveLines (now (a .sheet))) t₀ refl (l .inv) (w .last .1 .0)
-    (line sheetMonths (archiveLines (now (a .sheet)) (l .column))) (search needs) refl (w .ensures) (w .kept .1 .0)
+    (tableLine sheetMonths (archiveLines (now (a .sheet)) (l .column))) (search needs) refl (w .ensures) (w .kept .1 .0)
 
 same-length : tie.Need-same-length Inv-loop μ-loop
 same-length c = c .before .loop .inv .same ∙ c .before .before .before .before .copy-header .kept .1 .0

@@ -7,7 +7,7 @@ use borrow.Author.Needs.{needs}
 use denote.Ref.{now}
 use lib.ListN.{length}
 use Rattle.codec.specs.Bytes.{bytesOf, stored}
-use Rattle.sheet_archive.specs.Tables.{headerLength, line}
+use Rattle.sheet_archive.specs.Tables.{headerLength, tableLine}
 use Rattle.sheet_archive.specs.Archive.{differences, inSheet, sheetColumns, sheetMonths}
 use Rattle.sheet_archive.specs.InnerSteps.{columnPlace, before}
 use Rattle.sheet_archive.proofs.Columns.{before-next, difference-worked}
@@ -20,7 +20,7 @@ abbrev less : List ℕ → ℕ → ℕ → ℕ
 less s column = differences (inSheet sheetColumns s column)
 
 first-stored : (s a a₀ : List ℕ) (column place n : ℕ) → columnPlace column + 4 ≤ length a → a₀ ≡ stored place (bytesOf 4 n) a
-    → place ≡ headerLength + 4 * (sheetMonths * column + 0) → n ≡ inSheet sheetColumns s column 0 → a₀ ≡ stored (columnPlace column) (line 1 (less s column)) a
+    → place ≡ headerLength + 4 * (sheetMonths * column + 0) → n ≡ inSheet sheetColumns s column 0 → a₀ ≡ stored (columnPlace column) (tableLine 1 (less s column)) a
 unfolding differences
 first-stored s a a₀ column place n room e p v =
     e ∙ line-next (columnPlace column) (less s column) a 0 a place n (omega arith) (line-begun (columnPlace column) (less s column) a) (omega arith) v
@@ -30,7 +30,7 @@ record Archiving (sheet before₀ : List ℕ) (column : ℕ) (archive : List ℕ
   pub within : month ≤ sheetMonths
   pub carried : last ≡ before (inSheet sheetColumns sheet column) month
   pub same : length archive ≡ length before₀
-  pub written : archive ≡ stored (columnPlace column) (line month (less sheet column)) before₀
+  pub written : archive ≡ stored (columnPlace column) (tableLine month (less sheet column)) before₀
 
 abbrev Inv-loop : tie.InvT-loop
 Inv-loop sheet archive₀ column last₀ month₀ archive last month = Archiving sheet archive₀ column archive last month

@@ -8,14 +8,14 @@ use denote.Ref.{now}
 use lib.ListN.{length, getD}
 use Rattle.codec.specs.Bytes.{part, number, stored}
 use Rattle.codec.proofs.ByteRanges.{Bytes}
-use Rattle.sheet_archive.specs.Tables.{headerLength, header, line}
+use Rattle.sheet_archive.specs.Tables.{headerLength, header, tableLine}
 use Rattle.sheet_archive.specs.InnerSteps.{Holds, headerWords, headerWord}
 use Rattle.sheet_archive.proofs.Tables.{line-cong, line-back}
 use Rattle.sheet_archive.proofs.Writing.{line-begun, line-next}
 use Rattle.sheet_archive.proofs.copy_header.Statement.{statement}
 use Rattle.sheet_archive.proofs.copy_header.Tie as tie
 
-header-back : (s : List ℕ) → headerLength ≤ length s → Bytes s → line headerWords (headerWord s) ≡ header s
+header-back : (s : List ℕ) → headerLength ≤ length s → Bytes s → tableLine headerWords (headerWord s) ≡ header s
 unfolding header part
 header-back s l b =
     line-cong headerWords (headerWord s) (λ j. number 4 (0 + 4 * j) s) (λ j h. let same : 4 * j ≡ 0 + 4 * j = omega arith in ap (λ (at : ℕ). number 4 at s) same)
@@ -25,7 +25,7 @@ record Copying (from before held to : List ℕ) (k : ℕ) : Type 0 where
   pub within : k ≤ headerWords
   pub words : Holds headerWords (headerWord from) held
   pub same : length to ≡ length before
-  pub written : to ≡ stored 0 (line k (headerWord from)) before
+  pub written : to ≡ stored 0 (tableLine k (headerWord from)) before
 
 abbrev Inv-loop : tie.InvT-loop
 Inv-loop from to₀ words k₀ to k = Copying from to₀ words to k

@@ -6,7 +6,7 @@ use native.Mathlib.Omega.{arith}
 use borrow.Author.Needs.{needs}
 use denote.Ref.{now}
 use Rattle.codec.specs.Bytes.{stored}
-use Rattle.sheet_text.specs.Lines.{places}
+use Rattle.sheet_text.specs.Lines.{readings}
 use Rattle.sheet_text.specs.InnerSteps.{kwhOf, numbersTo}
 use Rattle.sheet_text.proofs.LineWriting.{line-length, line-written}
 use Rattle.sheet_text.proofs.write_line.Statement.{statement}
@@ -31,7 +31,7 @@ returns c =
     let kwh = kwhOf (a .kwh) in record {
       end = omega (arith, line-length (a .month + 1) kwh, w .ensures .end, n .ensures .end);
       stands = n .ensures .stands
-          ∙ ap₂ (λ (e : ℕ) (o : List ℕ). stored e (numbersTo kwh places) o) (w .ensures .end) (w .ensures .stands)
+          ∙ ap₂ (λ (e : ℕ) (o : List ℕ). stored e (numbersTo kwh readings) o) (w .ensures .end) (w .ensures .stands)
           ∙ line-written (a .at) (a .month + 1) kwh (now (a .out)) (omega arith);
     }
 

@@ -9,7 +9,7 @@ use lib.ListN.{length}
 use Rattle.codec.specs.Bytes.{stored}
 use Rattle.codec.proofs.Pieces.{stored-none}
 use Rattle.decimals.specs.Decimals.{field}
-use Rattle.sheet_text.specs.Lines.{places}
+use Rattle.sheet_text.specs.Lines.{readings}
 use Rattle.sheet_text.specs.InnerSteps.{kwhOf, stopAt, numbersTo}
 use Rattle.sheet_text.proofs.LineWriting.{TextWritten, numbers-none, numbers-room, numbers-length, numbers-written}
 use Rattle.sheet_text.proofs.write_numbers.Statement.{statement}
@@ -17,10 +17,10 @@ use Rattle.sheet_text.proofs.write_numbers.Tie as tie
 
 abbrev Inv-loop : tie.InvT-loop
 Inv-loop out₀ at kwh end₀ place₀ out end place =
-    TextWritten places place (at + length (numbersTo (kwhOf kwh) place)) end out₀ out (stored at (numbersTo (kwhOf kwh) place) out₀)
+    TextWritten readings place (at + length (numbersTo (kwhOf kwh) place)) end out₀ out (stored at (numbersTo (kwhOf kwh) place) out₀)
 
 abbrev μ-loop : tie.MeasureT-loop
-μ-loop out₀ at kwh end₀ place₀ out end place = places - place
+μ-loop out₀ at kwh end₀ place₀ out end place = readings - place
 
 loop-holds : tie.Need-loop-holds Inv-loop μ-loop
 loop-holds c =
@@ -66,7 +66,7 @@ returns : tie.Need-returns Inv-loop μ-loop
 returns c =
     let l = c .before .loop in
     let a = c .before .before .before .args in
-    let end : l .place ≡ places = omega arith in record {
+    let end : l .place ≡ readings = omega arith in record {
       end = l .inv .ends ∙ ap (λ (p : ℕ). a .at + length (numbersTo (kwhOf (a .t3)) p)) end;
       stands = l .inv .written ∙ ap (λ (p : ℕ). stored (a .at) (numbersTo (kwhOf (a .t3)) p) (now (a .out))) end;
     }

@@ -6,19 +6,10 @@ use borrow.Author.Needs.{needs}
 use Rattle.vectors.proofs.answer_sheet.Statement.{statement}
 use Rattle.vectors.proofs.answer_sheet.Tie as tie
 
-returns : tie.Need-returns
-returns c = search needs
-
-returns-2 : tie.Need-returns-2
-returns-2 c = search needs
-
 domestic-excess-requires : tie.Need-domestic-excess-requires
 domestic-excess-requires c κs =
     let fault = c .before .before .first-fault in
     told-past (now (c .before .before .before .before .before .before .args .s)) (fault .result) (fault .ensures) (c .if2 .left)
-
-returns-3 : tie.Need-returns-3
-returns-3 c = search needs
 
 year-values-requires : tie.Need-year-values-requires
 year-values-requires c κs =
@@ -30,23 +21,20 @@ year-values-requires c κs =
       past13 = told-past (now (header .before .before .before .args .s)) (fault .result) (fault .ensures) (none .if2 .left);
     }
 
-returns-4 : tie.Need-returns-4
-returns-4 c = search needs
-
 pub answer-sheet-spec : {M : Type 1} → statement M
 answer-sheet-spec =
     tie.close
     (tie.spec
     (search needs)
     (search needs)
-    returns
     (search needs)
     (search needs)
     (search needs)
-    returns-2
+    (search needs)
+    (search needs)
     domestic-excess-requires
     (search needs)
-    returns-3
+    (search needs)
     year-values-requires
     (search needs)
-    returns-4)
+    (search needs))

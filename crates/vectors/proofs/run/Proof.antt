@@ -17,15 +17,6 @@ abbrev μ-loop : tie.MeasureT-loop
 loop-holds : tie.Need-loop-holds Inv-loop μ-loop
 loop-holds c = (rw (c .start .ensures) (nothing-is-held _ _), refl)
 
-returns : tie.Need-returns Inv-loop μ-loop
-returns c = search needs
-
-loop-again : tie.Need-loop-again Inv-loop μ-loop
-loop-again c = search needs
-
-returns-2 : tie.Need-returns-2 Inv-loop μ-loop
-returns-2 c = search needs
-
 pub run-spec : {M : Type 1} → statement M
 run-spec =
     tie.close
@@ -40,9 +31,9 @@ run-spec =
     (search needs)
     (search needs)
     (λ c. search needs)
-    returns
     (search needs)
     (search needs)
-    loop-again
+    (search needs)
+    (search needs)
     (λ c. search needs)
-    returns-2)
+    (search needs))
