@@ -30,7 +30,7 @@ const MOST: u64 = 4_294_967_295;
 // The width of a column of amounts, and ticks to the euro.
 const WIDTH: usize = 19;
 
-const TICKS: u64 = 100_000;
+const TICKS_PER_EURO: u64 = 100_000;
 
 // What the arguments ask for.
 enum Asked {
@@ -84,7 +84,7 @@ fn put_amount(row: Row, sign: &[u8], ticks: u64) -> Row
     ensures { λ r. ⌜ AmountJoined (textOf row) (now (sign .entry)) ticks (textOf r) ⌝ }
 {
     let mut euros = [0u8; 20];
-    let count = decimals::write_number(&mut euros, 0, ticks / TICKS);
+    let count = decimals::write_number(&mut euros, 0, ticks / TICKS_PER_EURO);
     let mut longer = output::put_blanks(row, blanks_before(count, sign.len()));
     longer = output::put_text(longer, sign);
     longer = output::put_text(longer, &euros[..count]);
@@ -151,7 +151,7 @@ fn say_years(book: &[u8], user: RecordIndex) -> bool
     let activation = book_view::activation_of(book, user);
     let open = book_view::open_year_of(book, user);
     for n in 0..open - activation {
-        if !say_year(account_years::year_of(book, user, n)) {
+        if !say_year(account_years::closed_year(book, user, n)) {
             return false;
         }
     }
@@ -382,5 +382,5 @@ fn main() {
         os::fail(b"account: standard input");
         return;
     };
-    answer(&book[..count], number);
+    answer(text::front(&book, count), number);
 }

@@ -27,19 +27,12 @@ use Rattle.chains.proofs.Fit.{entries-sum}
 use Rattle.chains.proofs.Walks.{Ahead, begins, ahead-next}
 use Rattle.account_years.specs.declared.Payments.{Payments}
 use Rattle.account_years.specs.History.{paymentsAre, byAdvance, byClosing, paymentsBy, paymentsOf}
+use Rattle.call_keeps.proofs.Widths.{paid-capped}
 use Rattle.account_years.proofs.Walk.{Adding, add-begins, add-room, add-on, added}
 
 -- the most that a closing pays
 abbrev mostPaid : ℕ
 mostPaid = maxContribution + maxYearTicks
-
-pub balance-most : (bits : ℕ) → paidBalance bits ≤ maxContribution
-unfolding paidBalance
-balance-most bits = by-test (leb bits maxContribution) refl
-  where
-    by-test : (t : Bool) → leb bits maxContribution ≡ t → cond t bits 0 ≤ maxContribution
-    by-test true h = leb-true bits maxContribution h
-    by-test false h = omega arith
 
 record Few (p : Payments) : Type 0 where
   pub advances : p .advances .0 ≤ mostPaid
@@ -83,7 +76,7 @@ module _ (b : List ℕ) (f : Faultless b) where
   unfolding byClosing
   by-closing-few e is =
       let liquidation = closing-ranges b f e is .liquidation in
-      let balance = balance-most (closingIn (recordAt b e) .sums .balance .0) in
+      let balance = paid-capped (closingIn (recordAt b e) .sums .balance .0) in
       let held = closing-held e is in
       record { advances = omega arith; withheld = omega arith; paid = omega arith }
 

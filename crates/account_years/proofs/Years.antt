@@ -24,7 +24,7 @@ use Rattle.book_rules.proofs.Faultless.{sound-faultless}
 use Rattle.book_rules.specs.Chains.{entriesOf}
 use Rattle.chains.proofs.Ranges.{closing-ranges, user-years}
 use Rattle.account_years.specs.declared.Payments.{Payments}
-use Rattle.account_years.specs.History.{isClosingOf, closingAmong, closingOf, closingAfter, paymentsOf, creditOver, creditAfterYears, yearOf}
+use Rattle.account_years.specs.History.{isClosingOf, closingAmong, closingOf, closingAfter, paymentsOf, creditOver, creditAfterYears, closedYear}
 use Rattle.units.specs.InnerWithin.{NumberWithin}
 
 -- an activation year leaves room for every year after it
@@ -118,8 +118,8 @@ pub year-is : (b : List ℕ) (i n : ℕ) (year : ℕ) → year ≡ activationOf 
       lapsed = c .sums .lapsed;
       credit = credit;
     }
-    ≡ yearOf b i n
-unfolding yearOf
+    ≡ closedYear b i n
+unfolding closedYear
 year-is b i n year y entry e r there c read payments credit a k =
     let one : n + 1 ≡ suc n = omega arith in
     rw (a, k ∙ ap (λ m. ticks (creditAfterYears b i m)) one, read, there, e, y)

@@ -96,8 +96,8 @@ creditAfterYears b i (suc n) =
     (creditOver (closingIn (recordAt b (closingAfter b i n))) (creditAfterYears b i n))
 
 -- the year n years after the activation
-unfoldable pub yearOf : List ℕ → ℕ → ℕ → Year
-yearOf b i n =
+unfoldable pub closedYear : List ℕ → ℕ → ℕ → Year
+closedYear b i n =
     record {
       year = activationOf b i + n;
       option = closingIn (recordAt b (closingAfter b i n)) .option;

@@ -11,7 +11,7 @@ ghost use Rattle.book_records.specs.Records.{closingIn};
 ghost use Rattle.book_rules.specs.Book.{lengthFits, sound, isUser, isClosing};
 ghost use Rattle.units.specs.InnerWithin.{NumberWithin};
 ghost use Rattle.account_years.specs.History.{isClosingOf, closingOf, closingAfter, byAdvance, byClosing, paymentsBy, paymentsOf};
-ghost use Rattle.account_years.specs.History.{chargeOfOpen, chargeOfEach, chargesOf, creditOver, creditAfterYears, yearOf};
+ghost use Rattle.account_years.specs.History.{chargeOfOpen, chargeOfEach, chargesOf, creditOver, creditAfterYears, closedYear};
 use account_steps::Balance;
 use book_records::AdvanceRecord;
 use book_records::ClosingRecord;
@@ -65,7 +65,7 @@ fn is_closing_of(book: &[u8], entry: RecordIndex, year: u16) -> bool
 }
 
 // The closing of a year, 0 where there is none.
-pub fn closing_of(book: &[u8], user: RecordIndex, year: u16) -> RecordIndex
+fn closing_of_year(book: &[u8], user: RecordIndex, year: u16) -> RecordIndex
     requires { ⌜ lengthFits (now book) ≡ true ⌝ }
     requires { ⌜ sound (now book) ≡ true ⌝ }
     requires { ⌜ isUser (now book) (user .0) ≡ true ⌝ }
@@ -221,7 +221,7 @@ fn closing_after(book: &[u8], user: RecordIndex, n: u16) -> RecordIndex
     requires { ⌜ (isUser (now book) (user .0) ≡ true) × (n ≤ mostYears) ⌝ }
     ensures { λ r. ⌜ r ≡ recordIndex (closingAfter (now (book .entry)) (user .0) n) ⌝ }
 {
-    closing_of(book, user, book_view::activation_of(book, user) + n)
+    closing_of_year(book, user, book_view::activation_of(book, user) + n)
 }
 
 // The credit after a closing, from the credit before it.
@@ -269,11 +269,11 @@ fn credit_after_years(book: &[u8], user: RecordIndex, years: u16) -> Ticks
 }
 
 // The year n years after the activation.
-pub fn year_of(book: &[u8], user: RecordIndex, n: u16) -> Year
+pub fn closed_year(book: &[u8], user: RecordIndex, n: u16) -> Year
     requires { ⌜ lengthFits (now book) ≡ true ⌝ }
     requires { ⌜ sound (now book) ≡ true ⌝ }
     requires { ⌜ (isUser (now book) (user .0) ≡ true) × (n < mostYears) ⌝ }
-    ensures { λ r. ⌜ r ≡ yearOf (now (book .entry)) (user .0) n ⌝ }
+    ensures { λ r. ⌜ r ≡ closedYear (now (book .entry)) (user .0) n ⌝ }
 {
     let year = book_view::activation_of(book, user) + n;
     let closing = book_records::closing_of(book_layout::record(book, closing_after(book, user, n)));

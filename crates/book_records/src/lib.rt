@@ -63,7 +63,7 @@ fn read_details(r: &[u8]) -> Details
     }
 }
 
-fn charge_of(r: &[u8]) -> Charge
+fn read_charge(r: &[u8]) -> Charge
     ensures { λ c. ⌜ c ≡ accountIn (now (r .entry)) .charge ⌝ }
 {
     Charge {
@@ -87,7 +87,7 @@ fn account_of(r: &[u8]) -> Account
         later_advances: Ticks(codec::read_u64(r, place::LATER_ADVANCES)),
         half1: Kwh(codec::read_u32(r, place::HALF1)),
         half2: Kwh(codec::read_u32(r, place::HALF2)),
-        charge: charge_of(r),
+        charge: read_charge(r),
     }
 }
 

@@ -1,13 +1,13 @@
 -- A test that is made only where another one passes; and the tests of an entry by its owner's years.
-use Prim.Native.Nat.{ℕ, _<_}
+use Prim.Native.Nat.{ℕ, _≤_, _<_}
 use mathlib.Core.Path.{_≡_, refl, sym}
-use mathlib.Core.Bool.{Bool, true, false, _&&_, and-true, and-false}
+use mathlib.Core.Bool.{Bool, true, false, _&&_, _||_, and-true, and-false}
 use mathlib.Core.List.{List}
 use native.Mathlib.Decide.{decLt}
 use native.Mathlib.Omega.{arith}
-use borrow.Author.Tests.{eq-eqb, ne-eqb, le-leb, lt-leb}
+use borrow.Author.Tests.{eq-eqb, ne-eqb, eqb-false, le-leb, lt-leb, leb-false}
 use lib.Dec.{eqb, leb}
-use Rattle.units.proofs.Bools.{and-left, and-right}
+use Rattle.units.proofs.Bools.{and-left, and-right, or-left, or-right}
 use Rattle.account_steps.specs.declared.Account.{Account}
 use Rattle.book_layout.specs.Fields.{get, activationYearField, openYearField}
 use Rattle.book_records.specs.Records.{accountIn}
@@ -25,6 +25,12 @@ tested-between s u e p = let first = and-left s u e in rw first (tested (and-rig
 pub untested-between : (s t u : Bool) → (s && u) ≡ false → false ≡ (s && (t && u))
 untested-between true t u e = untested t e
 untested-between false t u e = refl
+
+-- an owner that is a record below the entry
+pub owner-below : (owner i : ℕ) → (eqb owner 0 || leb i owner) ≡ false → (1 ≤ owner) × (owner < i)
+owner-below owner i e =
+    let some = eqb-false owner 0 (or-left (eqb owner 0) (leb i owner) e) in
+    (omega (arith, some), leb-false i owner (or-right (eqb owner 0) (leb i owner) e))
 
 -- what is at most nothing is nothing
 pub none-is-zero : (n : ℕ) → eqb n 0 ≡ leb n 0

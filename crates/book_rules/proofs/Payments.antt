@@ -19,7 +19,7 @@ pub later-unpaid : (a : Account) → a .«later_runs» ≡ 0 → eqb (a .«later
 unfolding isMade laterHalf laterFits
 later-unpaid a e = rw e (none-is-zero (a .«later_advances» .0))
 
-uncharged : (a : Account) → a .charge .made ≡ 0 → a .charge .rest .0 ≡ 0 → chargeFits a ≡ true
+pub uncharged : (a : Account) → a .charge .made ≡ 0 → a .charge .rest .0 ≡ 0 → chargeFits a ≡ true
 unfolding chargeFits
 uncharged a made rest = rw (made, rest) (le-leb 0 (maxCharge * (spanOf a (a .«open_year») + 0)) (omega arith))
 

@@ -11,7 +11,7 @@ use Rattle.units.proofs.Bools.{and-left, and-right}
 use Rattle.units.specs.declared.RecordIndex.{RecordIndex}
 use Rattle.units.specs.Units.{recordIndex}
 use Rattle.units.specs.Limits.{lastActivation}
-use Rattle.sheet.specs.YearSheet.{sheetUser, sheetYear, refused11, nowhere, Tells, Passed}
+use Rattle.sheet.specs.YearSheet.{sheetUser, sheetYear, refused11, nowhere, Tells, SheetPassed}
 use Rattle.sheet.specs.declared.Position.{Position}
 use Rattle.sheet.proofs.Faults.{untold-before}
 use Rattle.sheet_values.specs.declared.YearValues.{YearValues}
@@ -123,7 +123,7 @@ module _ (b s : List ℕ) where
           account-fits : accountFits account ≡ true
           account-fits = rw account-is (sound-faultless b (a .fits) (a .isSound) .user (findUser b n) is-user .fits)
 
-          pub passed : Passed s
+          pub passed : SheetPassed s
           passed = sheet-passed b s none-refused
 
           module _ (v : YearValues) (worked : ValuesWorked s (account .details) v) where

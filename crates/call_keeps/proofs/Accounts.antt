@@ -22,6 +22,7 @@ use Rattle.account_steps.proofs.TwoYears.{joined, joinedLater, runs-open, advan
 use Rattle.book_rules.specs.Book.{detailsFit, openYearFits, halvesOf, isMade, runMade, dueIfMade, runsFit, halvesMade, advancesFit, laterHalf, laterFits, chargeFits, creditFits, halvesFit}
 use Rattle.book_rules.specs.Book.{accountFits, isRun}
 use Rattle.call_rules.specs.Changes.{newAccount}
+use Rattle.book_rules.proofs.Payments.{uncharged}
 use Rattle.call_keeps.proofs.Ranges.{conjuncts, account-good, account-fits, details-within}
 use Rattle.call_keeps.proofs.Widths.{AccountWithin, account-within}
 use Rattle.call_keeps.proofs.Runs.{Run, June, October, January, is-run, other-year, bits-below, bit-joins}
@@ -46,12 +47,6 @@ no-credit : (a : Account) → a .credit .0 ≡ 0 → creditFits a ≡ true
 unfolding creditFits
 no-credit a e = le-leb (a .credit .0) (maxYearTicks * (a .«open_year» - a .details .year)) (omega arith)
 
-no-charge : (a : Account) → a .charge .made ≡ 0 → a .charge .rest .0 ≡ 0 → chargeFits a ≡ true
-unfolding chargeFits
-no-charge a e none =
-    and-both (le-leb (a .charge .made) 1 (omega arith))
-    (le-leb (a .charge .rest .0) (maxCharge * (a .«open_year» - a .details .year + a .charge .made)) (omega arith))
-
 -- a new user has no sums and no runs
 pub new-account-fits : (number : ℕ) (d : Details) (option : ℕ) → not (eqb number 0) ≡ true → detailsFit d option ≡ true
     → accountFits (newAccount number d option) ≡ true
@@ -66,7 +61,7 @@ new-account-fits number d option some fits =
       runs = no-runs (newAccount number d option) refl;
       advances = no-advances (newAccount number d option) refl;
       later = no-later (newAccount number d option) refl refl;
-      charge = no-charge (newAccount number d option) refl refl;
+      charge = uncharged (newAccount number d option) refl refl;
       credit = no-credit (newAccount number d option) refl;
       halves = refl;
     })

@@ -24,7 +24,6 @@ use Rattle.account_steps.specs.Charges.{withheldFrom, accountWithheld}
 use Rattle.account_steps.proofs.Charges.{withheld-paid}
 use Rattle.book_records.specs.Entries.{advanceEntry, advanceRecord}
 use Rattle.call_keeps.proofs.Changes.{Joins, an-advance}
-use Rattle.units.specs.Units.{ticks}
 
 -- each half pays at most its most, and so does the run
 amount-at-most : (h : Halves) (price h₁ h₂ : ℕ) → price ≤ maxPrice → h₁ ≤ maxHalfKwh → h₂ ≤ maxHalfKwh → amountOf h price h₁ h₂ ≤ maxHalfTicks * halvesCount h

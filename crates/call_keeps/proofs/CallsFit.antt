@@ -9,7 +9,7 @@ use lib.Dec.{eqb, leb}
 use Rattle.units.specs.Limits.{lastActivation}
 use Rattle.units.proofs.Bools.{and-left, and-right}
 use Rattle.calendar.specs.ElectionAndAdvances.{isDay}
-use Rattle.sheet.specs.YearSheet.{sheetUser, sheetYear, refused11, refused13, refused19, Passed}
+use Rattle.sheet.specs.YearSheet.{sheetUser, sheetYear, refused11, refused13, refused19, SheetPassed}
 use Rattle.sheet_values.specs.declared.Details.{Details}
 use Rattle.sheet_values.specs.YearsValues.{yearValues}
 use Rattle.account_steps.specs.declared.Account.{Account}
@@ -64,7 +64,7 @@ uncharged : (a : Account) → chargeOpen a ≡ true → a .charge .made ≡ 0
 unfolding chargeOpen
 uncharged a h = eqb-true (a .charge .made) 0 (and-left (eqb (a .charge .made) 0) (leb (a .«open_year») lastActivation) h)
 
-pub sheet-passed : (b s : List ℕ) → refusalOf b (close s) ≡ 0 → Passed s
+pub sheet-passed : (b s : List ℕ) → refusalOf b (close s) ≡ 0 → SheetPassed s
 unfolding testOf rulesOf lookAt namedBy
 sheet-passed b s h =
     let accepted = fact b (close s) h in record { past11 = not-true (refused11 s) (accepted 11); past13 = (not-true (refused13 s) (accepted 13), not-true (refused19 s) (accepted 19)) }

@@ -141,7 +141,7 @@ advance-widths owner x account h next own =
     run-below October = omega arith
     run-below January = omega arith
 
-paid-capped : (bits : ℕ) → paidBalance bits ≤ maxContribution
+pub paid-capped : (bits : ℕ) → paidBalance bits ≤ maxContribution
 unfolding paidBalance
 paid-capped bits = by-size (leb bits maxContribution) refl
   where

@@ -15,7 +15,7 @@ use Rattle.units.proofs.Folds.{sum-capped}
 use Rattle.units.proofs.Products.{product-capped}
 use Rattle.tariff.specs.Tariff.{domestic, tiers, annualTiers, monthlyTiers, monthlyMethod, tierSum, flatRateOf}
 use Rattle.tariff.proofs.Tiers.{tiers-sum, first-tier-sum}
-use Rattle.sheet.specs.YearSheet.{Passed, withdrawnReading, injectedReading, byBands, word, monthWithdrawn}
+use Rattle.sheet.specs.YearSheet.{SheetPassed, withdrawnReading, injectedReading, byBands, word, monthWithdrawn}
 use Rattle.sheet.proofs.Limits.{passed-energy, passed-price}
 use Rattle.sheet_prices.specs.ValueAndCost.{bandPrice, singlePrice, costIn, costOf, valueIn, valueOf}
 use Rattle.sheet_prices.proofs.SheetRows.{band-price-fits, single-price-fits}
@@ -41,25 +41,25 @@ month-capped : (bands : Bool) (f : ℕ → ℕ) (single : ℕ) → ((b : ℕ) �
     → cond bands (sumBelow 3 f) single ≤ maxMonthTicks
 month-capped bands f single h k = cond-capped bands (sum-capped 3 maxBandTicks f h) (omega (arith, k))
 
-cost-month : (s : List ℕ) → Passed s → (m : ℕ) → m < 12 → costIn s m ≤ maxMonthTicks
+cost-month : (s : List ℕ) → SheetPassed s → (m : ℕ) → m < 12 → costIn s m ≤ maxMonthTicks
 unfolding costIn
 cost-month s h m l =
     month-capped (byBands (withdrawnReading s)) (λ b. word s m b * word s m (6 + b)) (word s m 0 * word s m 9)
     (λ b k. amount-fits (passed-energy s (h .past13) m b l (omega arith)) (passed-price s (h .past13) m (6 + b) l (omega arith) (omega arith)))
     (amount-fits (passed-energy s (h .past13) m 0 l (lit< tt)) (passed-price s (h .past13) m 9 l (lit≤ tt) (lit< tt)))
 
-value-month : (s : List ℕ) → Passed s → (island photovoltaic : Bool) (m : ℕ) → m < 12 → valueIn s island photovoltaic m ≤ maxMonthTicks
+value-month : (s : List ℕ) → SheetPassed s → (island photovoltaic : Bool) (m : ℕ) → m < 12 → valueIn s island photovoltaic m ≤ maxMonthTicks
 unfolding valueIn
 value-month s h island photovoltaic m l =
     month-capped (byBands (injectedReading s)) (λ b. word s m (3 + b) * bandPrice s island m b) (word s m 3 * singlePrice s island photovoltaic m)
     (λ b k. amount-fits (passed-energy s (h .past13) m (3 + b) l (omega arith)) (band-price-fits s h island m b l k))
     (amount-fits (passed-energy s (h .past13) m 3 l (lit< tt)) (single-price-fits s h island photovoltaic m l))
 
-cost-capped : (s : List ℕ) → Passed s → costOf s ≤ maxYearTicks
+cost-capped : (s : List ℕ) → SheetPassed s → costOf s ≤ maxYearTicks
 unfolding costOf
 cost-capped s h = sum-capped 12 maxMonthTicks (costIn s) (cost-month s h)
 
-value-capped : (s : List ℕ) → Passed s → (island photovoltaic : Bool) → valueOf s island photovoltaic ≤ maxYearTicks
+value-capped : (s : List ℕ) → SheetPassed s → (island photovoltaic : Bool) → valueOf s island photovoltaic ≤ maxYearTicks
 unfolding valueOf
 value-capped s h island photovoltaic =
     sum-capped 12 maxMonthTicks (valueIn s island photovoltaic) (value-month s h island photovoltaic)
@@ -90,7 +90,7 @@ exchanged-year-within : (s : List ℕ) → exchangedOver s 0 12 ≤ withdrawnOve
 unfolding exchangedOver
 exchanged-year-within s = omega arith
 
-annual-flat-capped : (s : List ℕ) → Passed s → (class plant power : ℕ) → annualFlatRate s 0 12 class plant power ≤ maxFlatRate
+annual-flat-capped : (s : List ℕ) → SheetPassed s → (class plant power : ℕ) → annualFlatRate s 0 12 class plant power ≤ maxFlatRate
 unfolding annualFlatRate annualRate
 annual-flat-capped s h class plant power =
     let parts = annualTiers class (withdrawnOver s 0 12) (exchangedOver s 0 12) in
@@ -98,7 +98,7 @@ annual-flat-capped s h class plant power =
     let rates = tiers-capped parts (annualRate s plant power 0 12) (λ t l. annual-rate-capped s h plant power 0 12 t (lit< tt) (lit≤ tt) l) in
     omega (arith, sum, rates, exchanged-year-within s, sheets-bounded s (h .past13) .year-withdrawn)
 
-month-flat-capped : (s : List ℕ) → Passed s → (plant power m : ℕ) → m < 12 → monthFlatRate s plant power m ≤ maxTierRate * (3 * maxKwh)
+month-flat-capped : (s : List ℕ) → SheetPassed s → (plant power m : ℕ) → m < 12 → monthFlatRate s plant power m ≤ maxTierRate * (3 * maxKwh)
 unfolding monthFlatRate monthRate
 month-flat-capped s h plant power m l =
     let parts = monthlyTiers (monthWithdrawn s m) (monthExchanged s m) in
@@ -106,7 +106,7 @@ month-flat-capped s h plant power m l =
     let rates = tiers-capped parts (monthRate s plant power m) (λ t k. month-rate-capped s h plant power m t l k) in
     omega (arith, sum, rates, exchanged-capped s h m l)
 
-flat-rate-capped : (s : List ℕ) → Passed s → (class plant power : ℕ) → flatRateOver s 0 12 class plant power ≤ maxFlatRate
+flat-rate-capped : (s : List ℕ) → SheetPassed s → (class plant power : ℕ) → flatRateOver s 0 12 class plant power ≤ maxFlatRate
 unfolding flatRateOver
 flat-rate-capped s h class plant power =
     cond-capped (monthlyMethod class (someMonthAbove s 0 12))
@@ -115,12 +115,12 @@ flat-rate-capped s h class plant power =
     (annual-flat-capped s h class plant power)
 
 -- the halves: six months each
-half-capped : (s : List ℕ) → Passed s → (half : ℕ) → half < 2 → halfOf s half ≤ maxHalfKwh
+half-capped : (s : List ℕ) → SheetPassed s → (half : ℕ) → half < 2 → halfOf s half ≤ maxHalfKwh
 unfolding halfOf
 half-capped s h half l =
     sum-capped 6 (3 * maxKwh) (λ i. monthExchanged s (6 * half + i)) (λ i k. exchanged-capped s h (6 * half + i) (omega arith))
 
-pub values-fit : (s : List ℕ) → Passed s → (d : Details) → ValuesFit (yearValues s d)
+pub values-fit : (s : List ℕ) → SheetPassed s → (d : Details) → ValuesFit (yearValues s d)
 unfolding yearValues
 values-fit s h d =
     record {

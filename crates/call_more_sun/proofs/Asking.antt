@@ -8,7 +8,7 @@ use borrow.Author.Tests.{eq-eqb, ne-eqb, not-true}
 use Rattle.units.specs.declared.RecordIndex.{RecordIndex}
 use Rattle.units.specs.Units.{recordIndex}
 use Rattle.sheet.specs.declared.Position.{Position}
-use Rattle.sheet.specs.YearSheet.{sheetUser, refused11, refused13, refused19, nowhere, Tells, Passed}
+use Rattle.sheet.specs.YearSheet.{sheetUser, refused11, refused13, refused19, nowhere, Tells, SheetPassed}
 use Rattle.sheet.proofs.Faults.{untold-before}
 use Rattle.account_steps.specs.declared.Account.{Account}
 use Rattle.book_rules.specs.Book.{accountAt}
@@ -87,7 +87,7 @@ module _ (b s : List ℕ) (month band : ℕ) where
             unfolding testOf
             field-met = met 23
 
-            pub passed : Passed s
+            pub passed : SheetPassed s
             unfolding testOf
             passed = record { past11 = right; past13 = (not-true (refused13 s) (met 13), not-true (refused19 s) (met 19)) }
 

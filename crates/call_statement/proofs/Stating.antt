@@ -21,11 +21,11 @@ use Rattle.call_answers.specs.declared.Reply.{Reply}
 use Rattle.call_answers.specs.Answers.{Answered}
 use Rattle.call_answers.specs.Replies.{refusedWith}
 use Rattle.call_answers.proofs.Answers.{refused-absent, accepted}
-use Rattle.call_statement.specs.Stated.{noSums, sumsStated}
+use Rattle.call_statement.specs.Stated.{noStatement, sumsStated}
 
 module _ (b : List ℕ) (n : ℕ) where
   -- beside a refusal there are no sums
-  pub leaves : (reply : Reply) → (reply .refusal ≡ 0 → ⊥) → Answered b (statement n) 0 (reply .refusal) (reply .«record» .0) b → (s : Sums) → s ≡ noSums
+  pub leaves : (reply : Reply) → (reply .refusal ≡ 0 → ⊥) → Answered b (statement n) 0 (reply .refusal) (reply .«record» .0) b → (s : Sums) → s ≡ noStatement
       → Answered b (statement n) 0 (reply .refusal) (reply .«record» .0) b × (s ≡ sumsStated b n (reply .refusal))
   unfolding sumsStated
   leaves reply some said s e = (said, e ∙ rw (ne-eqb (reply .refusal) 0 some))

@@ -11,8 +11,8 @@ use Rattle.book_rules.specs.Find.{findUser}
 use Rattle.statements.specs.declared.Sums.{Sums}
 use Rattle.statements.specs.InnerWalk.{sumsOf}
 
-unfoldable pub noSums : Sums
-noSums =
+unfoldable pub noStatement : Sums
+noStatement =
     record {
       «open_year» = 0;
       credit = ticks 0;
@@ -28,4 +28,4 @@ noSums =
     }
 
 unfoldable pub sumsStated : List ℕ → ℕ → ℕ → Sums
-sumsStated b number refusal = cond (eqb refusal 0) (sumsOf (statementAt b (findUser b number))) noSums
+sumsStated b number refusal = cond (eqb refusal 0) (sumsOf (statementAt b (findUser b number))) noStatement

@@ -2,7 +2,7 @@
 ghost use mathlib.Core.Path.{_≡_};
 ghost use Rattle.call_rules.specs.Calls.{statement};
 ghost use Rattle.call_answers.specs.Answers.{Answered};
-ghost use Rattle.call_statement.specs.Stated.{noSums, sumsStated};
+ghost use Rattle.call_statement.specs.Stated.{noStatement, sumsStated};
 use account_steps::Balance;
 use call_answers::Reply;
 use statements::Sums;
@@ -15,8 +15,8 @@ pub struct Stated {
     pub sums: Sums,
 }
 
-fn no_sums() -> Sums
-    ensures { λ r. ⌜ r ≡ noSums ⌝ }
+fn no_statement() -> Sums
+    ensures { λ r. ⌜ r ≡ noStatement ⌝ }
 {
     Sums {
         open_year: 0,
@@ -43,14 +43,14 @@ pub fn statement(book: &[u8], number: UserNumber) -> Stated
     if reply.refusal != 0 {
         return Stated {
             reply,
-            sums: no_sums(),
+            sums: no_statement(),
         };
     }
     let user = looked.user;
     if user.0 == 0 {
         return Stated {
             reply: call_answers::refused(6),
-            sums: no_sums(),
+            sums: no_statement(),
         };
     }
     let reply = Reply {

@@ -45,10 +45,10 @@ fn is_new(book: &[u8], user: RecordIndex, known: bool) -> bool
 // that is faulty, or not before `bad`; the users are left at one that is faulty, or at `bad`: whatever stands before it was looked
 // at, since the owner of an entry stands before the entry. Each record is looked at once: the entries of a user are linked
 // beforehand, and its number is new where a table of the numbers of all users before it takes it in. An entry has no number.
-fn faulty_record(book: &[u8], broken: u32) -> RecordIndex
+fn faulty_record(book: &[u8], broken: RecordIndex) -> RecordIndex
     requires { ⌜ lengthFits (now book) ≡ true ⌝ }
     requires { ⌜ usedFits (now book) ≡ true ⌝ }
-    requires { ⌜ Broken (now book) broken ⌝ }
+    requires { ⌜ Broken (now book) (broken .0) ⌝ }
     ensures { λ r. ⌜ RecordsJudged (now (book .entry)) (r .0) ⌝ }
 {
     let counts = check_pointers::counts(book);
@@ -56,7 +56,7 @@ fn faulty_record(book: &[u8], broken: u32) -> RecordIndex
     let records = used(book);
     let mut seen = [0u32; PLACES];
     let mut all_seen = true;
-    let mut bad = broken;
+    let mut bad = broken.0;
     'users: for i in 1..records {
         if i == bad {
             break 'users;
@@ -70,13 +70,15 @@ fn faulty_record(book: &[u8], broken: u32) -> RecordIndex
                 bad = i;
                 break 'users;
             }
-            let mut e = entries.first[i as usize];
+            let first = entries.first[i as usize];
+            let mut e = first.0;
             'entries: while (e != 0) & (e < bad) {
                 if !check_rules::good_record(book, RecordIndex(e), counts[e as usize], true) {
                     bad = e;
                     break 'entries;
                 }
-                e = entries.later[e as usize];
+                let later = entries.later[e as usize];
+                e = later.0;
             }
         } else {
             if !owned(book, home) {
@@ -96,7 +98,7 @@ fn judge(book: &[u8], number: UserNumber, broken: RecordIndex) -> Verdict
     requires { ⌜ Broken (now book) (broken .0) ⌝ }
     ensures { λ r. ⌜ BookJudged (now (book .entry)) (number .0) r ⌝ }
 {
-    let bad = faulty_record(book, broken.0);
+    let bad = faulty_record(book, broken);
     if bad.0 < used(book) {
         return Verdict::Faulty(bad);
     }

@@ -14,7 +14,7 @@ use Rattle.book_rules.specs.Book.{used, kindAt, isUser, isEntry, ownerOf, nextO
 use Rattle.book_rules.specs.Book.{entryNextFits, nextInOrder}
 use Rattle.book_rules.proofs.RecordKinds.{kind-from-one, kind-below, not-both}
 use Rattle.book_rules.proofs.Levels.{entry-in-order}
-use Rattle.check_descent.specs.InnerDescent.{met, dueEntry, dueYear, MetUser, MetEntry, Passed}
+use Rattle.check_descent.specs.InnerDescent.{met, dueEntry, dueYear, MetUser, MetEntry, AllMet}
 use Rattle.check_descent.proofs.Steps.{met-at, user-keeps-entry, user-keeps-year, entry-moves, entry-moves-year, entry-keeps-other, entry-keeps-year}
 use Rattle.check_descent.proofs.Users.{user-met}
 
@@ -45,7 +45,7 @@ abbrev Due : List ℕ → ℕ → ℕ → ℕ → Type 0
 Due b o n d = Leads b o n (dueYear b o d) (dueEntry b o d)
 
 -- the chain of the user o
-module _ (b : List ℕ) (p : Passed b) (o : ℕ) (user : isUser b o ≡ true) where
+module _ (b : List ℕ) (p : AllMet b) (o : ℕ) (user : isUser b o ≡ true) where
   not-met-as-entry : (d : ℕ) → MetEntry b d → met b d ≡ o → ⊥
   not-met-as-entry d m e = not-both b (met b d) (rw e user) (m .entry)
 
@@ -121,7 +121,7 @@ module _ (b : List ℕ) (p : Passed b) (o : ℕ) (user : isUser b o ≡ true) wh
   first-in-order = leads-in-order b o (used b) (openYearOf b o) (firstEntryOf b o) leads-from-first
 
 -- the entry i
-module _ (b : List ℕ) (p : Passed b) (i d : ℕ) (e : i + suc d ≡ used b) (lo : 1 ≤ i) (m : MetEntry b d) where
+module _ (b : List ℕ) (p : AllMet b) (i d : ℕ) (e : i + suc d ≡ used b) (lo : 1 ≤ i) (m : MetEntry b d) where
   here : met b d ≡ i
   here = met-at b i d e
 

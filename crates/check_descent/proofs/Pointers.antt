@@ -17,7 +17,7 @@ use Rattle.book_rules.proofs.RecordKinds.{kind-from-one, kind-below, kind-is, e
 use Rattle.check_pointers.specs.InnerPointers.{nextPointer, firstPointer}
 use Rattle.book_rules.proofs.Hits.{hits-same, hits-other}
 use Rattle.check_pointers.proofs.Tallies.{tally-all}
-use Rattle.check_descent.specs.InnerDescent.{met, dueUser, dueEntry, MetUser, MetEntry, Passed}
+use Rattle.check_descent.specs.InnerDescent.{met, dueUser, dueEntry, MetUser, MetEntry, AllMet}
 use Rattle.check_descent.proofs.Steps.{met-at, user-moves, user-keeps-entry, entry-keeps-user, entry-moves, entry-keeps-other}
 use Rattle.check_descent.proofs.Entries.{entry-ended}
 
@@ -59,7 +59,7 @@ pending-first : (b : List ℕ) (k o : ℕ) → o < used b → pending b k 0 o �
 unfolding firstPointer hasKind dueEntry
 pending-first b k o l = rw (lt-ltb o (used b) l, and-true (ltb 0 o))
 
-module _ (b : List ℕ) (p : Passed b) (k : ℕ) (lo : 1 ≤ k) where
+module _ (b : List ℕ) (p : AllMet b) (k : ℕ) (lo : 1 ≤ k) where
   -- the record n is met after d others
   taken : (n d : ℕ) → n + suc d ≡ used b → 1 ≤ n → dueAt b k d + held b k n ≡ dueAt b k (suc d) + hits n k
   taken n d e lo′ = by-record (p .each d (omega arith))

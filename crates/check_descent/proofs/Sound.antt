@@ -11,13 +11,13 @@ use Rattle.book_layout.specs.Fields.{userKind}
 use Rattle.book_rules.specs.Book.{used, kindAt, isUser, isEntry, rangesFit, zeroBytesFit, linksFit, goodRecord, goodHead, sound}
 use Rattle.book_rules.proofs.Faults.{used-within, good-sound}
 use Rattle.book_rules.proofs.RecordKinds.{kind-is, entry-no-user}
-use Rattle.check_descent.specs.InnerDescent.{met, MetUser, MetEntry, Passed}
+use Rattle.check_descent.specs.InnerDescent.{met, MetUser, MetEntry, AllMet}
 use Rattle.check_descent.proofs.Steps.{met-at}
 use Rattle.check_descent.proofs.Users.{first-user-fits, user-next-fits, number-new}
 use Rattle.check_descent.proofs.Entries.{first-entry-fits, first-in-order, owner-fits, entry-next-fits, next-in-order}
 use Rattle.check_descent.proofs.Pointers.{pointed-once}
 
-module _ (b : List ℕ) (p : Passed b) where
+module _ (b : List ℕ) (p : AllMet b) where
   head-good : goodHead b ≡ true
   unfolding goodHead
   head-good = and-both (first-user-fits b p (used-within b (p .used-fits) .0)) (p .rest)
@@ -54,5 +54,5 @@ module _ (b : List ℕ) (p : Passed b) where
         by-record (inl m) = good (m .ranges) (m .zero-bytes) (user-links d place m (rw here at (m .user)))
         by-record (inr m) = good (m .ranges) (m .zero-bytes) (entry-links d place m (rw here at (m .entry)))
 
-pub passed-sound : (b : List ℕ) → Passed b → sound b ≡ true
+pub passed-sound : (b : List ℕ) → AllMet b → sound b ≡ true
 passed-sound b p = good-sound b (p .used-fits) (head-good b p) (record-good b p)

@@ -14,7 +14,7 @@ use Rattle.units.proofs.Folds.{none-of}
 use Rattle.book_layout.specs.Fields.{userKind}
 use Rattle.book_rules.specs.Book.{used, firstUser, isUser, nextOf, numberOf, userNextFits, numberIsNew}
 use Rattle.book_rules.proofs.RecordKinds.{kind-from-one, not-both}
-use Rattle.check_descent.specs.InnerDescent.{met, dueUser, MetUser, MetEntry, Passed}
+use Rattle.check_descent.specs.InnerDescent.{met, dueUser, MetUser, MetEntry, AllMet}
 use Rattle.check_descent.proofs.Steps.{met-at, fails, user-moves, entry-keeps-user}
 
 -- the end of the users' chain, or a user below n
@@ -25,7 +25,7 @@ user-below-more : (b : List ℕ) (n i : ℕ) → UserBelow b n i → UserBelow b
 user-below-more b n i (inl e) = inl e
 user-below-more b n i (inr u) = inr (u .0, omega arith)
 
-module _ (b : List ℕ) (p : Passed b) where
+module _ (b : List ℕ) (p : AllMet b) where
   -- a user is met as one
   pub user-met : (d : ℕ) → d + 1 < used b → isUser b (met b d) ≡ true → MetUser b d
   user-met d l u = by-kind (p .each d l)

@@ -48,7 +48,7 @@ pub record MetEntry (b : List ℕ) (d : ℕ) : Type 0 where
   pub year : levelOf b (met b d) + yearsEnded (kindAt b (met b d)) ≡ dueYear b (ownerOf b (met b d)) d
 
 -- every record but the head was met, and the users' chain has ended
-pub record Passed (b : List ℕ) : Type 0 where
+pub record AllMet (b : List ℕ) : Type 0 where
   pub used-fits : usedFits b ≡ true
   pub rest : allZero unnamedOfHead (recordAt b 0) ≡ true
   pub each : (d : ℕ) → d + 1 < used b → MetUser b d ⊎ MetEntry b d

@@ -4,16 +4,16 @@ use mathlib.Core.Path.{_≡_, sym}
 use native.Mathlib.Nat.{mod-eq-of-lt, mod-add-mod, add-zero, add-assoc, mul-lt-mul-of-pos-right}
 use native.Mathlib.Numerals.{add-one}
 use native.Mathlib.Omega.{arith}
-use Rattle.check_numbers.specs.InnerHeld.{word, runLength, remixed, mixed, startOf, place, probe}
+use Rattle.check_numbers.specs.InnerHeld.{wordSize, runLength, remixed, mixed, startOf, place, probe}
 
 pub mixed-next : (n r : ℕ) → mixed n (r + 1) ≡ remixed (mixed n r)
 unfolding mixed
 mixed-next n r = rw add-one
 
-pub start-inside : (places : ℕ) {m : ℕ} → 0 < places → m < word → startOf places m < places
+pub start-inside : (places : ℕ) {m : ℕ} → 0 < places → m < wordSize → startOf places m < places
 unfolding startOf
 start-inside places some small =
-    let starts : 0 < min places word = omega arith in
+    let starts : 0 < min places wordSize = omega arith in
     omega (arith, mul-lt-mul-of-pos-right small starts)
 
 module _ (places n r : ℕ) where

@@ -11,8 +11,8 @@ abbrev pub places : ℕ
 places = 2048
 
 -- 2^32, and its golden section
-abbrev pub word : ℕ
-word = 4294967296
+abbrev pub wordSize : ℕ
+wordSize = 4294967296
 
 abbrev pub golden : ℕ
 golden = 2654435769
@@ -22,7 +22,7 @@ abbrev pub runLength : ℕ
 runLength = 4
 
 unfoldable pub remixed : ℕ → ℕ
-remixed m = (m * golden + 1) % word
+remixed m = (m * golden + 1) % wordSize
 
 -- the number, mixed r times
 unfoldable pub mixed : ℕ → ℕ → ℕ
@@ -31,7 +31,7 @@ mixed n (suc r) = remixed (mixed n r)
 
 -- the place as far along the table as a mixed number is along 2^32
 unfoldable pub startOf : ℕ → ℕ → ℕ
-startOf places m = m * min places word / word
+startOf places m = m * min places wordSize / wordSize
 
 -- a place of run r, which starts from the number mixed r + 1 times; after the last place of the table comes the first
 unfoldable pub place : ℕ → ℕ → ℕ → ℕ → ℕ

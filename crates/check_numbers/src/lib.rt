@@ -10,12 +10,12 @@ use units::UserNumber;
 pub const PLACES: usize = 2048;
 
 // The places that are tried for a number: at most 512 runs of 4 neighbours.
-const RUNS: usize = 512;
+const MOST_RUNS: usize = 512;
 
 const RUN_LENGTH: usize = 4;
 
 // 2^32, and its golden section: numbers that follow one another fall far apart.
-const WORD: usize = 4_294_967_296;
+const WORD_SIZE: usize = 4_294_967_296;
 
 const GOLDEN: usize = 2_654_435_769;
 
@@ -24,7 +24,7 @@ const GOLDEN: usize = 2_654_435_769;
 fn remix(mixed: u32) -> u32
     ensures { λ r. ⌜ r ≡ remixed mixed ⌝ }
 {
-    ((mixed as usize * GOLDEN + 1) % WORD) as u32
+    ((mixed as usize * GOLDEN + 1) % WORD_SIZE) as u32
 }
 
 // As far along the table as the mixed number is along 2^32. The product fits: no place from 2^32 on is a start.
@@ -32,8 +32,12 @@ fn start_of(places: usize, mixed: u32) -> usize
     requires { ⌜ 0 < places ⌝ }
     ensures { λ r. ⌜ PlaceIs (startOf places mixed) places r ⌝ }
 {
-    let starts = if places < WORD { places } else { WORD };
-    mixed as usize * starts / WORD
+    let starts = if places < WORD_SIZE {
+        places
+    } else {
+        WORD_SIZE
+    };
+    mixed as usize * starts / WORD_SIZE
 }
 
 // After the last place comes the first.
@@ -52,7 +56,7 @@ pub fn insert(table: &mut [u32], number: UserNumber) -> bool
 {
     let mut mixed = number.0;
     let mut run = 0;
-    while run < RUNS {
+    while run < MOST_RUNS {
         mixed = remix(mixed);
         let mut at = start_of(table.len(), mixed);
         let mut step = 0;

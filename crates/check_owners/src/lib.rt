@@ -7,11 +7,12 @@ ghost use Rattle.book_rules.specs.Book.{used, usedFits};
 ghost use Rattle.units.specs.Limits.{mostRecords};
 ghost use Rattle.check_owners.specs.InnerOwners.{Linked};
 use units::MOST_RECORDS;
+use units::RecordIndex;
 
 // The first entry of each owner, and of each entry the next one that has the same owner; 0 for none.
 pub struct Entries {
-    pub first: [u32; MOST_RECORDS],
-    pub later: [u32; MOST_RECORDS],
+    pub first: [RecordIndex; MOST_RECORDS],
+    pub later: [RecordIndex; MOST_RECORDS],
 }
 
 // The records but the head are passed from the last one down, and each is read once. An entry whose owner is no record of the book
@@ -21,8 +22,8 @@ pub fn by_owner(book: &[u8]) -> Entries
     requires { ⌜ usedFits (now book) ≡ true ⌝ }
     ensures { λ r. ⌜ Linked (now (book .entry)) r ⌝ }
 {
-    let mut first = [0u32; MOST_RECORDS];
-    let mut later = [0u32; MOST_RECORDS];
+    let mut first = [RecordIndex(0); MOST_RECORDS];
+    let mut later = [RecordIndex(0); MOST_RECORDS];
     let records = book_view::used(book);
     let mut left = records;
     while 1 < left {
@@ -31,7 +32,7 @@ pub fn by_owner(book: &[u8]) -> Entries
         let owner = book_layout::owner_of(r).0;
         if book_rules::is_entry_kind(book_layout::kind_of(r)) & (owner < records) {
             later[e as usize] = first[owner as usize];
-            first[owner as usize] = e;
+            first[owner as usize] = RecordIndex(e);
         }
         left = e;
     }

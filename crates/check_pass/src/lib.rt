@@ -119,10 +119,15 @@ fn entry_leads(r: &[u8], owner: &[u8], index: RecordIndex, state: State) -> bool
 
 // The record of the user that is looked for: the last that is met with the number. Where the chains lead to all records there is
 // one at most.
-fn last_met(found: u32, index: RecordIndex, number: UserNumber, wanted: UserNumber) -> u32
-    ensures { λ r. ⌜ r ≡ lastMet found (index .0) (number .0) (wanted .0) ⌝ }
+fn last_met(
+    found: RecordIndex,
+    index: RecordIndex,
+    number: UserNumber,
+    wanted: UserNumber,
+) -> RecordIndex
+    ensures { λ r. ⌜ r .0 ≡ lastMet (found .0) (index .0) (number .0) (wanted .0) ⌝ }
 {
-    if number.0 == wanted.0 { index.0 } else { found }
+    if number.0 == wanted.0 { index } else { found }
 }
 
 // The chains are followed from the last record.
@@ -153,7 +158,7 @@ fn pass_over(
 {
     let records = book_view::used(book);
     let mut broken = records;
-    let mut found: u32 = 0;
+    let mut found = RecordIndex(0);
     let mut expected = book_view::first_user(book).0;
     let mut left = top(chained, records, below);
     while 1 < left {
@@ -210,7 +215,7 @@ fn pass_over(
     Passed {
         broken: RecordIndex(broken),
         joined: chained & (expected == 0),
-        user: RecordIndex(found),
+        user: found,
     }
 }
 

@@ -5,9 +5,9 @@ use mathlib.Core.Bool.{Bool, true, false, _&&_, _||_, and-false, and-true}
 use mathlib.Core.List.{List}
 use mathlib.Core.Logic.{⊎-elim}
 use native.Mathlib.Omega.{arith}
-use borrow.Author.Tests.{ne-eqb, eqb-true, eqb-false, leb-true, leb-false, lt-ltb, le-ltb}
+use borrow.Author.Tests.{ne-eqb, eqb-true, leb-true, lt-ltb, le-ltb}
 use lib.Dec.{eqb, leb, ltb}
-use Rattle.units.proofs.Bools.{or-left, or-right, or-cases}
+use Rattle.units.proofs.Bools.{or-cases}
 use Rattle.book_layout.specs.Fields.{get, recordAt, kindField, nextField, ownerField, activationYearField, userKind, advanceKind, closingKind}
 use Rattle.book_rules.specs.Book.{used, kindAt, hasKind, isUser, isAdvance, isClosing, entryKind, isEntry, ownerOf, nextOf, activationOf, levelIn, levelOf, ownerFits, entryNextFits, inOrder}
 use Rattle.book_rules.specs.Book.{nextInOrder}
@@ -16,12 +16,6 @@ use Rattle.check_rules.specs.InnerFollows.{followsEntry}
 
 abbrev pub linked : List ℕ → ℕ → Bool
 linked b i = (ownerFits b i && entryNextFits b i) && nextInOrder b i
-
--- an owner that is a record below the entry
-pub below : (owner i : ℕ) → (eqb owner 0 || leb i owner) ≡ false → (1 ≤ owner) × (owner < i)
-below owner i e =
-    let some = eqb-false owner 0 (or-left (eqb owner 0) (leb i owner) e) in
-    (omega (arith, some), leb-false i owner (or-right (eqb owner 0) (leb i owner) e))
 
 module _ (b : List ℕ) (i : ℕ) {r : List ℕ} (bytes : r ≡ recordAt b i) {owner : ℕ} (w : owner ≡ get ownerField r) where
   owner-is : ownerOf b i ≡ owner

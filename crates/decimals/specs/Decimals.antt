@@ -5,8 +5,8 @@ use mathlib.Core.Bool.{Bool, cond, not, _&&_, _||_}
 use mathlib.Core.List.{List, [], _∷_, _++_}
 use lib.Dec.{leb, ltb, eqb}
 use lib.ListN.{getD, drop}
-use Rattle.decimals.specs.declared.Run.{Run}
-use Rattle.decimals.specs.declared.Field.{Field}
+use Rattle.decimals.specs.declared.DigitRun.{DigitRun}
+use Rattle.decimals.specs.declared.TextField.{TextField}
 
 -- WRITTEN: the digits of a number, without a zero in front. `decimalOf` writes at most so many; a number has fewer digits than
 -- one more than itself.
@@ -20,6 +20,10 @@ decimal n = decimalOf (suc n) n
 -- a number with one byte behind it
 unfoldable pub field : ℕ → ℕ → List ℕ
 field n stop = decimal n ++ (stop ∷ [])
+
+-- the byte that ends a line
+abbrev pub lineFeed : ℕ
+lineFeed = 10
 
 -- READ: `0`–`9`
 unfoldable pub isDigit : ℕ → Bool
@@ -50,11 +54,11 @@ behind t = drop (suc (digits t)) t
 
 -- What is read at a place of a text: where the digits end, and their number, `most` where it is larger; and whether a field
 -- stands there, and the place behind it.
-pub record RunRead (s : List ℕ) (at most : ℕ) (r : Run) : Type 0 where
+pub record RunRead (s : List ℕ) (at most : ℕ) (r : DigitRun) : Type 0 where
   pub end : r .end ≡ at + digits (drop at s)
   pub value : r .value ≡ min (value (drop at s)) most
 
-pub record FieldRead (s : List ℕ) (at stop most : ℕ) (r : Field) : Type 0 where
+pub record FieldRead (s : List ℕ) (at stop most : ℕ) (r : TextField) : Type 0 where
   pub fits : r .fits ≡ beginsField stop (drop at s)
   pub value : r .value ≡ min (value (drop at s)) most
   pub rest : drop (r .next) s ≡ behind (drop at s)

@@ -6,13 +6,13 @@ ghost use Rattle.decimals.specs.Decimals.{decimal, field, isDigit, RunRe
 ghost use Rattle.decimals.specs.InnerWritten.{TextPut};
 
 // Digits one after the other: the place behind them, and their number as far as it counts.
-struct Run {
+struct DigitRun {
     pub end: usize,
     pub value: u32,
 }
 
 // A number with one byte behind it: whether it stands there, its value as far as it counts, and the place behind that byte.
-pub struct Field {
+pub struct TextField {
     pub fits: bool,
     pub value: u32,
     pub next: usize,
@@ -59,7 +59,7 @@ fn with_digit(value: u32, digit: u8, most: u32) -> u32
 }
 
 // The digits from a place on, however many: a number above `most` counts as `most`.
-fn read_run(s: &[u8], at: usize, most: u32) -> Run
+fn read_run(s: &[u8], at: usize, most: u32) -> DigitRun
     ensures { λ r. ⌜ RunRead (now (s .entry)) at most r ⌝ }
 {
     let mut value: u32 = 0;
@@ -68,11 +68,11 @@ fn read_run(s: &[u8], at: usize, most: u32) -> Run
         value = with_digit(value, codec::byte_at(s, end) - b'0', most);
         end = end + 1;
     }
-    Run { end, value }
+    DigitRun { end, value }
 }
 
 // A number from a place on, without a needless zero in front, and the byte `stop` behind it.
-pub fn read_field(s: &[u8], at: usize, stop: u8, most: u32) -> Field
+pub fn read_field(s: &[u8], at: usize, stop: u8, most: u32) -> TextField
     ensures { λ r. ⌜ FieldRead (now (s .entry)) at stop most r ⌝ }
 {
     let run = read_run(s, at, most);
@@ -80,7 +80,7 @@ pub fn read_field(s: &[u8], at: usize, stop: u8, most: u32) -> Field
     let count = end - at;
     let plain = (0 < count) & ((count == 1) | !(codec::byte_at(s, at) == b'0'));
     let next = if end < s.len() { end + 1 } else { end };
-    Field {
+    TextField {
         fits: plain & (codec::byte_at(s, end) == stop),
         value: run.value,
         next,

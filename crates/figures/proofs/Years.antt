@@ -3,9 +3,9 @@ use native.Mathlib.Omega.{arith}
 use Rattle.account_steps.specs.declared.Account.{Account}
 use Rattle.account_steps.specs.Closing.{creditAfter}
 use Rattle.account_steps.specs.Account.{accountElected, accountClosed, closedOf, InRange}
-use Rattle.figures.specs.Accounts.{opened, yearOf}
+use Rattle.figures.specs.Accounts.{opened, yearWith}
 
-pub first-in-range : InRange (yearOf 10 4) opened
+pub first-in-range : InRange (yearWith 10 4) opened
 first-in-range =
     record {
       sums = record { value = omega arith; cost = omega arith; flatRate = omega arith; credit = omega arith };
@@ -13,9 +13,9 @@ first-in-range =
     }
 
 abbrev second : Account
-second = closedOf (yearOf 10 4) opened .account
+second = closedOf (yearWith 10 4) opened .account
 
-pub second-in-range : InRange (yearOf 3 5) second
+pub second-in-range : InRange (yearWith 3 5) second
 unfolding closedOf accountClosed creditAfter
 second-in-range =
     record {
@@ -24,9 +24,9 @@ second-in-range =
     }
 
 abbrev third : Account
-third = accountElected 1 (closedOf (yearOf 3 5) second .account)
+third = accountElected 1 (closedOf (yearWith 3 5) second .account)
 
-pub third-in-range : InRange (yearOf 9 2) third
+pub third-in-range : InRange (yearWith 9 2) third
 unfolding closedOf accountClosed accountElected creditAfter
 third-in-range =
     record {

@@ -23,5 +23,5 @@ opened =
     }
 
 -- a year of C and O, with F 0
-abbrev pub yearOf : ℕ → ℕ → YearValues
-yearOf c o = record { value = ticks c; cost = ticks o; «flat_rate» = ticks 0; half1 = kwh 0; half2 = kwh 0 }
+abbrev pub yearWith : ℕ → ℕ → YearValues
+yearWith c o = record { value = ticks c; cost = ticks o; «flat_rate» = ticks 0; half1 = kwh 0; half2 = kwh 0 }

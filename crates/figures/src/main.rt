@@ -10,7 +10,7 @@ use units::Rate;
 use units::Ticks;
 use units::UserNumber;
 ghost use mathlib.Core.Path.{_≡_};
-ghost use Rattle.figures.specs.Accounts.{opened, yearOf};
+ghost use Rattle.figures.specs.Accounts.{opened, yearWith};
 
 fn begin(figure: u64) -> Row {
     output::put_number(output::no_text(), figure)
@@ -109,8 +109,8 @@ fn opened() -> Account
 }
 
 // A year of C and O, with F 0.
-fn year_of(value: u64, cost: u64) -> YearValues
-    ensures { λ r. ⌜ r ≡ yearOf value cost ⌝ }
+fn year_with(value: u64, cost: u64) -> YearValues
+    ensures { λ r. ⌜ r ≡ yearWith value cost ⌝ }
 {
     YearValues {
         value: Ticks(value),
@@ -123,11 +123,11 @@ fn year_of(value: u64, cost: u64) -> YearValues
 
 // (10): two years on credit and one liquidated.
 fn closings() -> bool {
-    let first = opened().closed(year_of(10, 4));
+    let first = opened().closed(year_with(10, 4));
     let after_first = first.account;
-    let second = after_first.closed(year_of(3, 5));
+    let second = after_first.closed(year_with(3, 5));
     let after_second = second.account;
-    let third = after_second.elected(1).closed(year_of(9, 2));
+    let third = after_second.elected(1).closed(year_with(9, 2));
     let settled = third.settlement;
     let outcome = settled.outcome;
     let mut row = output::put_field(begin(10), first.settlement.contribution.0);

@@ -26,7 +26,7 @@ use Rattle.ledger_agrees.specs.Charged.{withheldOn, restAt, ChargesKept}
 use Rattle.ledger_views.proofs.Kept.{view-is, view-none, view-nobody}
 use Rattle.ledger_views.proofs.Steps.{Stepped, accepted-step}
 use Rattle.ledger_agrees.specs.Lists.{made, madeOf, bookAfterAll}
-use Rattle.ledger_agrees.specs.Fed.{posted, isFor, ledgerOf, valueBy, valueOf}
+use Rattle.ledger_agrees.specs.Fed.{posted, isFor, ledgerOf, valueBy, valueFed}
 use Rattle.ledger_agrees.proofs.Statements.{stated, statement-stated}
 use Rattle.ledger_agrees.proofs.Ledgers.{Posts, Agrees, State, unknown, known, same-statement, gainOf, in-step, Notes, noted, call-posts}
 
@@ -82,19 +82,19 @@ moves b g n m x st c t = by-answer (eqb (refusalOf b c) 0) refl
 -- after a list of calls the ledger, if there is one, agrees with what the book holds
 pub record After (b : List ℕ) (n : ℕ) (m : Option Ledger) (x : ℕ) (cs : List Call) (l : Ledger) : Type 0 where
   pub good : Good (bookAfterAll b cs)
-  pub state : State (viewOf (bookAfterAll b cs) n) (some l) (x + valueOf n (l .details) (madeOf b cs))
+  pub state : State (viewOf (bookAfterAll b cs) n) (some l) (x + valueFed n (l .details) (madeOf b cs))
   pub notes : Notes m (l .details)
 
 -- the demand over the definitions of the calls: the statement is accepted, and its figures are right
 pub record Demanded (b : List ℕ) (cs : List Call) (number : ℕ) (l : Ledger) : Type 0 where
   pub answered : refusalOf (bookAfterAll b cs) (statement number) ≡ 0
-  pub right : Accounts l (valueOf number (l .details) (madeOf b cs)) (statementAt (bookAfterAll b cs) (findUser (bookAfterAll b cs) number))
+  pub right : Accounts l (valueFed number (l .details) (madeOf b cs)) (statementAt (bookAfterAll b cs) (findUser (bookAfterAll b cs) number))
   pub charges : ChargesKept (bookAfterAll b cs) number l
 
 module _ (n : ℕ) where
   pub run : (cs : List Call) (b : List ℕ) → Good b → AllTyped cs → (m : Option Ledger) (x : ℕ) → State (viewOf b n) m x → (l : Ledger) → ledgerOf n (madeOf b cs) m ≡ some l
       → After b n m x cs l
-  unfolding bookAfterAll madeOf ledgerOf valueOf AllTyped
+  unfolding bookAfterAll madeOf ledgerOf valueFed AllTyped
   run [] b g t m x st l e =
       record {
         good = g;
@@ -144,10 +144,10 @@ module _ (n : ℕ) where
       let start : State (viewOf b n) none 0 = subst (λ (v : Option View). State v none 0) (sym (view-none b n (λ i u q. empty i u))) unknown in
       let after = run cs b g t none 0 start l e in
       let b′ = bookAfterAll b cs in
-      let h = held b′ (after .good) l (0 + valueOf n (l .details) (madeOf b cs)) (after .state) refl refl in
-      let value : Kept (valueOf n (l .details) (madeOf b cs)) l = subst (λ (k : ℕ). Kept k l) (zero-add (valueOf n (l .details) (madeOf b cs))) (h .0) in
+      let h = held b′ (after .good) l (0 + valueFed n (l .details) (madeOf b cs)) (after .state) refl refl in
+      let value : Kept (valueFed n (l .details) (madeOf b cs)) l = subst (λ (k : ℕ). Kept k l) (zero-add (valueFed n (l .details) (madeOf b cs))) (h .0) in
       record {
         answered = rw (after .good .length, good-sound b′ (after .good), h .1);
-        right = subst (Accounts l (valueOf n (l .details) (madeOf b cs))) (sym (h .2)) (accounts value);
+        right = subst (Accounts l (valueFed n (l .details) (madeOf b cs))) (sym (h .2)) (accounts value);
         charges = h .3;
       }

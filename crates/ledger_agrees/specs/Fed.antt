@@ -41,9 +41,9 @@ valueBy d (close s) = sheetValue d s
 valueBy d (statement n) = 0
 valueBy d (charge n) = 0
 
-unfoldable pub valueOf : ℕ → Details → List Made → ℕ
-valueOf number d [] = 0
-valueOf number d (m ∷ ms) = cond (isFor number m) (valueBy d (m .call)) 0 + valueOf number d ms
+unfoldable pub valueFed : ℕ → Details → List Made → ℕ
+valueFed number d [] = 0
+valueFed number d (m ∷ ms) = cond (isFor number m) (valueBy d (m .call)) 0 + valueFed number d ms
 
 -- an enrolment of the number that answered 0 is in the list
 pub data Enrols (number : ℕ) : List Made → Type 0 where

@@ -5,11 +5,11 @@ use listing_text::Listed;
 
 // The buffer has room for every listing.
 fn list(book: &[u8]) {
-    let mut text = listing_text::buffer();
-    let Listed::Written(count) = listing_text::listing_of(book, &mut text) else {
+    let mut lines = listing_text::buffer();
+    let Listed::Written(count) = listing_text::listing_of(book, &mut lines) else {
         return;
     };
-    output::write(b"listing: standard output", &text[..count]);
+    output::write(b"listing: standard output", text::front(&lines, count));
 }
 
 fn main() {
@@ -22,5 +22,5 @@ fn main() {
         os::fail(b"listing: standard input");
         return;
     };
-    list(&book[..count]);
+    list(text::front(&book, count));
 }

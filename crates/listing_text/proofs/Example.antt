@@ -5,8 +5,8 @@ use Rattle.sheet_values.specs.declared.YearValues.{YearValues}
 use Rattle.account_steps.specs.declared.Account.{Account}
 use Rattle.account_steps.specs.Closing.{creditAfter}
 use Rattle.account_steps.specs.Account.{accountClosed}
-use Rattle.decimals.specs.Decimals.{decimalOf}
-use Rattle.listing_text.specs.Listing.{blank, lineFeed}
+use Rattle.decimals.specs.Decimals.{decimalOf, lineFeed}
+use Rattle.listing_text.specs.Listing.{blank}
 use Rattle.listing_text.specs.InnerWritten.{field, accountLine}
 
 pub user-7 : (a : Account) (v : YearValues) → a .number .0 ≡ 7 → a .option ≡ 0 → a .«open_year» ≡ 2014 → a .credit .0 ≡ 0

@@ -4,12 +4,13 @@ use mathlib.Core.Path.{_≡_, sym, ap, _∙_}
 use mathlib.Core.List.{List, [], _∷_, _++_, append-assoc}
 use native.Mathlib.Omega.{arith}
 use lib.ListN.{length, length-append}
+use Rattle.decimals.specs.Decimals.{lineFeed}
 use Rattle.account_steps.specs.declared.Account.{Account}
 use Rattle.codec.specs.Bytes.{stored}
 use Rattle.decimals.specs.Decimals as decimals
 use Rattle.book_rules.specs.Book.{accountAt}
-use Rattle.listing_text.specs.Listing.{mostDigits, decimal, blank, lineFeed, line}
-use Rattle.listing_text.specs.InnerWritten.{longestField, longestLine, field, accountLine}
+use Rattle.listing_text.specs.Listing.{mostDigits, decimal, blank, userLine}
+use Rattle.listing_text.specs.InnerWritten.{longestField, longestUserLine, field, accountLine}
 use Rattle.codec.proofs.Pieces.{stored-then}
 use Rattle.decimals.proofs.Written.{most-digits, all-digits}
 use Rattle.decimals.specs.InnerWritten.{TextPut}
@@ -31,7 +32,7 @@ length-line : (a : Account) → length (accountLine a)
 unfolding accountLine
 length-line a = simp length-append
 
-pub line-short : (a : Account) → length (accountLine a) ≤ longestLine
+pub line-short : (a : Account) → length (accountLine a) ≤ longestUserLine
 line-short a =
     omega
     (arith, length-line a, field-short (a .number .0) blank, field-short (a .«open_year») blank, field-short (a .credit .0) lineFeed)
@@ -47,7 +48,7 @@ stored-three at bs cs ds s h =
     ∙ stored-then at (bs ++ cs) ds s (omega arith)
     ∙ ap (λ (l : List ℕ). stored at l s) (append-assoc bs cs ds)
 
-pub line-written : (at : ℕ) (a : Account) (s : List ℕ) (year credit end : ℕ) (s₁ s₂ s₃ : List ℕ) → at + longestLine ≤ length s
+pub line-written : (at : ℕ) (a : Account) (s : List ℕ) (year credit end : ℕ) (s₁ s₂ s₃ : List ℕ) → at + longestUserLine ≤ length s
     → year ≡ at + length (field (a .number .0) blank) → s₁ ≡ stored at (field (a .number .0) blank) s
     → credit ≡ year + length (field (a .«open_year») blank) → s₂ ≡ stored year (field (a .«open_year») blank) s₁
     → end ≡ credit + length (field (a .credit .0) lineFeed) → s₃ ≡ stored credit (field (a .credit .0) lineFeed) s₂
@@ -62,6 +63,6 @@ line-written at a s year credit end s₁ s₂ s₃ h y e₁ k e₂ l e₃ =
     }
 
 -- the line of the user at an index is that of its account
-pub user-line : (b : List ℕ) (i : ℕ) → line b i ≡ accountLine (accountAt b i)
-unfolding line accountLine field
+pub user-line : (b : List ℕ) (i : ℕ) → userLine b i ≡ accountLine (accountAt b i)
+unfolding userLine accountLine field
 user-line b i = simp append-assoc

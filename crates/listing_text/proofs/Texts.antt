@@ -6,6 +6,7 @@ use mathlib.Core.List.{List, [], _∷_}
 use native.Mathlib.Omega.{arith}
 use lib.ListN.{length}
 use lib.Seq.{sets}
+use Rattle.decimals.specs.Decimals.{lineFeed}
 use Rattle.codec.specs.Bytes.{stored}
 use Rattle.codec.proofs.Stores.{sets-stored, length-stored}
 use Rattle.book_rules.specs.Book.{lengthFits, sound}
@@ -14,7 +15,7 @@ use Rattle.units.specs.declared.RecordIndex.{RecordIndex}
 use Rattle.check_book.specs.declared.Verdict.{Verdict}
 use Rattle.check_book.specs.declared.Verdict.the-variants.{Length, Sound, Faulty}
 use Rattle.check_book.specs.Verdicts.{BookJudged, Accepted, Objected}
-use Rattle.listing_text.specs.Listing.{blank, lineFeed, lines, refused, listing}
+use Rattle.listing_text.specs.Listing.{blank, userLines, refused, listing}
 use Rattle.listing_text.specs.InnerWritten.{longestRefusal, longestText, field, AllWritten, TextFirst}
 use Rattle.codec.proofs.Pieces.{stored-then}
 use Rattle.listing_text.proofs.Walk.{text-short}
@@ -47,7 +48,7 @@ module _ (b : List ℕ) where
   pub accepted : (v : Verdict) {i : RecordIndex} → BookJudged b 0 v → v ≡ Sound i → Accepted b
   accepted v h e = subst (BookJudged b 0) e h .0
 
-  pub listed : Accepted b → listing b ≡ lines b (usersOf b)
+  pub listed : Accepted b → listing b ≡ userLines b (usersOf b)
   unfolding listing
   listed a = let long : lengthFits b ≡ true = a .fits in let good : sound b ≡ true = a .isSound in rw (long, good)
 
@@ -68,7 +69,7 @@ module _ (b : List ℕ) where
   listing-short = by-tests (lengthFits b) (sound b) refl refl
     where
       by-tests : (long good : Bool) → lengthFits b ≡ long → sound b ≡ good
-          → length (cond long (cond good (lines b (usersOf b)) (refused 2)) (refused 1)) ≤ longestText
+          → length (cond long (cond good (userLines b (usersOf b)) (refused 2)) (refused 1)) ≤ longestText
       by-tests true true l g = text-short b l g
       by-tests true false l g = omega (arith, refused-short 2)
       by-tests false good l g = omega (arith, refused-short 1)

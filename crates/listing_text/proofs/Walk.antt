@@ -19,25 +19,25 @@ use Rattle.chains.proofs.Chain.{On, chain-none, chain-from-length}
 use Rattle.book_rules.proofs.RecordKinds.{user-index}
 use Rattle.chains.proofs.Links.{first-user, users-fall}
 use Rattle.chains.proofs.Walks.{walk-here, walk-on, walk-falls, walk-chain}
-use Rattle.listing_text.specs.Listing.{line, lines}
-use Rattle.listing_text.specs.InnerWritten.{longestLine, mostUsers, longestText, accountLine, TextFirst}
+use Rattle.listing_text.specs.Listing.{userLine, userLines}
+use Rattle.listing_text.specs.InnerWritten.{longestUserLine, mostUsers, longestText, accountLine, TextFirst}
 use Rattle.codec.proofs.Pieces.{stored-then, stored-none}
 use Rattle.listing_text.proofs.Lines.{line-short, user-line}
 
-lines-short : (b is : List ℕ) → length (lines b is) ≤ longestLine * length is
-unfolding lines
+lines-short : (b is : List ℕ) → length (userLines b is) ≤ longestUserLine * length is
+unfolding userLines
 lines-short b [] = omega arith
 lines-short b (i ∷ is) =
-    let tail : length (lines b is) ≤ longestLine * length is = lines-short b is in
-    let here : length (line b i) ≤ longestLine = rw (user-line b i) (line-short (accountAt b i)) in
+    let tail : length (userLines b is) ≤ longestUserLine * length is = lines-short b is in
+    let here : length (userLine b i) ≤ longestUserLine = rw (user-line b i) (line-short (accountAt b i)) in
     rw length-append (omega arith)
 
 -- the lines from an index of the chain on
 abbrev pub linesFrom : List ℕ → ℕ → List ℕ
-linesFrom b user = lines b (chainFrom (nextOf b) user)
+linesFrom b user = userLines b (chainFrom (nextOf b) user)
 
 abbrev pub text : List ℕ → List ℕ
-text b = lines b (usersOf b)
+text b = userLines b (usersOf b)
 
 abbrev User : List ℕ → ℕ → Type 0
 User b i = isUser b i ≡ true
@@ -48,7 +48,7 @@ pub record Walking (b before out : List ℕ) (end user : ℕ) : Type 0 where
   pub on : On (λ i. isUser b i ≡ true) user
   pub same : length out ≡ length before
   pub wide : longestText ≤ length before
-  pub room : end + longestLine * user ≤ longestText
+  pub room : end + longestUserLine * user ≤ longestText
   pub fits : length (text b) ≤ longestText
   pub count : end + length (linesFrom b user) ≡ length (text b)
   pub written : stored end (linesFrom b user) out ≡ stored 0 (text b) before
@@ -92,7 +92,7 @@ module _ (b before out : List ℕ) (end user : ℕ) (w : Walking b before out en
   pub user-stands : recordLength * user + recordLength ≤ length b
   user-stands = used-whole b (w .faultless .used-fits) user (user-index b user user-here .1)
 
-  pub room-here : end + longestLine ≤ length out
+  pub room-here : end + longestUserLine ≤ length out
   room-here = omega (arith, user-index b user user-here, w .room, w .wide, w .same)
 
   pub next-falls : nextOf b user < user
@@ -102,9 +102,9 @@ module _ (b before out : List ℕ) (end user : ℕ) (w : Walking b before out en
   here = accountLine (accountAt b user)
 
   ahead : linesFrom b user ≡ here ++ linesFrom b (nextOf b user)
-  unfolding lines
+  unfolding userLines
   ahead =
-      ap (lines b) (walk-chain (User b) (nextOf b) (users-fall b (w .faultless)) user (w .on) more)
+      ap (userLines b) (walk-chain (User b) (nextOf b) (users-fall b (w .faultless)) user (w .on) more)
       ∙ ap (λ (l : List ℕ). l ++ linesFrom b (nextOf b user)) (user-line b user)
 
   length-ahead : length (linesFrom b user) ≡ length here + length (linesFrom b (nextOf b user))
@@ -112,7 +112,7 @@ module _ (b before out : List ℕ) (end user : ℕ) (w : Walking b before out en
 
   turned : Walking b before (stored end here out) (end + length here) (nextOf b user)
   turned =
-      let short : length here ≤ longestLine = line-short (accountAt b user) in
+      let short : length here ≤ longestUserLine = line-short (accountAt b user) in
       let both : end + (length here + length (linesFrom b (nextOf b user))) ≤ length out =
       omega (arith, w .count, w .fits, w .wide, w .same, length-ahead) in
       record {
@@ -138,8 +138,8 @@ module _ (b before out : List ℕ) (end user : ℕ) (w : Walking b before out en
 -- THE END
 pub ends : (b before out : List ℕ) (end : ℕ) → Walking b before out end 0
     → TextFirst (text b) before out end
-unfolding lines
+unfolding userLines
 ends b before out end w =
-    let none : linesFrom b 0 ≡ [] = ap (lines b) (chain-none (nextOf b)) in
+    let none : linesFrom b 0 ≡ [] = ap (userLines b) (chain-none (nextOf b)) in
     let zero-left : length (linesFrom b 0) ≡ 0 = ap length none in
     record { end = omega (arith, w .count); stands = sym (ap (λ (l : List ℕ). stored end l out) none ∙ stored-none end out) ∙ w .written }

@@ -6,9 +6,10 @@ use lib.ListN.{length}
 use Rattle.units.specs.Limits.{mostRecords}
 use Rattle.account_steps.specs.declared.Account.{Account}
 use Rattle.codec.specs.Bytes.{stored}
+use Rattle.decimals.specs.Decimals.{lineFeed}
 use Rattle.listing_text.specs.declared.Listed.{Listed}
 use Rattle.listing_text.specs.declared.Listed.the-variants as listed
-use Rattle.listing_text.specs.Listing.{mostDigits, decimal, blank, lineFeed, listing}
+use Rattle.listing_text.specs.Listing.{mostDigits, decimal, blank, listing}
 
 -- the lengths of a number with a byte after it, of "refused " with one, of three of them, and of the lines of all users
 abbrev pub longestField : ℕ
@@ -17,15 +18,15 @@ longestField = mostDigits + 1
 abbrev pub longestRefusal : ℕ
 longestRefusal = 8 + longestField
 
-abbrev pub longestLine : ℕ
-longestLine = 3 * longestField
+abbrev pub longestUserLine : ℕ
+longestUserLine = 3 * longestField
 
 -- all records but the head
 abbrev pub mostUsers : ℕ
 mostUsers = mostRecords - 1
 
 abbrev pub longestText : ℕ
-longestText = mostUsers * longestLine
+longestText = mostUsers * longestUserLine
 
 unfoldable pub field : ℕ → ℕ → List ℕ
 field n after = decimal n ++ (after ∷ [])

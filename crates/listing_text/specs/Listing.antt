@@ -4,7 +4,7 @@
 use Prim.Native.Nat.{ℕ}
 use mathlib.Core.Bool.{cond}
 use mathlib.Core.List.{List, [], _∷_, _++_}
-use Rattle.decimals.specs.Decimals.{decimalOf}
+use Rattle.decimals.specs.Decimals.{decimalOf, lineFeed}
 use Rattle.book_rules.specs.Book.{lengthFits, sound, accountAt}
 use Rattle.book_rules.specs.Chains.{usersOf}
 
@@ -19,22 +19,19 @@ decimal n = decimalOf mostDigits n
 abbrev pub blank : ℕ
 blank = 32
 
-abbrev pub lineFeed : ℕ
-lineFeed = 10
-
 -- the line of the user at an index
-unfoldable pub line : List ℕ → ℕ → List ℕ
-line b i =
+unfoldable pub userLine : List ℕ → ℕ → List ℕ
+userLine b i =
     decimal (accountAt b i .number .0)
     ++ (blank ∷ (decimal (accountAt b i .«open_year») ++ (blank ∷ (decimal (accountAt b i .credit .0) ++ (lineFeed ∷ [])))))
 
-unfoldable pub lines : List ℕ → List ℕ → List ℕ
-lines b [] = []
-lines b (i ∷ is) = line b i ++ lines b is
+unfoldable pub userLines : List ℕ → List ℕ → List ℕ
+userLines b [] = []
+userLines b (i ∷ is) = userLine b i ++ userLines b is
 
 -- "refused ", the number and a line feed
 unfoldable pub refused : ℕ → List ℕ
 refused n = 114 ∷ 101 ∷ 102 ∷ 117 ∷ 115 ∷ 101 ∷ 100 ∷ blank ∷ (decimal n ++ (lineFeed ∷ []))
 
 unfoldable pub listing : List ℕ → List ℕ
-listing b = cond (lengthFits b) (cond (sound b) (lines b (usersOf b)) (refused 2)) (refused 1)
+listing b = cond (lengthFits b) (cond (sound b) (userLines b (usersOf b)) (refused 2)) (refused 1)

@@ -6,8 +6,8 @@ ghost use lib.ListN.{length};
 ghost use Rattle.book_rules.specs.Book.{lengthFits, sound};
 ghost use Rattle.book_rules.specs.Chains.{usersOf};
 ghost use Rattle.decimals.specs.InnerWritten.{TextPut};
-ghost use Rattle.listing_text.specs.Listing.{lines, refused, listing};
-ghost use Rattle.listing_text.specs.InnerWritten.{longestField, longestLine, longestRefusal, longestText, accountLine};
+ghost use Rattle.listing_text.specs.Listing.{userLines, refused, listing};
+ghost use Rattle.listing_text.specs.InnerWritten.{longestField, longestUserLine, longestRefusal, longestText, accountLine};
 ghost use Rattle.listing_text.specs.InnerWritten.{ListingAnswered, FieldPut, TextFirst};
 use account_steps::Account;
 use check_book::Verdict;
@@ -16,9 +16,9 @@ use units::MOST_RECORDS;
 // The longest listing: of each user three numbers of at most twenty digits, each with a byte after it.
 const MOST_USERS: usize = MOST_RECORDS - 1;
 
-const LONGEST_LINE: usize = 63;
+const LONGEST_USER_LINE: usize = 63;
 
-const LONGEST_TEXT: usize = MOST_USERS * LONGEST_LINE;
+const LONGEST_TEXT: usize = MOST_USERS * LONGEST_USER_LINE;
 
 // What became of a listing: written, so many bytes, or not, for want of room.
 pub enum Listed {
@@ -43,7 +43,7 @@ fn field_at(out: &mut [u8], at: usize, n: u64, after: u8) -> usize
 
 // Writes the line of an account: number, open year and credit.
 fn line_at(out: &mut [u8], at: usize, account: Account) -> usize
-    requires { ⌜ at + longestLine ≤ length (now out) ⌝ }
+    requires { ⌜ at + longestUserLine ≤ length (now out) ⌝ }
     ensures { λ r. ⌜ TextPut at (accountLine account) (now (out .entry)) (now (out .exit)) r ⌝ }
 {
     let number = account.number.0 as u64;
@@ -59,7 +59,7 @@ fn lines_of(book: &[u8], out: &mut [u8]) -> usize
     requires { ⌜ lengthFits (now book) ≡ true ⌝ }
     requires { ⌜ sound (now book) ≡ true ⌝ }
     requires { ⌜ longestText ≤ length (now out) ⌝ }
-    ensures { λ r. ⌜ TextFirst (lines (now (book .entry)) (usersOf (now (book .entry)))) (now (out .entry)) (now (out .exit)) r ⌝ }
+    ensures { λ r. ⌜ TextFirst (userLines (now (book .entry)) (usersOf (now (book .entry)))) (now (out .entry)) (now (out .exit)) r ⌝ }
 {
     let mut end = 0;
     let mut user = book_view::first_user(book);

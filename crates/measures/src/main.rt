@@ -6,8 +6,8 @@ ghost use lib.ListN.{getD};
 use input::Input;
 use output::Row;
 use sheet::MONTHS;
-use sheet_text::NUMBERS;
 use sheet_text::Read;
+use sheet_text::YEAR_READINGS;
 use units::MAX_KWH;
 
 // More than an operator's file has; what fills the buffer goes on behind it.
@@ -25,14 +25,14 @@ fn wide(n: u32) -> u64
 }
 
 // The sum of three numbers that stand side by side: a month's kWh withdrawn, or injected.
-fn three(kwh: [u32; NUMBERS], from: usize) -> u64
+fn three(kwh: [u32; YEAR_READINGS], from: usize) -> u64
     requires { ⌜ from + 3 ≤ 72 ⌝ }
     ensures { λ r. ⌜ r ≡ getD kwh from 0 + getD kwh (from + 1) 0 + getD kwh (from + 2) 0 ⌝ }
 {
     wide(kwh[from]) + wide(kwh[from + 1]) + wide(kwh[from + 2])
 }
 
-fn say_sums(kwh: [u32; NUMBERS]) -> bool {
+fn say_sums(kwh: [u32; YEAR_READINGS]) -> bool {
     for month in 0..MONTHS {
         let number = output::put_number(output::no_text(), month as u64 + 1);
         let withdrawn = output::put_field(number, three(kwh, 6 * month));
@@ -91,5 +91,5 @@ fn main() {
         os::fail(b"measures: standard input");
         return;
     };
-    check(&file[..count]);
+    check(text::front(&file, count));
 }

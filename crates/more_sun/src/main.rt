@@ -131,5 +131,5 @@ fn main() {
         os::fail(b"more_sun: standard input");
         return;
     };
-    answer(&book[..count], &s[..size]);
+    answer(text::front(&book, count), text::front(&s, size));
 }

@@ -7,8 +7,8 @@ use lib.ListN.{length}
 use Rattle.input.specs.declared.Found.{Found}
 use Rattle.input.specs.declared.Found.the-variants as found
 use Rattle.replay.specs.declared.Step.{Step}
-use Rattle.replay_script.specs.declared.Order.the-variants as order
-use Rattle.replay_script.specs.Orders.{orderOf}
+use Rattle.replay_script.specs.declared.Request.the-variants as request
+use Rattle.replay_script.specs.Requests.{requestOf}
 
 -- the bytes and the length stay
 pub record Unchanged (before after : List ℕ) (len r : ℕ) : Type 0 where
@@ -18,7 +18,7 @@ pub record Unchanged (before after : List ℕ) (len r : ℕ) : Type 0 where
 -- "A line that is no call prints `error` and changes nothing"
 pub record LineDone (line before after : List ℕ) (len r : ℕ) : Type 0 where
   pub within : r ≤ length after
-  pub wrong : orderOf line ≡ order.Wrong → Unchanged before after len r
+  pub wrong : requestOf line ≡ request.Wrong → Unchanged before after len r
 
 -- what was found makes a call only where it is a whole line; after the end, or a failed read, no line is looked for
 abbrev pub isWhole : Found → Bool
@@ -37,6 +37,6 @@ isLast found.Failed = true
 
 pub record FoundDone (f : Found) (line before after : List ℕ) (len : ℕ) (r : Step) : Type 0 where
   pub within : r .len ≤ length after
-  pub wrong : orderOf line ≡ order.Wrong → Unchanged before after len (r .len)
+  pub wrong : requestOf line ≡ request.Wrong → Unchanged before after len (r .len)
   pub whole : isWhole f ≡ false → Unchanged before after len (r .len)
   pub last : isLast f ≡ true → r .more ≡ false

@@ -11,7 +11,7 @@ use input::Found;
 use listing_text::Listed;
 use output::Row;
 use replay_script::Digits;
-use replay_script::Order;
+use replay_script::Request;
 use sheet::Position;
 use sheet_losses::Raised;
 use sheet_losses::Rests;
@@ -26,7 +26,7 @@ use units::UserNumber;
 use units::WideKwh;
 ghost use Prim.Native.Nat.{_+_, _*_, _≤_};
 ghost use lib.ListN.{length};
-ghost use Rattle.replay_script.specs.Orders.{longestBook};
+ghost use Rattle.replay_script.specs.Requests.{longestBook};
 ghost use Rattle.replay.specs.InnerLines.{LineDone, FoundDone};
 
 // What the longest answer takes: a row of numbers, two digits a byte, and the line feed.
@@ -139,20 +139,13 @@ fn say_stated(answer: Stated) -> bool {
     say(put_sums(refusal_of(answer.reply), answer.sums))
 }
 
-// Prints a text up to a place.
-fn say_front(text: &[u8], end: usize) -> bool
-    requires { ⌜ end ≤ length (now text) ⌝ }
-{
-    say_text(&text[..end])
-}
-
 // Prints bytes in hexadecimal, behind what stands in `out` up to a place.
 fn say_hex(bytes: &[u8], out: &mut [u8], at: usize) -> bool
     requires { ⌜ at + 2 * length (now bytes) + 1 ≤ length (now out) ⌝ }
 {
     let end = at + text::hex_to(bytes, &mut out[at..]);
     out[end] = b'\n';
-    say_front(out, end + 1)
+    say_text(text::front(out, end + 1))
 }
 
 // Prints the listing, by way of `out`, which has room for every listing.
@@ -160,7 +153,7 @@ fn list(book: &[u8], out: &mut [u8]) -> bool {
     let Listed::Written(count) = listing_text::listing_of(book, out) else {
         return false;
     };
-    say_text(&out[..count])
+    say_text(text::front(out, count))
 }
 
 fn close_year(book: &mut [u8], line: &[u8], at: usize) -> bool {
@@ -168,7 +161,7 @@ fn close_year(book: &mut [u8], line: &[u8], at: usize) -> bool {
     let Bytes::Read(count) = text::hex_from(line, at, &mut sheet) else {
         return say_error();
     };
-    say_closed(call_close::close(book, &sheet[..count]))
+    say_closed(call_close::close(book, text::front(&sheet, count)))
 }
 
 // 1 and the least addition, or zeros where there is none.
@@ -197,7 +190,7 @@ fn ask_more_sun(book: &[u8], line: &[u8], digits: Digits, month: u32, band: u32)
     else {
         return say_error();
     };
-    say_more_sun(call_more_sun::more_sun(book, &sheet[..count], month, band))
+    say_more_sun(call_more_sun::more_sun(book, text::front(&sheet, count), month, band))
 }
 
 // The number of an accepted call, and a blank.
@@ -390,13 +383,13 @@ fn load_book(buffer: &mut [u8], len: usize, line: &[u8], at: usize) -> Step
 }
 
 // Makes a call, on the book or on sheets, and prints its answer.
-fn call(order: Order, line: &[u8], book: &mut [u8], out: &mut [u8]) -> bool
+fn call(request: Request, line: &[u8], book: &mut [u8], out: &mut [u8]) -> bool
     requires { ⌜ 2 * length (now book) + 1 ≤ length (now out) ⌝ }
     requires { ⌜ 2 * longestBook + 257 ≤ length (now out) ⌝ }
 {
-    match order {
-        Order::Fresh => say_fresh(check_book::fresh(book)),
-        Order::Enrol {
+    match request {
+        Request::Fresh => say_fresh(check_book::fresh(book)),
+        Request::Enrol {
             number,
             class,
             plant,
@@ -416,14 +409,14 @@ fn call(order: Order, line: &[u8], book: &mut [u8], out: &mut [u8]) -> bool
             };
             say_record(call_enrol::enrol(book, UserNumber(number), details, option))
         }
-        Order::Elect {
+        Request::Elect {
             number,
             option,
             year,
             month,
             day,
         } => { say_elected(call_elect::elect(book, UserNumber(number), option, year, month, day)) }
-        Order::Advance {
+        Request::Advance {
             number,
             year,
             run,
@@ -441,20 +434,35 @@ fn call(order: Order, line: &[u8], book: &mut [u8], out: &mut [u8]) -> bool
                 WideKwh(estimate2),
             ))
         }
-        Order::Close(at) => close_year(book, line, at),
-        Order::Charge(number) => say_record(call_charge::charge(book, UserNumber(number))),
-        Order::Statement(number) => say_stated(call_statement::statement(book, UserNumber(number))),
-        Order::Archive { sheet, buffer } => rearrange(line, sheet, buffer, Work::Archive, out),
-        Order::Restore { archive, buffer } => rearrange(line, archive, buffer, Work::Restore, out),
-        Order::Raise { sheet, factor } => raise(line, sheet, factor, out),
-        Order::ReadMeasures { sheet, text } => rearrange(line, text, sheet, Work::Read, out),
-        Order::WriteMeasures { sheet, buffer } => rearrange(line, sheet, buffer, Work::Write, out),
-        Order::MoreSun { sheet, month, band } => ask_more_sun(book, line, sheet, month, band),
-        Order::Dump => say_hex(book, out, 0),
-        Order::List => list(book, out),
-        Order::New(_) => say_error(),
-        Order::Load(_) => say_error(),
-        Order::Wrong => say_error(),
+        Request::Close(at) => close_year(book, line, at),
+        Request::Charge(number) => say_record(call_charge::charge(book, UserNumber(number))),
+        Request::Statement(number) => say_stated(call_statement::statement(
+            book,
+            UserNumber(number),
+        )),
+        Request::Archive { sheet, buffer } => rearrange(line, sheet, buffer, Work::Archive, out),
+        Request::Restore { archive, buffer } => rearrange(
+            line,
+            archive,
+            buffer,
+            Work::Restore,
+            out,
+        ),
+        Request::Raise { sheet, factor } => raise(line, sheet, factor, out),
+        Request::ReadMeasures { sheet, text } => rearrange(line, text, sheet, Work::Read, out),
+        Request::WriteMeasures { sheet, buffer } => rearrange(
+            line,
+            sheet,
+            buffer,
+            Work::Write,
+            out,
+        ),
+        Request::MoreSun { sheet, month, band } => ask_more_sun(book, line, sheet, month, band),
+        Request::Dump => say_hex(book, out, 0),
+        Request::List => list(book, out),
+        Request::New(_) => say_error(),
+        Request::Load(_) => say_error(),
+        Request::Wrong => say_error(),
     }
 }
 
@@ -464,20 +472,20 @@ fn answer(line: &[u8], buffer: &mut [u8], len: usize, out: &mut [u8]) -> Step
     requires { ⌜ 2 * length (now buffer) + 257 ≤ length (now out) ⌝ }
     ensures { λ r. ⌜ LineDone (now (line .entry)) (now (buffer .entry)) (now (buffer .exit)) len (r .len) ⌝ }
 {
-    let order = replay_script::order_of(line);
-    match order {
-        Order::New(n) => Step {
+    let request = replay_script::request_of(line);
+    match request {
+        Request::New(n) => Step {
             len: new_book(buffer, n),
             more: true,
         },
-        Order::Load(at) => load_book(buffer, len, line, at),
-        Order::Wrong => Step {
+        Request::Load(at) => load_book(buffer, len, line, at),
+        Request::Wrong => Step {
             len,
             more: say_error(),
         },
         _ => Step {
             len,
-            more: call(order, line, &mut buffer[..len], out),
+            more: call(request, line, &mut buffer[..len], out),
         },
     }
 }

@@ -13,7 +13,7 @@ use Rattle.units.proofs.Bools.{and-left, and-right}
 use Rattle.units.proofs.Folds.{all-at, all-cong}
 use Rattle.text.specs.declared.Numbers.{Numbers}
 use Rattle.text.specs.InnerText.{fieldAt, afterFields, FieldsRead}
-use Rattle.replay_script.specs.Orders.{isAtMost, valueOf, numbersFit, numberOf, NumbersRead}
+use Rattle.replay_script.specs.Requests.{isAtMost, valueRead, numbersFit, argumentAt, NumbersRead}
 
 -- a test that fails somewhere below n does not pass everywhere there
 all-fails : (n : ℕ) (p : ℕ → Bool) (i : ℕ) → i < n → p i ≡ false → allBelow n p ≡ false
@@ -54,8 +54,8 @@ module _ (s : List ℕ) (at : ℕ) (most : List ℕ) (r : Numbers) (h : FieldsRe
       either (yes l) = too-few l
       either (no m) = all-read (omega (arith, m, h .most))
 
-  value-same : fit ≡ true → (k : ℕ) → k < length most → getD (r .values) k 0 ≡ numberOf s at k
-  unfolding numberOf valueOf
+  value-same : fit ≡ true → (k : ℕ) → k < length most → getD (r .values) k 0 ≡ argumentAt s at k
+  unfolding argumentAt valueRead
   value-same e k l =
       let tests = and-right (allBelow (length most) within) (eqb (r .count) (length most) && eqb (r .next) (length s)) e in
       let count = eqb-true (r .count) (length most) (and-left (eqb (r .count) (length most)) (eqb (r .next) (length s)) tests) in

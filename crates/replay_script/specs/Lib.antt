@@ -1,1 +1,1 @@
-pub mod Orders
+pub mod Requests

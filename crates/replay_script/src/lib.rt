@@ -3,13 +3,13 @@ ghost use mathlib.Core.Path.{_≡_};
 ghost use mathlib.Core.Bool.{cond};
 ghost use Prim.Native.Nat.{_≤_};
 ghost use lib.ListN.{length};
-ghost use Rattle.replay_script.specs.Orders.{begins, bytesFit, NumbersRead, newOrder, enrolOrder, electOrder, advanceOrder};
-ghost use Rattle.replay_script.specs.Orders.{chargeOrder, statementOrder, loadOrder, closeOrder, aloneOrder, callOrder, bookOrder};
-ghost use Rattle.replay_script.specs.Orders.{orderOf};
-ghost use Rattle.replay_script.specs.Orders.{isNoBytes, isSomeBytes, wordAt, wordsAt, archiveOrder, restoreOrder, raiseOrder};
-ghost use Rattle.replay_script.specs.Orders.{sheetOrder};
-ghost use Rattle.replay_script.specs.Orders.{readMeasuresOrder, writeMeasuresOrder, textOrder};
-ghost use Rattle.replay_script.specs.Orders.{moreSunOrder, askingOrder};
+ghost use Rattle.replay_script.specs.Requests.{begins, bytesFit, NumbersRead, newRequest, enrolRequest, electRequest, advanceRequest};
+ghost use Rattle.replay_script.specs.Requests.{chargeRequest, statementRequest, loadRequest, closeRequest, aloneRequest};
+ghost use Rattle.replay_script.specs.Requests.{callRequest, bookRequest, requestOf};
+ghost use Rattle.replay_script.specs.Requests.{isNoBytes, isSomeBytes, wordAt, wordsAt, archiveRequest, restoreRequest, raiseRequest};
+ghost use Rattle.replay_script.specs.Requests.{sheetRequest};
+ghost use Rattle.replay_script.specs.Requests.{readMeasuresRequest, writeMeasuresRequest, textRequest};
+ghost use Rattle.replay_script.specs.Requests.{moreSunRequest, askingRequest};
 
 // Where the digits of a word of bytes stand: none for `-`.
 pub struct Digits {
@@ -18,7 +18,7 @@ pub struct Digits {
 }
 
 // What a line asks. `Load` and `Close` name the place where their digits begin, which go to the end of the line.
-pub enum Order {
+pub enum Request {
     New(usize),
     Load(usize),
     Fresh,
@@ -197,20 +197,20 @@ fn words_at(line: &[u8], at: usize) -> Words
     }
 }
 
-fn new_order(line: &[u8]) -> Order
-    ensures { λ r. ⌜ r ≡ newOrder (now (line .entry)) ⌝ }
+fn new_request(line: &[u8]) -> Request
+    ensures { λ r. ⌜ r ≡ newRequest (now (line .entry)) ⌝ }
 {
     let read = numbers_at(line, 3, &[LONGEST_BOOK as u64]);
     let n = read.values;
     if read.fit {
-        Order::New(n[0] as usize)
+        Request::New(n[0] as usize)
     } else {
-        Order::Wrong
+        Request::Wrong
     }
 }
 
-fn enrol_order(line: &[u8]) -> Order
-    ensures { λ r. ⌜ r ≡ enrolOrder (now (line .entry)) ⌝ }
+fn enrol_request(line: &[u8]) -> Request
+    ensures { λ r. ⌜ r ≡ enrolRequest (now (line .entry)) ⌝ }
 {
     let read = numbers_at(
         line,
@@ -219,7 +219,7 @@ fn enrol_order(line: &[u8]) -> Order
     );
     let n = read.values;
     if read.fit {
-        Order::Enrol {
+        Request::Enrol {
             number: n[0] as u32,
             class: n[1] as u8,
             plant: n[2] as u8,
@@ -230,17 +230,17 @@ fn enrol_order(line: &[u8]) -> Order
             island: n[7] as u8,
         }
     } else {
-        Order::Wrong
+        Request::Wrong
     }
 }
 
-fn elect_order(line: &[u8]) -> Order
-    ensures { λ r. ⌜ r ≡ electOrder (now (line .entry)) ⌝ }
+fn elect_request(line: &[u8]) -> Request
+    ensures { λ r. ⌜ r ≡ electRequest (now (line .entry)) ⌝ }
 {
     let read = numbers_at(line, 5, &[MOST32, MOST8, MOST32, MOST32, MOST32]);
     let n = read.values;
     if read.fit {
-        Order::Elect {
+        Request::Elect {
             number: n[0] as u32,
             option: n[1] as u8,
             year: n[2] as u32,
@@ -248,17 +248,17 @@ fn elect_order(line: &[u8]) -> Order
             day: n[4] as u32,
         }
     } else {
-        Order::Wrong
+        Request::Wrong
     }
 }
 
-fn advance_order(line: &[u8]) -> Order
-    ensures { λ r. ⌜ r ≡ advanceOrder (now (line .entry)) ⌝ }
+fn advance_request(line: &[u8]) -> Request
+    ensures { λ r. ⌜ r ≡ advanceRequest (now (line .entry)) ⌝ }
 {
     let read = numbers_at(line, 7, &[MOST32, MOST32, MOST8, MOST64, MOST64, MOST64]);
     let n = read.values;
     if read.fit {
-        Order::Advance {
+        Request::Advance {
             number: n[0] as u32,
             year: n[1] as u32,
             run: n[2] as u8,
@@ -267,244 +267,244 @@ fn advance_order(line: &[u8]) -> Order
             estimate2: n[5],
         }
     } else {
-        Order::Wrong
+        Request::Wrong
     }
 }
 
-fn statement_order(line: &[u8]) -> Order
-    ensures { λ r. ⌜ r ≡ statementOrder (now (line .entry)) ⌝ }
+fn statement_request(line: &[u8]) -> Request
+    ensures { λ r. ⌜ r ≡ statementRequest (now (line .entry)) ⌝ }
 {
     let read = numbers_at(line, 9, &[MOST32]);
     let n = read.values;
     if read.fit {
-        Order::Statement(n[0] as u32)
+        Request::Statement(n[0] as u32)
     } else {
-        Order::Wrong
+        Request::Wrong
     }
 }
 
-fn charge_order(line: &[u8]) -> Order
-    ensures { λ r. ⌜ r ≡ chargeOrder (now (line .entry)) ⌝ }
+fn charge_request(line: &[u8]) -> Request
+    ensures { λ r. ⌜ r ≡ chargeRequest (now (line .entry)) ⌝ }
 {
     let read = numbers_at(line, 6, &[MOST32]);
     let n = read.values;
     if read.fit {
-        Order::Charge(n[0] as u32)
+        Request::Charge(n[0] as u32)
     } else {
-        Order::Wrong
+        Request::Wrong
     }
 }
 
-fn load_order(line: &[u8]) -> Order
-    ensures { λ r. ⌜ r ≡ loadOrder (now (line .entry)) ⌝ }
+fn load_request(line: &[u8]) -> Request
+    ensures { λ r. ⌜ r ≡ loadRequest (now (line .entry)) ⌝ }
 {
     if bytes_fit(line, 4) {
-        Order::Load(text::after_blank(line, 4))
+        Request::Load(text::after_blank(line, 4))
     } else {
-        Order::Wrong
+        Request::Wrong
     }
 }
 
-fn close_order(line: &[u8]) -> Order
-    ensures { λ r. ⌜ r ≡ closeOrder (now (line .entry)) ⌝ }
+fn close_request(line: &[u8]) -> Request
+    ensures { λ r. ⌜ r ≡ closeRequest (now (line .entry)) ⌝ }
 {
     if bytes_fit(line, 5) {
-        Order::Close(text::after_blank(line, 5))
+        Request::Close(text::after_blank(line, 5))
     } else {
-        Order::Wrong
+        Request::Wrong
     }
 }
 
-fn archive_order(line: &[u8]) -> Order
-    ensures { λ r. ⌜ r ≡ archiveOrder (now (line .entry)) ⌝ }
+fn archive_request(line: &[u8]) -> Request
+    ensures { λ r. ⌜ r ≡ archiveRequest (now (line .entry)) ⌝ }
 {
     let words = words_at(line, 7);
     let sheet = words.first;
     let buffer = words.second;
     if words.fit {
-        Order::Archive { sheet, buffer }
+        Request::Archive { sheet, buffer }
     } else {
-        Order::Wrong
+        Request::Wrong
     }
 }
 
-fn restore_order(line: &[u8]) -> Order
-    ensures { λ r. ⌜ r ≡ restoreOrder (now (line .entry)) ⌝ }
+fn restore_request(line: &[u8]) -> Request
+    ensures { λ r. ⌜ r ≡ restoreRequest (now (line .entry)) ⌝ }
 {
     let words = words_at(line, 7);
     let archive = words.first;
     let buffer = words.second;
     if words.fit {
-        Order::Restore { archive, buffer }
+        Request::Restore { archive, buffer }
     } else {
-        Order::Wrong
+        Request::Wrong
     }
 }
 
-fn raise_order(line: &[u8]) -> Order
-    ensures { λ r. ⌜ r ≡ raiseOrder (now (line .entry)) ⌝ }
+fn raise_request(line: &[u8]) -> Request
+    ensures { λ r. ⌜ r ≡ raiseRequest (now (line .entry)) ⌝ }
 {
     let word = word_at(line, 5);
     let sheet = word.digits;
     let read = numbers_at(line, sheet.to, &[MOST32]);
     let n = read.values;
     if word.fit & read.fit {
-        Order::Raise {
+        Request::Raise {
             sheet,
             factor: n[0] as u32,
         }
     } else {
-        Order::Wrong
+        Request::Wrong
     }
 }
 
 // A sheet, a month and a band.
-fn more_sun_order(line: &[u8]) -> Order
-    ensures { λ r. ⌜ r ≡ moreSunOrder (now (line .entry)) ⌝ }
+fn more_sun_request(line: &[u8]) -> Request
+    ensures { λ r. ⌜ r ≡ moreSunRequest (now (line .entry)) ⌝ }
 {
     let word = word_at(line, 7);
     let sheet = word.digits;
     let read = numbers_at(line, sheet.to, &[MOST32, MOST32]);
     let n = read.values;
     if word.fit & read.fit {
-        Order::MoreSun {
+        Request::MoreSun {
             sheet,
             month: n[0] as u32,
             band: n[1] as u32,
         }
     } else {
-        Order::Wrong
+        Request::Wrong
     }
 }
 
-fn read_measures_order(line: &[u8]) -> Order
-    ensures { λ r. ⌜ r ≡ readMeasuresOrder (now (line .entry)) ⌝ }
+fn read_measures_request(line: &[u8]) -> Request
+    ensures { λ r. ⌜ r ≡ readMeasuresRequest (now (line .entry)) ⌝ }
 {
     let words = words_at(line, 12);
     let sheet = words.first;
     let text = words.second;
     if words.fit {
-        Order::ReadMeasures { sheet, text }
+        Request::ReadMeasures { sheet, text }
     } else {
-        Order::Wrong
+        Request::Wrong
     }
 }
 
-fn write_measures_order(line: &[u8]) -> Order
-    ensures { λ r. ⌜ r ≡ writeMeasuresOrder (now (line .entry)) ⌝ }
+fn write_measures_request(line: &[u8]) -> Request
+    ensures { λ r. ⌜ r ≡ writeMeasuresRequest (now (line .entry)) ⌝ }
 {
     let words = words_at(line, 13);
     let sheet = words.first;
     let buffer = words.second;
     if words.fit {
-        Order::WriteMeasures { sheet, buffer }
+        Request::WriteMeasures { sheet, buffer }
     } else {
-        Order::Wrong
+        Request::Wrong
     }
 }
 
-// The order of a word that stands alone.
-fn alone_order(line: &[u8], word: &[u8], asked: Order) -> Order
-    ensures { λ r. ⌜ r ≡ aloneOrder (now (line .entry)) (now (word .entry)) asked ⌝ }
+// The request of a word that stands alone.
+fn alone_request(line: &[u8], word: &[u8], asked: Request) -> Request
+    ensures { λ r. ⌜ r ≡ aloneRequest (now (line .entry)) (now (word .entry)) asked ⌝ }
 {
     if line.len() == word.len() {
         asked
     } else {
-        Order::Wrong
+        Request::Wrong
     }
 }
 
 // The calls on the operator's text.
-fn text_order(line: &[u8]) -> Order
-    ensures { λ r. ⌜ r ≡ textOrder (now (line .entry)) ⌝ }
+fn text_request(line: &[u8]) -> Request
+    ensures { λ r. ⌜ r ≡ textRequest (now (line .entry)) ⌝ }
 {
     if begins(line, b"readmeasures") {
-        return read_measures_order(line);
+        return read_measures_request(line);
     }
     if begins(line, b"writemeasures") {
-        return write_measures_order(line);
+        return write_measures_request(line);
     }
-    Order::Wrong
+    Request::Wrong
 }
 
 // The calls on sheets alone.
-fn sheet_order(line: &[u8]) -> Order
-    ensures { λ r. ⌜ r ≡ sheetOrder (now (line .entry)) ⌝ }
+fn sheet_request(line: &[u8]) -> Request
+    ensures { λ r. ⌜ r ≡ sheetRequest (now (line .entry)) ⌝ }
 {
     if begins(line, b"archive") {
-        return archive_order(line);
+        return archive_request(line);
     }
     if begins(line, b"restore") {
-        return restore_order(line);
+        return restore_request(line);
     }
     if begins(line, b"raise") {
-        return raise_order(line);
+        return raise_request(line);
     }
-    text_order(line)
+    text_request(line)
 }
 
 // The calls that ask of a book, and else one on sheets.
-fn asking_order(line: &[u8]) -> Order
-    ensures { λ r. ⌜ r ≡ askingOrder (now (line .entry)) ⌝ }
+fn asking_request(line: &[u8]) -> Request
+    ensures { λ r. ⌜ r ≡ askingRequest (now (line .entry)) ⌝ }
 {
     if begins(line, b"statement") {
-        return statement_order(line);
+        return statement_request(line);
     }
     if begins(line, b"moresun") {
-        return more_sun_order(line);
+        return more_sun_request(line);
     }
-    sheet_order(line)
+    sheet_request(line)
 }
 
 // The calls that book, and else another one.
-fn call_order(line: &[u8]) -> Order
-    ensures { λ r. ⌜ r ≡ callOrder (now (line .entry)) ⌝ }
+fn call_request(line: &[u8]) -> Request
+    ensures { λ r. ⌜ r ≡ callRequest (now (line .entry)) ⌝ }
 {
     if begins(line, b"enrol") {
-        return enrol_order(line);
+        return enrol_request(line);
     }
     if begins(line, b"elect") {
-        return elect_order(line);
+        return elect_request(line);
     }
     if begins(line, b"advance") {
-        return advance_order(line);
+        return advance_request(line);
     }
     if begins(line, b"close") {
-        return close_order(line);
+        return close_request(line);
     }
     if begins(line, b"charge") {
-        return charge_order(line);
+        return charge_request(line);
     }
-    asking_order(line)
+    asking_request(line)
 }
 
 // What concerns the whole book, and else a call.
-fn book_order(line: &[u8]) -> Order
-    ensures { λ r. ⌜ r ≡ bookOrder (now (line .entry)) ⌝ }
+fn book_request(line: &[u8]) -> Request
+    ensures { λ r. ⌜ r ≡ bookRequest (now (line .entry)) ⌝ }
 {
     if begins(line, b"new") {
-        return new_order(line);
+        return new_request(line);
     }
     if begins(line, b"load") {
-        return load_order(line);
+        return load_request(line);
     }
     if begins(line, b"fresh") {
-        return alone_order(line, b"fresh", Order::Fresh);
+        return alone_request(line, b"fresh", Request::Fresh);
     }
     if begins(line, b"dump") {
-        return alone_order(line, b"dump", Order::Dump);
+        return alone_request(line, b"dump", Request::Dump);
     }
     if begins(line, b"list") {
-        return alone_order(line, b"list", Order::List);
+        return alone_request(line, b"list", Request::List);
     }
-    call_order(line)
+    call_request(line)
 }
 
-pub fn order_of(line: &[u8]) -> Order
-    ensures { λ r. ⌜ r ≡ orderOf (now (line .entry)) ⌝ }
+pub fn request_of(line: &[u8]) -> Request
+    ensures { λ r. ⌜ r ≡ requestOf (now (line .entry)) ⌝ }
 {
     if LONGEST_LINE < line.len() {
-        return Order::Wrong;
+        return Request::Wrong;
     }
-    book_order(line)
+    book_request(line)
 }

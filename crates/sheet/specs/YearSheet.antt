@@ -157,6 +157,6 @@ abbrev pub Past13 : List ℕ → Type 0
 Past13 s = (refused13 s ≡ false) × (refused19 s ≡ false)
 
 -- a sheet that has passed 11 and 13
-pub record Passed (s : List ℕ) : Type 0 where
+pub record SheetPassed (s : List ℕ) : Type 0 where
   pub past11 : refused11 s ≡ false
   pub past13 : Past13 s

@@ -12,8 +12,8 @@ use lib.ListN.{length}
 use Rattle.units.proofs.Bools.{and-left, and-right, and-both}
 use Rattle.codec.specs.Bytes.{number, stored}
 use Rattle.sheet.specs.YearSheet.{sheetLength, word}
-use Rattle.sheet_archive.specs.Tables.{headerLength, header, numberIn, line, lines, tableLength}
-use Rattle.sheet_archive.specs.Archive.{differences, inSheet, archiveOf, sheetOf, sheetColumns, sheetMonths, sizesFit, answer, archiveAfter, sheetAfter}
+use Rattle.sheet_archive.specs.Tables.{headerLength, header, numberIn, tableLine, tableLines, tableLength}
+use Rattle.sheet_archive.specs.Archive.{differences, inSheet, archiveOf, sheetOf, sheetColumns, sheetMonths, sizesFit, sizeAnswer, archiveAfter, restoredAfter}
 use Rattle.sheet_archive.proofs.Tables.{length-header}
 use Rattle.sheet_archive.proofs.Writing.{written, table-begun, table-next, table-whole}
 
@@ -33,20 +33,20 @@ module _ (source destination : List ℕ) where
   abbrev fit : Bool
   fit = sizesFit (length source) (length destination)
 
-  pub refused-archive : fit ≡ false → (27 ≡ answer source destination) × (destination ≡ archiveAfter source destination)
-  unfolding answer archiveAfter
+  pub refused-archive : fit ≡ false → (27 ≡ sizeAnswer source destination) × (destination ≡ archiveAfter source destination)
+  unfolding sizeAnswer archiveAfter
   refused-archive e = (rw e, rw e)
 
-  pub refused-sheet : fit ≡ false → (27 ≡ answer source destination) × (destination ≡ sheetAfter source destination)
-  unfolding answer sheetAfter
+  pub refused-sheet : fit ≡ false → (27 ≡ sizeAnswer source destination) × (destination ≡ restoredAfter source destination)
+  unfolding sizeAnswer restoredAfter
   refused-sheet e = (rw e, rw e)
 
-  pub accepted-archive : fit ≡ true → (0 ≡ answer source destination) × (archiveOf sheetColumns sheetMonths source ≡ archiveAfter source destination)
-  unfolding answer archiveAfter
+  pub accepted-archive : fit ≡ true → (0 ≡ sizeAnswer source destination) × (archiveOf sheetColumns sheetMonths source ≡ archiveAfter source destination)
+  unfolding sizeAnswer archiveAfter
   accepted-archive e = (rw e, rw e)
 
-  pub accepted-sheet : fit ≡ true → (0 ≡ answer source destination) × (sheetOf sheetColumns sheetMonths source ≡ sheetAfter source destination)
-  unfolding answer sheetAfter
+  pub accepted-sheet : fit ≡ true → (0 ≡ sizeAnswer source destination) × (sheetOf sheetColumns sheetMonths source ≡ restoredAfter source destination)
+  unfolding sizeAnswer restoredAfter
   accepted-sheet e = (rw e, rw e)
 
 -- THE SHEET: its numbers are those of "Year sheet"
@@ -81,7 +81,7 @@ module _ (n places : ℕ) (source : List ℕ) (f : ℕ → ℕ → ℕ) (t₀ : 
     header-long : length (header source) ≡ headerLength
     header-long = length-header source (omega (arith, w .long))
 
-    pub goes-on : (t′ bs : List ℕ) → i < n → bs ≡ line places (f i) → t′ ≡ stored (headerLength + 4 * places * i) bs t → length t′ ≡ length t
+    pub goes-on : (t′ bs : List ℕ) → i < n → bs ≡ tableLine places (f i) → t′ ≡ stored (headerLength + 4 * places * i) bs t → length t′ ≡ length t
         → Filling t′ (i + 1)
     goes-on t′ bs l b e s =
         let more : places * suc i ≤ places * n = mul-le-mul-left places l in
@@ -94,7 +94,7 @@ module _ (n places : ℕ) (source : List ℕ) (f : ℕ → ℕ → ℕ) (t₀ : 
           filled = e ∙ table-next places (header source) f t₀ header-long i t bs (omega (arith, w .long₀)) (w .filled) b;
         }
 
-    pub ends : i ≡ n → t ≡ header source ++ lines n places f
+    pub ends : i ≡ n → t ≡ header source ++ tableLines n places f
     ends e =
         w .filled
         ∙ ap (written places (header source) f t₀) e

@@ -14,7 +14,7 @@ use Rattle.codec.proofs.ByteRanges.{Bytes, number-below}
 use Rattle.codec.proofs.Stores.{length-stored, part-stored, part-before, part-after}
 use Rattle.sheet.specs.YearSheet.{sheetLength}
 use Rattle.sheet_archive.specs.declared.Four.{Four}
-use Rattle.sheet_archive.specs.Tables.{headerLength, header, numberIn, lines}
+use Rattle.sheet_archive.specs.Tables.{headerLength, header, numberIn, tableLines}
 use Rattle.sheet_archive.specs.Archive.{plus, sums, inArchive, sheetColumns, sheetMonths}
 use Rattle.sheet_archive.specs.InnerSteps.{before, nextFour, numberStored, fourStored, Stands, Restored}
 use Rattle.sheet_archive.proofs.Tables.{length-header, header-first, table-of-parts}
@@ -122,10 +122,10 @@ module _ (a s : List ℕ) where
         numbers = λ j l. absurd (not-suc-le-zero l);
       }
 
-  pub restored-whole : Restored a s sheetColumns 0 0 → s ≡ header a ++ lines sheetMonths sheetColumns (sheetLines a)
+  pub restored-whole : Restored a s sheetColumns 0 0 → s ≡ header a ++ tableLines sheetMonths sheetColumns (sheetLines a)
   restored-whole w =
       sym (table-of-parts sheetMonths sheetColumns s (sheetLines a) (w .long) (w .columns))
-      ∙ ap (λ (h : List ℕ). h ++ lines sheetMonths sheetColumns (sheetLines a)) (w .front)
+      ∙ ap (λ (h : List ℕ). h ++ tableLines sheetMonths sheetColumns (sheetLines a)) (w .front)
 
 pub restored-at : {a s : List ℕ} {n n′ : ℕ} → n ≡ n′ → Restored a s n 0 0 → Restored a s n′ 0 0
 restored-at {a} {s} e w = subst (λ (k : ℕ). Restored a s k 0 0) e w

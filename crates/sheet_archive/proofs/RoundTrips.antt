@@ -8,8 +8,8 @@ use native.Mathlib.Omega.{arith}
 use lib.ListN.{length, length-append}
 use Rattle.sheet.specs.YearSheet.{sheetLength}
 use Rattle.codec.proofs.ByteRanges.{Bytes, number-below}
-use Rattle.sheet_archive.specs.Tables.{headerLength, header, numberIn, lines, tableLength}
-use Rattle.sheet_archive.specs.Archive.{differences, sums, inSheet, inArchive, archiveOf, sheetOf, sheetColumns, sheetMonths, sizesFit, answer, archiveAfter, sheetAfter}
+use Rattle.sheet_archive.specs.Tables.{headerLength, header, numberIn, tableLines, tableLength}
+use Rattle.sheet_archive.specs.Archive.{differences, sums, inSheet, inArchive, archiveOf, sheetOf, sheetColumns, sheetMonths, sizesFit, sizeAnswer, archiveAfter, restoredAfter}
 use Rattle.sheet_archive.specs.RoundTrips.{Buffer, RoundTrips, CallsBack}
 use Rattle.sheet_archive.proofs.Tables.{length-header, header-first, length-lines, lines-cong, number-in-lines, table-back}
 use Rattle.sheet_archive.proofs.Calls.{source-fits, destination-fits, sizes-fit, accepted-archive, accepted-sheet}
@@ -45,7 +45,7 @@ module _ (columns months : ℕ) where
     pub restored : sheetOf columns months (archiveOf columns months s) ≡ s
     unfolding sheetOf archiveOf
     restored =
-        ap₂ _++_ (header-first (header s) (lines columns months (λ c. differences (inSheet columns s c))) long-header)
+        ap₂ _++_ (header-first (header s) (tableLines columns months (λ c. differences (inSheet columns s c))) long-header)
         (lines-cong months columns (λ m c. sums (inArchive months (archiveOf columns months s) c) m) (numberIn columns s) summed)
         ∙ table-back months columns s (b .long) (b .bytes)
 
@@ -74,7 +74,7 @@ module _ (columns months : ℕ) where
     pub valid : archiveOf columns months (sheetOf columns months a) ≡ a
     unfolding sheetOf archiveOf
     valid =
-        ap₂ _++_ (header-first (header a) (lines months columns (λ m c. sums (inArchive months a c) m)) long-front)
+        ap₂ _++_ (header-first (header a) (tableLines months columns (λ m c. sums (inArchive months a c) m)) long-front)
         (lines-cong columns months (λ c. differences (inSheet columns (sheetOf columns months a) c)) (numberIn months a) parted)
         ∙ table-back columns months a (b .long) (b .bytes)
 
@@ -105,15 +105,15 @@ calls-back =
       valid =
           λ a s b h ls lb.
           let unpacked = sym (accepted-sheet a s (sizes-fit (length a) (length s) (h .long) ls) .1) in
-          let long : length (sheetAfter a s) ≡ sheetLength = ap length unpacked ∙ length-sheet sheetColumns sheetMonths a (omega (arith, h .long)) in
-          sym (accepted-archive (sheetAfter a s) b (sizes-fit (length (sheetAfter a s)) (length b) long lb) .1)
+          let long : length (restoredAfter a s) ≡ sheetLength = ap length unpacked ∙ length-sheet sheetColumns sheetMonths a (omega (arith, h .long)) in
+          sym (accepted-archive (restoredAfter a s) b (sizes-fit (length (restoredAfter a s)) (length b) long lb) .1)
           ∙ ap (archiveOf sheetColumns sheetMonths) unpacked
           ∙ valid sheetColumns sheetMonths a h;
     }
 
 -- a call that answers 0 found both sizes right
-pub answered-sizes : (source destination : List ℕ) → answer source destination ≡ 0 → (length source ≡ sheetLength) × (length destination ≡ sheetLength)
-unfolding answer
+pub answered-sizes : (source destination : List ℕ) → sizeAnswer source destination ≡ 0 → (length source ≡ sheetLength) × (length destination ≡ sheetLength)
+unfolding sizeAnswer
 answered-sizes source destination e = by-test (sizesFit (length source) (length destination)) refl
   where
     by-test : (t : Bool) → sizesFit (length source) (length destination) ≡ t → (length source ≡ sheetLength) × (length destination ≡ sheetLength)

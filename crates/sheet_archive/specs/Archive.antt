@@ -5,7 +5,7 @@ use mathlib.Core.List.{List, _++_}
 use lib.Dec.{eqb}
 use lib.ListN.{length}
 use Rattle.sheet.specs.YearSheet.{sheetLength}
-use Rattle.sheet_archive.specs.Tables.{header, numberIn, lines}
+use Rattle.sheet_archive.specs.Tables.{header, numberIn, tableLines}
 
 -- "modulo 2^32"
 abbrev pub minus : ℕ → ℕ → ℕ
@@ -33,11 +33,11 @@ inArchive months a column month = numberIn months a column month
 
 -- "A sheet is rearranged into 24 columns of twelve .. The header goes first."
 unfoldable pub archiveOf : ℕ → ℕ → List ℕ → List ℕ
-archiveOf columns months s = header s ++ lines columns months (λ column. differences (inSheet columns s column))
+archiveOf columns months s = header s ++ tableLines columns months (λ column. differences (inSheet columns s column))
 
 -- "The way back"
 unfoldable pub sheetOf : ℕ → ℕ → List ℕ → List ℕ
-sheetOf columns months a = header a ++ lines months columns (λ month column. sums (inArchive months a column) month)
+sheetOf columns months a = header a ++ tableLines months columns (λ month column. sums (inArchive months a column) month)
 
 -- "24 columns of twelve"
 abbrev pub sheetColumns : ℕ
@@ -50,12 +50,12 @@ sheetMonths = 12
 abbrev pub sizesFit : ℕ → ℕ → Bool
 sizesFit source destination = eqb source sheetLength && eqb destination sheetLength
 
-unfoldable pub answer : List ℕ → List ℕ → ℕ
-answer source destination = cond (sizesFit (length source) (length destination)) 0 27
+unfoldable pub sizeAnswer : List ℕ → List ℕ → ℕ
+sizeAnswer source destination = cond (sizesFit (length source) (length destination)) 0 27
 
 -- the buffer that is written, after the call; a refusal leaves it as it was
 unfoldable pub archiveAfter : List ℕ → List ℕ → List ℕ
 archiveAfter s a = cond (sizesFit (length s) (length a)) (archiveOf sheetColumns sheetMonths s) a
 
-unfoldable pub sheetAfter : List ℕ → List ℕ → List ℕ
-sheetAfter a s = cond (sizesFit (length a) (length s)) (sheetOf sheetColumns sheetMonths a) s
+unfoldable pub restoredAfter : List ℕ → List ℕ → List ℕ
+restoredAfter a s = cond (sizesFit (length a) (length s)) (sheetOf sheetColumns sheetMonths a) s

@@ -6,7 +6,7 @@ use lib.ListN.{length, getD}
 use Rattle.codec.specs.Bytes.{bytesOf, part, number, stored}
 use Rattle.sheet.specs.YearSheet.{sheetLength}
 use Rattle.sheet_archive.specs.declared.Four.{Four}
-use Rattle.sheet_archive.specs.Tables.{headerLength, header, line}
+use Rattle.sheet_archive.specs.Tables.{headerLength, header, tableLine}
 use Rattle.sheet_archive.specs.Archive.{plus, differences, sums, inSheet, inArchive, sheetColumns, sheetMonths}
 
 -- the first n numbers of an array are those of f
@@ -24,7 +24,7 @@ abbrev pub columnPlace : ℕ → ℕ
 columnPlace column = headerLength + 4 * sheetMonths * column
 
 abbrev pub columnWritten : List ℕ → ℕ → List ℕ → List ℕ
-columnWritten s column a = stored (columnPlace column) (line sheetMonths (differences (inSheet sheetColumns s column))) a
+columnWritten s column a = stored (columnPlace column) (tableLine sheetMonths (differences (inSheet sheetColumns s column))) a
 
 -- the number before one in its column; 0 before the first
 unfoldable pub before : (ℕ → ℕ) → ℕ → ℕ

@@ -6,7 +6,7 @@ use mathlib.Core.List.{List}
 use lib.ListN.{length, getD}
 use Rattle.sheet.specs.YearSheet.{sheetLength}
 use Rattle.sheet_archive.specs.Tables.{tableLength}
-use Rattle.sheet_archive.specs.Archive.{archiveOf, sheetOf, archiveAfter, sheetAfter}
+use Rattle.sheet_archive.specs.Archive.{archiveOf, sheetOf, archiveAfter, restoredAfter}
 
 pub record Buffer (size : ℕ) (b : List ℕ) : Type 0 where
   pub long : length b ≡ size
@@ -21,6 +21,6 @@ pub record RoundTrips (columns months : ℕ) : Type 0 where
 -- the same of the buffers that the two calls write, whatever stood in them
 pub record CallsBack : Type 0 where
   pub restored : (s a t : List ℕ) → Buffer sheetLength s → length a ≡ sheetLength → length t ≡ sheetLength
-      → sheetAfter (archiveAfter s a) t ≡ s
+      → restoredAfter (archiveAfter s a) t ≡ s
   pub valid : (a s b : List ℕ) → Buffer sheetLength a → length s ≡ sheetLength → length b ≡ sheetLength
-      → archiveAfter (sheetAfter a s) b ≡ a
+      → archiveAfter (restoredAfter a s) b ≡ a

@@ -24,11 +24,11 @@ pieces zero g = []
 pieces (suc n) g = pieces n g ++ g n
 
 -- a line of numbers, and the lines of a table, each number of four bytes
-unfoldable pub line : ℕ → (ℕ → ℕ) → List ℕ
-line places f = pieces places (λ j. bytesOf 4 (f j))
+unfoldable pub tableLine : ℕ → (ℕ → ℕ) → List ℕ
+tableLine places f = pieces places (λ j. bytesOf 4 (f j))
 
-unfoldable pub lines : ℕ → ℕ → (ℕ → ℕ → ℕ) → List ℕ
-lines n places f = pieces n (λ i. line places (f i))
+unfoldable pub tableLines : ℕ → ℕ → (ℕ → ℕ → ℕ) → List ℕ
+tableLines n places f = pieces n (λ i. tableLine places (f i))
 
 abbrev pub tableLength : ℕ → ℕ → ℕ
 tableLength n places = headerLength + 4 * (places * n)

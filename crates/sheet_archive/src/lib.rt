@@ -7,7 +7,7 @@ ghost use Rattle.codec.specs.Bytes.{stored};
 ghost use Rattle.sheet.specs.YearSheet.{sheetLength};
 ghost use Rattle.sheet_archive.specs.Tables.{headerLength, header};
 ghost use Rattle.sheet_archive.specs.Archive.{minus, plus, inSheet, inArchive, sheetColumns, sheetMonths};
-ghost use Rattle.sheet_archive.specs.Archive.{sizesFit, answer, archiveAfter, sheetAfter};
+ghost use Rattle.sheet_archive.specs.Archive.{sizesFit, sizeAnswer, archiveAfter, restoredAfter};
 ghost use Rattle.sheet_archive.specs.InnerSteps.{Holds, headerWords, headerWord, columnWritten, nextFour, fourStored, Restored};
 use sheet::HEADER;
 use sheet::LENGTH;
@@ -169,7 +169,7 @@ fn restore_four(archive: &[u8], sheet: &mut [u8], column: usize)
 
 // Writes the archive of a sheet. The answer is 0, or the number of the refusal, which leaves the archive as it was.
 pub fn archive(sheet: &[u8], archive: &mut [u8]) -> u32
-    ensures answer { λ r. ⌜ r ≡ answer (now (sheet .entry)) (now (archive .entry)) ⌝ }
+    ensures sizeAnswer { λ r. ⌜ r ≡ sizeAnswer (now (sheet .entry)) (now (archive .entry)) ⌝ }
     ensures after { λ _. ⌜ now (archive .exit) ≡ archiveAfter (now (sheet .entry)) (now (archive .entry)) ⌝ }
 {
     if !sizes_fit(sheet.len(), archive.len()) {
@@ -184,8 +184,8 @@ pub fn archive(sheet: &[u8], archive: &mut [u8]) -> u32
 
 // Writes the sheet of an archive. The answer is 0, or the number of the refusal, which leaves the sheet as it was.
 pub fn restore(archive: &[u8], sheet: &mut [u8]) -> u32
-    ensures answer { λ r. ⌜ r ≡ answer (now (archive .entry)) (now (sheet .entry)) ⌝ }
-    ensures after { λ _. ⌜ now (sheet .exit) ≡ sheetAfter (now (archive .entry)) (now (sheet .entry)) ⌝ }
+    ensures sizeAnswer { λ r. ⌜ r ≡ sizeAnswer (now (archive .entry)) (now (sheet .entry)) ⌝ }
+    ensures after { λ _. ⌜ now (sheet .exit) ≡ restoredAfter (now (archive .entry)) (now (sheet .entry)) ⌝ }
 {
     if !sizes_fit(archive.len(), sheet.len()) {
         return WRONG_SIZE;

@@ -7,9 +7,9 @@ use native.Mathlib.Omega.{arith}
 use lib.Dec.{eqb}
 use borrow.Author.Tests.{eq-eqb, eqb-true}
 use Rattle.units.proofs.Bools.{and-left, and-right, and-both}
-use Rattle.decimals.specs.Decimals.{field, isDigit, value, beginsField, behind}
+use Rattle.decimals.specs.Decimals.{field, isDigit, value, beginsField, behind, lineFeed}
 use Rattle.decimals.proofs.Fields.{field-value, field-behind, field-begins, field-split}
-use Rattle.sheet_text.specs.Lines.{semicolon, lineFeed, places, line, fromNumber, beginsLine, kwhAt, behindLine}
+use Rattle.sheet_text.specs.Lines.{semicolon, readings, line, fromNumber, beginsLine, kwhAt, behindLine}
 use Rattle.sheet_language.specs.Language.{LineLanguage}
 
 no-digit-semicolon : isDigit semicolon ≡ false
@@ -132,7 +132,7 @@ module _ (month : ℕ) (kwh : ℕ → ℕ) (t : List ℕ) where
   number : (n stop : ℕ) (u v : List ℕ) → isDigit stop ≡ false → v ≡ field n stop ++ u → value v ≡ n
   number n stop u v h e = ap value e ∙ field-value n stop u h
 
-  pub line-numbers : (p : ℕ) → p < places → kwhAt (line month kwh ++ t) p ≡ kwh p
+  pub line-numbers : (p : ℕ) → p < readings → kwhAt (line month kwh ++ t) p ≡ kwh p
   line-numbers zero l = number (kwh 0) semicolon u₂ _ no-digit-semicolon from₁
   line-numbers (suc zero) l = number (kwh 1) semicolon u₃ _ no-digit-semicolon from₂
   line-numbers (suc (suc zero)) l = number (kwh 2) semicolon u₄ _ no-digit-semicolon from₃

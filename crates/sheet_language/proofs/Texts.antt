@@ -11,8 +11,8 @@ use lib.ListN.{length}
 use Rattle.units.proofs.Bools.{or-left, or-right}
 use Rattle.units.proofs.Folds.{none-at, none-of}
 use Rattle.sheet_text.specs.declared.Read.{Read}
-use Rattle.sheet_text.specs.Lines.{months, places, line, lines, yearText, beginsLine, kwhAt, behindLine, fromLine, kwhIn}
-use Rattle.sheet_text.specs.Reading.{lineWrong, someAbove, lineRefused, Within, someRefused}
+use Rattle.sheet_text.specs.Lines.{months, readings, line, lines, yearText, beginsLine, kwhAt, behindLine, fromLine, kwhIn}
+use Rattle.sheet_text.specs.Reading.{lineWrong, someKwhAbove, lineRefused, Within, someRefused}
 use Rattle.sheet_text.proofs.Above.{none-above, all-within}
 use Rattle.sheet_text.proofs.LineWriting.{line-same, year-room, year-reached}
 use Rattle.sheet_text.proofs.ReadCalls.{text-taken}
@@ -38,18 +38,18 @@ module _ (t : List ℕ) (none : someRefused t ≡ false) where
   unfolding lineRefused lineWrong
   right-line m h =
       not-true (beginsLine (m + 1) (fromLine m t))
-      (rw (lt-ltb m months h) at (or-left (lineWrong t m) (ltb m months && someAbove (kwhIn t m)) (not-refused m (omega arith))))
+      (rw (lt-ltb m months h) at (or-left (lineWrong t m) (ltb m months && someKwhAbove (kwhIn t m)) (not-refused m (omega arith))))
 
   pub taken-within : Within (kwhIn t)
   unfolding lineRefused
   taken-within m p hm hp =
-      let both = or-right (lineWrong t m) (ltb m months && someAbove (kwhIn t m)) (not-refused m (omega arith)) in
+      let both = or-right (lineWrong t m) (ltb m months && someKwhAbove (kwhIn t m)) (not-refused m (omega arith)) in
       none-above (kwhIn t m) (rw (lt-ltb m months hm) at both) p hp
 
   nothing-left : fromLine months t ≡ []
   unfolding lineRefused lineWrong
   nothing-left =
-      let right = or-left (lineWrong t months) (ltb months months && someAbove (kwhIn t months)) (not-refused months (omega arith)) in
+      let right = or-left (lineWrong t months) (ltb months months && someKwhAbove (kwhIn t months)) (not-refused months (omega arith)) in
       none-left (fromLine months t) (eqb-true (length (fromLine months t)) 0 (not-true (eqb (length (fromLine months t)) 0) right))
 
   lines-front : (m : ℕ) → m ≤ months → t ≡ lines m (kwhIn t) ++ fromLine m t
@@ -63,7 +63,7 @@ module _ (t : List ℕ) (none : someRefused t ≡ false) where
       ∙ ap (λ (u : List ℕ). lines m (kwhIn t) ++ u) (here ∙ ap (λ (l : List ℕ). l ++ behindLine (fromLine m t)) same)
       ∙ sym (append-assoc (lines m (kwhIn t)) (line (m + 1) (kwhIn t m)) (behindLine (fromLine m t)))
     where
-      numbers-of : (i p : ℕ) → p < places → kwhAt (fromLine i t) p ≡ kwhIn t i p
+      numbers-of : (i p : ℕ) → p < readings → kwhAt (fromLine i t) p ≡ kwhIn t i p
       numbers-of i p l = refl
 
   taken-written : t ≡ yearText (kwhIn t)
@@ -138,7 +138,7 @@ module _ (kwh : ℕ → ℕ → ℕ) where
     where
       not-refused-at : (m : ℕ) → Dec (m < months) → m < months + 1 → lineRefused (yearText kwh) m ≡ false
       not-refused-at m (yes less) h =
-          let small : someAbove (kwhIn (yearText kwh) m) ≡ false
+          let small : someKwhAbove (kwhIn (yearText kwh) m) ≡ false
           = all-within (kwhIn (yearText kwh) m) (λ p l. rw (written-numbers m p less l) (within m p less l)) in
           rw (line-right m less, small, lt-ltb m months less)
       not-refused-at m (no more) h =

@@ -13,7 +13,7 @@ use Rattle.sheet.proofs.Limits.{form-length}
 use Rattle.sheet_losses.specs.declared.Raised.{Raised}
 use Rattle.sheet_losses.specs.declared.Bands.{Bands}
 use Rattle.sheet_losses.specs.declared.Worked.{Worked}
-use Rattle.sheet_losses.specs.Losses.{maxFactor, raisedReading, injectedPlace, threeReadings, withInjected, raisedSheet, someAbove, refusalOf, decembersRests, answerOf, raisedAfter}
+use Rattle.sheet_losses.specs.Losses.{maxFactor, raisedReading, injectedPlace, threeReadings, withInjected, raisedSheet, someAbove, raiseRefusal, decembersRests, answerOf, raisedAfter}
 use Rattle.sheet_losses.specs.InnerSteps.{byBand, inBand, readingsIn, WorkedOut}
 
 -- readings that are the same in each band make the same sheet
@@ -36,9 +36,9 @@ passed-all true false true z = let none : ⊥ = omega arith in absurd none
 passed-all true false false z = (refl, refl)
 passed-all false larger above z = let none : ⊥ = omega arith in absurd none
 
-module _ (factor : ℕ) (s : List ℕ) (accepted : refusalOf factor s ≡ 0) where
+module _ (factor : ℕ) (s : List ℕ) (accepted : raiseRefusal factor s ≡ 0) where
   passed : (formFits s ≡ true) × (someAbove factor s ≡ false)
-  unfolding refusalOf
+  unfolding raiseRefusal
   passed = passed-all (formFits s) (ltb maxFactor factor) (someAbove factor s) accepted
 
   pub accepted-length : length s ≡ sheetLength
@@ -52,13 +52,13 @@ module _ (factor : ℕ) (s : List ℕ) (accepted : refusalOf factor s ≡ 0) whe
   accepted-rests = rw accepted
 
 -- a refused call leaves the sheet
-pub refused-leaves : (factor : ℕ) (s : List ℕ) → (refusalOf factor s ≡ 0 → ⊥) → raisedAfter factor s ≡ s
+pub refused-leaves : (factor : ℕ) (s : List ℕ) → (raiseRefusal factor s ≡ 0 → ⊥) → raisedAfter factor s ≡ s
 unfolding raisedAfter
-refused-leaves factor s other = rw (ne-eqb (refusalOf factor s) 0 other)
+refused-leaves factor s other = rw (ne-eqb (raiseRefusal factor s) 0 other)
 
 -- WHAT THE CALL ANSWERS AND LEAVES
-module _ (factor : ℕ) (s : List ℕ) {w : Worked} (out : WorkedOut factor s (refusalOf factor s) w) where
-  refusal-is : w .answer .refusal ≡ refusalOf factor s
+module _ (factor : ℕ) (s : List ℕ) {w : Worked} (out : WorkedOut factor s (raiseRefusal factor s) w) where
+  refusal-is : w .answer .refusal ≡ raiseRefusal factor s
   refusal-is = ap (λ (r : Raised). r .refusal) (out .answered)
 
   answered : w .answer ≡ answerOf factor s
@@ -69,7 +69,7 @@ module _ (factor : ℕ) (s : List ℕ) {w : Worked} (out : WorkedOut factor s (r
   refused-call other = (answered, sym (refused-leaves factor s (λ e. other (refusal-is ∙ e))))
 
   module _ (zero-answered : w .answer .refusal ≡ 0) where
-    accepted : refusalOf factor s ≡ 0
+    accepted : raiseRefusal factor s ≡ 0
     accepted = sym refusal-is ∙ zero-answered
 
     pub long-enough : length s ≡ sheetLength
@@ -84,4 +84,4 @@ module _ (factor : ℕ) (s : List ℕ) {w : Worked} (out : WorkedOut factor s (r
     pub accepted-call : {t : List ℕ} → t ≡ withInjected (readingsIn (w .months)) s 12 → (w .answer ≡ answerOf factor s) × (t ≡ raisedAfter factor s)
     unfolding raisedAfter raisedSheet
     accepted-call e =
-        (answered, rw (eq-eqb (refusalOf factor s) 0 accepted) (e ∙ same-months (readingsIn (w .months)) (raisedReading factor s) s 12 same-readings))
+        (answered, rw (eq-eqb (raiseRefusal factor s) 0 accepted) (e ∙ same-months (readingsIn (w .months)) (raisedReading factor s) s 12 same-readings))

@@ -18,8 +18,8 @@ use Rattle.codec.proofs.Parts.{part-first, part-second, part-add}
 use Rattle.codec.proofs.Stores.{length-stored, part-before, part-within, byte-before, byte-after, stored-same}
 use Rattle.sheet.specs.YearSheet.{sheetLength, word, injected}
 use Rattle.sheet_losses.specs.Losses.{restTo, raised, bandOf, raisedReading, decembersRest, injectedPlace, threeReadings, withInjected, raisedSheet, readingAbove, monthAbove, someAbove}
-use Rattle.sheet_losses.specs.Losses.{refusalOf, raisedAfter}
-use Rattle.sheet_losses.specs.Laws.{YearKept, Elsewhere, RaisedWell, Accepted}
+use Rattle.sheet_losses.specs.Losses.{raiseRefusal, raisedAfter}
+use Rattle.sheet_losses.specs.Laws.{YearKept, Elsewhere, RaisedWell, AcceptedRaise}
 use Rattle.sheet_losses.proofs.Writing.{length-three}
 use Rattle.sheet_losses.proofs.Calls.{accepted-length, accepted-within}
 
@@ -124,13 +124,13 @@ module _ (s : List ℕ) (long : length s ≡ sheetLength) (bytes : Bytes s) wher
       ∙ stored-same 12 (injectedPlace n) s (omega arith)
 
 -- AN ACCEPTED CALL
-module _ (factor : ℕ) (s : List ℕ) (accepted : refusalOf factor s ≡ 0) where
+module _ (factor : ℕ) (s : List ℕ) (accepted : raiseRefusal factor s ≡ 0) where
   long : length s ≡ sheetLength
   long = accepted-length factor s accepted
 
   after : raisedAfter factor s ≡ raisedSheet factor s
   unfolding raisedAfter
-  after = rw (eq-eqb (refusalOf factor s) 0 accepted)
+  after = rw (eq-eqb (raiseRefusal factor s) 0 accepted)
 
   fits : (m : ℕ) → m < 12 → (band : ℕ) → band < 3 → raisedReading factor s m band < 2 ^ 32
   unfolding someAbove monthAbove readingAbove
@@ -155,5 +155,5 @@ module _ (factor : ℕ) (s : List ℕ) (accepted : refusalOf factor s ≡ 0) whe
         unraised = λ none bytes. after ∙ ap (λ (g : ℕ). withInjected (raisedReading g s) s 12) none ∙ nothing-written s long bytes 12 (omega arith);
       }
 
-pub accepted-raised : Accepted
+pub accepted-raised : AcceptedRaise
 accepted-raised = raised-well

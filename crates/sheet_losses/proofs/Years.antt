@@ -19,7 +19,7 @@ use Rattle.sheet_losses.specs.declared.Rests.{Rests}
 use Rattle.sheet_losses.specs.declared.Bands.{Bands}
 use Rattle.sheet_losses.specs.declared.WideBands.{WideBands}
 use Rattle.sheet_losses.specs.declared.Worked.{Worked}
-use Rattle.sheet_losses.specs.Losses.{maxFactor, restTo, decembersRest, readingAbove, monthAbove, someAbove, placeIn, earliestAbove, refusalOf, noRests}
+use Rattle.sheet_losses.specs.Losses.{maxFactor, restTo, decembersRest, readingAbove, monthAbove, someAbove, placeIn, earliestAbove, raiseRefusal, noRests}
 use Rattle.sheet_losses.specs.InnerSteps.{inWide, narrowedTo, restsTo, raisedBands, noBands, noMonths, answerWith, WorkedOut}
 use Rattle.sheet_losses.proofs.Months.{first-reading}
 
@@ -86,14 +86,14 @@ module _ (factor : ℕ) (s : List ℕ) where
       })
 
   -- THE REFUSALS before it
-  pub wrong-sheet : {r : Worked} → formFits s ≡ false → r .answer ≡ answerWith 11 nowhere noRests → WorkedOut factor s (refusalOf factor s) r
-  unfolding refusalOf
+  pub wrong-sheet : {r : Worked} → formFits s ≡ false → r .answer ≡ answerWith 11 nowhere noRests → WorkedOut factor s (raiseRefusal factor s) r
+  unfolding raiseRefusal
   wrong-sheet e answer = rw e (record { answered = answer; months = λ z. let no : ⊥ = omega arith in absurd no })
 
-  pub larger-factor : {r : Worked} → formFits s ≡ true → maxFactor < factor → r .answer ≡ answerWith 26 nowhere noRests → WorkedOut factor s (refusalOf factor s) r
-  unfolding refusalOf
+  pub larger-factor : {r : Worked} → formFits s ≡ true → maxFactor < factor → r .answer ≡ answerWith 26 nowhere noRests → WorkedOut factor s (raiseRefusal factor s) r
+  unfolding raiseRefusal
   larger-factor e l answer = rw (e, lt-ltb maxFactor factor l) (record { answered = answer; months = λ z. let no : ⊥ = omega arith in absurd no })
 
-  pub neither : {r : Worked} → formFits s ≡ true → factor ≤ maxFactor → WorkedOut factor s (cond (someAbove factor s) 13 0) r → WorkedOut factor s (refusalOf factor s) r
-  unfolding refusalOf
+  pub neither : {r : Worked} → formFits s ≡ true → factor ≤ maxFactor → WorkedOut factor s (cond (someAbove factor s) 13 0) r → WorkedOut factor s (raiseRefusal factor s) r
+  unfolding raiseRefusal
   neither e l w = rw (e, le-ltb maxFactor factor l) w

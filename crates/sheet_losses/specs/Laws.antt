@@ -6,7 +6,7 @@ use mathlib.Core.List.{List}
 use lib.ListN.{length, getD}
 use Rattle.units.specs.Folds.{sumBelow}
 use Rattle.sheet.specs.YearSheet.{injected}
-use Rattle.sheet_losses.specs.Losses.{restTo, raised, decembersRest, injectedPlace, refusalOf, raisedAfter}
+use Rattle.sheet_losses.specs.Losses.{restTo, raised, decembersRest, injectedPlace, raiseRefusal, raisedAfter}
 
 -- "For each band, 1,000 times the raised kWh of the year, plus that rest, equals the raw sum multiplied by the sum of 1,000 and
 -- the factor", of any number of months and any readings
@@ -28,5 +28,5 @@ pub record RaisedWell (factor : ℕ) (s : List ℕ) : Type 0 where
   pub others : (k : ℕ) → Elsewhere k → getD (raisedAfter factor s) k 0 ≡ getD s k 0
   pub unraised : factor ≡ 0 → ((k : ℕ) → getD s k 0 < 256) → raisedAfter factor s ≡ s
 
-abbrev pub Accepted : Type 0
-Accepted = (factor : ℕ) (s : List ℕ) → refusalOf factor s ≡ 0 → RaisedWell factor s
+abbrev pub AcceptedRaise : Type 0
+AcceptedRaise = (factor : ℕ) (s : List ℕ) → raiseRefusal factor s ≡ 0 → RaisedWell factor s

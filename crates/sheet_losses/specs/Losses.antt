@@ -77,8 +77,8 @@ earliestAbove factor s =
 
 -- "It refuses with 26 a larger factor, after 11 (which here passes any header bytes 8 and 12–15), and with 13 a raised reading
 -- above the limit."
-unfoldable pub refusalOf : ℕ → List ℕ → ℕ
-refusalOf factor s = cond (not (formFits s)) 11 (cond (ltb maxFactor factor) 26 (cond (someAbove factor s) 13 0))
+unfoldable pub raiseRefusal : ℕ → List ℕ → ℕ
+raiseRefusal factor s = cond (not (formFits s)) 11 (cond (ltb maxFactor factor) 26 (cond (someAbove factor s) 13 0))
 
 -- THE CALL: its answer, and the sheet after it. A refusal answers zeros beside its number, but for the position of a 13, and
 -- leaves the sheet
@@ -98,7 +98,7 @@ answerTo factor s refusal =
     }
 
 unfoldable pub answerOf : ℕ → List ℕ → Raised
-answerOf factor s = answerTo factor s (refusalOf factor s)
+answerOf factor s = answerTo factor s (raiseRefusal factor s)
 
 unfoldable pub raisedAfter : ℕ → List ℕ → List ℕ
-raisedAfter factor s = cond (eqb (refusalOf factor s) 0) (raisedSheet factor s) s
+raisedAfter factor s = cond (eqb (raiseRefusal factor s) 0) (raisedSheet factor s) s

@@ -9,7 +9,7 @@ ghost use Rattle.units.specs.Limits.{maxKwh};
 ghost use Rattle.codec.specs.Bytes.{stored};
 ghost use Rattle.sheet.specs.YearSheet.{sheetLength};
 ghost use Rattle.sheet_losses.specs.Losses.{maxFactor, thousandths, injectedPlace, threeReadings, withInjected};
-ghost use Rattle.sheet_losses.specs.Losses.{placeIn, someAbove, noRests, refusalOf, answerOf, raisedAfter};
+ghost use Rattle.sheet_losses.specs.Losses.{placeIn, someAbove, noRests, raiseRefusal, answerOf, raisedAfter};
 ghost use Rattle.sheet_losses.specs.InnerSteps.{dividedOf, inBand, restsTo, readingsIn, MonthRaised, BandAbove};
 ghost use Rattle.sheet_losses.specs.InnerSteps.{WithinLimit, narrowedTo, answerWith, WorkedOut};
 use sheet::HEADER;
@@ -214,7 +214,7 @@ fn raised_year(sheet: &[u8], factor: u32) -> Worked
 
 // The refusals in their order, and the raised year.
 fn work(sheet: &[u8], factor: u32) -> Worked
-    ensures { λ r. ⌜ WorkedOut factor (now (sheet .entry)) (refusalOf factor (now (sheet .entry))) r ⌝ }
+    ensures { λ r. ⌜ WorkedOut factor (now (sheet .entry)) (raiseRefusal factor (now (sheet .entry))) r ⌝ }
 {
     if !sheet::form_fits(sheet) {
         return refused(WRONG_SHEET, NOWHERE);

@@ -8,7 +8,7 @@ use lib.Dec.{leb}
 use Rattle.units.specs.declared.Rate.{Rate}
 use Rattle.units.specs.declared.Ticks.{Ticks}
 use Rattle.units.specs.Limits.{maxKwh, maxPrice, maxYearTicks}
-use Rattle.sheet.specs.YearSheet.{injectedReading, byBands, injected, Passed}
+use Rattle.sheet.specs.YearSheet.{injectedReading, byBands, injected, SheetPassed}
 use Rattle.sheet.proofs.Limits.{passed-length, passed-energy}
 use Rattle.sheet_prices.specs.InnerArrays.{priceRow, priceAt}
 use Rattle.sheet_prices.specs.ValueAndCost.{costOf, valueOf}
@@ -16,14 +16,14 @@ use Rattle.sheet_prices.proofs.SheetRows.{band-price-fits, single-price-fits}
 use Rattle.sheet_values.specs.declared.Details.{Details}
 use Rattle.sheet_values.specs.YearsValues.{onIsland, isPhotovoltaic}
 use Rattle.sheet_more_sun.specs.declared.Addition.{Addition}
-use Rattle.sheet_more_sun.specs.MoreSun.{additions, reaches, moreSun, FieldStands}
+use Rattle.sheet_more_sun.specs.MoreSun.{additions, coversCost, moreSun, FieldStands}
 use Rattle.sheet_more_sun.specs.Laws.{IsLeast}
 use Rattle.sheet_more_sun.specs.InnerSteps.{InLimits, comesTo, fieldPrice}
 use Rattle.sheet_more_sun.proofs.Least.{least-is, least-same}
 use Rattle.sheet_more_sun.proofs.Value.{row-price, value-raised}
 use Rattle.units.specs.InnerWithin.{NumberWithin, TicksWithin}
 
-module _ (s : List ℕ) (passed : Passed s) (d : Details) (m band : ℕ) (stands : FieldStands s m band) where
+module _ (s : List ℕ) (passed : SheetPassed s) (d : Details) (m band : ℕ) (stands : FieldStands s m band) where
   price-fits : (bands : Bool) → (bands ≡ false → band ≡ 0) → priceAt band (priceRow s bands (onIsland d) (isPhotovoltaic d) m) ≤ maxPrice
   price-fits true single = rw (row-price s (onIsland d) (isPhotovoltaic d) m band (stands .band-to-3)) (band-price-fits s passed (onIsland d) m band (stands .month) (stands .band-to-3))
   price-fits false single = rw (single refl) (single-price-fits s passed (onIsland d) (isPhotovoltaic d) m (stands .month))
@@ -50,8 +50,8 @@ module _ (s : List ℕ) (passed : Passed s) (d : Details) (m band : ℕ) (stands
         }
 
     -- an addition within the limit reaches O where its price makes up for what is missing
-    same-test : (x : ℕ) → x < additions s m band → comesTo (cost .0) (value .0) (price .0) x ≡ reaches s d m band x
-    unfolding reaches
+    same-test : (x : ℕ) → x < additions s m band → comesTo (cost .0) (value .0) (price .0) x ≡ coversCost s d m band x
+    unfolding coversCost
     same-test x l =
         let raised = value-raised s (onIsland d) (isPhotovoltaic d) m band x (passed-length s (passed .past11)) (stands .month) (stands .band-to-3) (omega arith) (stands .single) in
         ap₂ leb (ap (λ (t : Ticks). t .0) (worked .is))
@@ -59,4 +59,6 @@ module _ (s : List ℕ) (passed : Passed s) (d : Details) (m band : ℕ) (stands
 
     pub answered : (r : Addition) → IsLeast (maxKwh + 1 - field) (comesTo (cost .0) (value .0) (price .0)) r → r ≡ moreSun s d m band
     unfolding moreSun
-    answered r h = least-is (additions s m band) (reaches s d m band) r (least-same (additions s m band) (comesTo (cost .0) (value .0) (price .0)) (reaches s d m band) same-test r (rw filled at h))
+    answered r h =
+        least-is (additions s m band) (coversCost s d m band) r
+        (least-same (additions s m band) (comesTo (cost .0) (value .0) (price .0)) (coversCost s d m band) same-test r (rw filled at h))

@@ -11,7 +11,7 @@ use Rattle.units.specs.Limits.{maxKwh}
 use Rattle.units.specs.Folds.{anyBelow, firstBelow}
 use Rattle.units.proofs.Folds.{any-of, none-of, First, first-below, first-is}
 use Rattle.sheet_more_sun.specs.declared.Addition.{Addition}
-use Rattle.sheet_more_sun.specs.MoreSun.{pick, leastBelow, moreSun, additions, reaches}
+use Rattle.sheet_more_sun.specs.MoreSun.{pick, leastBelow, moreSun, additions, coversCost}
 use Rattle.sheet_more_sun.specs.Laws.{IsLeast, AnswersLeast}
 use Rattle.sheet_more_sun.specs.InnerSteps.{LeastWorth, InLimits, comesTo}
 
@@ -37,7 +37,7 @@ is-least n test = by-search (first-below n test)
 
 pub answers-least : AnswersLeast
 unfolding moreSun
-answers-least s d m band = is-least (additions s m band) (reaches s d m band)
+answers-least s d m band = is-least (additions s m band) (coversCost s d m band)
 
 -- tests that agree have the same least number
 pub least-same : (n : ℕ) (p q : ℕ → Bool) → ((x : ℕ) → x < n → p x ≡ q x) → (r : Addition) → IsLeast n p r → IsLeast n q r

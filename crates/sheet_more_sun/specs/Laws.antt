@@ -10,7 +10,7 @@ use Rattle.sheet.specs.YearSheet.{sheetLength, word, injected}
 use Rattle.sheet_prices.specs.ValueAndCost.{costOf}
 use Rattle.sheet_values.specs.declared.Details.{Details}
 use Rattle.sheet_more_sun.specs.declared.Addition.{Addition}
-use Rattle.sheet_more_sun.specs.MoreSun.{withMore, reaches, additions, moreSun}
+use Rattle.sheet_more_sun.specs.MoreSun.{withMore, coversCost, additions, moreSun}
 
 -- "the least added kWh which does this": it does, and no smaller addition does. "the answer that none does": no addition below n
 -- does.
@@ -19,7 +19,7 @@ IsLeast n test (Addition.Found x) = (x .0 < n) × ((test (x .0) ≡ true) × ((y
 IsLeast n test Addition.None = (y : ℕ) → y < n → test y ≡ false
 
 abbrev pub AnswersLeast : Type 0
-AnswersLeast = (s : List ℕ) (d : Details) (m band : ℕ) → IsLeast (additions s m band) (reaches s d m band) (moreSun s d m band)
+AnswersLeast = (s : List ℕ) (d : Details) (m band : ℕ) → IsLeast (additions s m band) (coversCost s d m band) (moreSun s d m band)
 
 -- "The added energy changes that one field only": header and all other numbers stay, and so does O
 pub record OneFieldMore (s t : List ℕ) (m band added : ℕ) : Type 0 where

@@ -21,8 +21,8 @@ unfoldable pub withMore : List ℕ → (m band added : ℕ) → List ℕ
 withMore s m band added = stored (32 + 96 * m + 4 * (3 + band)) (bytesOf 4 (injected s m band + added)) s
 
 -- "would bring C to O or above", "priced for the enrolled plant": C of the changed sheet, for a user with these details
-unfoldable pub reaches : List ℕ → Details → (m band added : ℕ) → Bool
-reaches s d m band added = leb (costOf s) (valueOf (withMore s m band added) (onIsland d) (isPhotovoltaic d))
+unfoldable pub coversCost : List ℕ → Details → (m band added : ℕ) → Bool
+coversCost s d m band added = leb (costOf s) (valueOf (withMore s m band added) (onIsland d) (isPhotovoltaic d))
 
 -- "within the 20,000,000 limit": the additions that leave the field within its limit are the numbers below this one
 abbrev pub additions : List ℕ → (m band : ℕ) → ℕ
@@ -39,7 +39,7 @@ leastBelow n test = pick (anyBelow n test) (addition.Found (kwh (firstBelow n te
 -- "For a sheet, a month and a band, we want the least added kWh which does this, or the answer that none does within the
 -- 20,000,000 limit."
 unfoldable pub moreSun : List ℕ → Details → (m band : ℕ) → Addition
-moreSun s d m band = leastBelow (additions s m band) (reaches s d m band)
+moreSun s d m band = leastBelow (additions s m band) (coversCost s d m band)
 
 -- a field that the reading has: "For a single reading the band must be the first."
 pub record FieldStands (s : List ℕ) (m band : ℕ) : Type 0 where

@@ -3,7 +3,7 @@
 ghost use mathlib.Core.Path.{_≡_};
 ghost use Prim.Native.Nat.{_+_, _-_, _≤_, _<_};
 ghost use Rattle.units.specs.Limits.{maxKwh, maxPrice, maxYearTicks};
-ghost use Rattle.sheet.specs.YearSheet.{Passed};
+ghost use Rattle.sheet.specs.YearSheet.{SheetPassed};
 ghost use Rattle.units.specs.InnerWithin.{NumberWithin};
 ghost use Rattle.sheet_more_sun.specs.MoreSun.{FieldStands, moreSun};
 ghost use Rattle.sheet_more_sun.specs.Laws.{IsLeast};
@@ -39,7 +39,7 @@ fn room_in(field: Kwh) -> u64
 
 // The price of a field, "for the enrolled plant".
 fn price_of(s: &[u8], details: Details, month: usize, band: usize) -> Rate
-    requires { ⌜ Passed (now s) ⌝ }
+    requires { ⌜ SheetPassed (now s) ⌝ }
     requires { ⌜ FieldStands (now s) month band ⌝ }
     ensures { λ r. ⌜ NumberWithin (fieldPrice (now (s .entry)) details month band) maxPrice (r .0) ⌝ }
 {
@@ -68,7 +68,7 @@ fn least_addition(cost: Ticks, value: Ticks, price: Rate, field: Kwh) -> Additio
 
 // The least addition to the injected field of a month and a band, for a user with these details.
 pub fn more_sun(s: &[u8], details: Details, month: usize, band: usize) -> Addition
-    requires { ⌜ Passed (now s) ⌝ }
+    requires { ⌜ SheetPassed (now s) ⌝ }
     requires { ⌜ FieldStands (now s) month band ⌝ }
     ensures { λ r. ⌜ r ≡ moreSun (now (s .entry)) details month band ⌝ }
 {

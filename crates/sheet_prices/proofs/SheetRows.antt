@@ -11,24 +11,24 @@ use Rattle.units.specs.declared.Rate.{Rate}
 use Rattle.units.specs.Limits.{maxKwh, maxPrice}
 use Rattle.units.specs.Folds.{sumBelow}
 use Rattle.units.proofs.Folds.{sum-cong}
-use Rattle.sheet.specs.YearSheet.{word, Passed, withdrawnReading, injectedReading, byBands}
+use Rattle.sheet.specs.YearSheet.{word, SheetPassed, withdrawnReading, injectedReading, byBands}
 use Rattle.sheet.proofs.Limits.{passed-energy, passed-price}
 use Rattle.sheet_prices.specs.InnerArrays.{energyRow, priceRow, RowFits, rowValue, EnergyRows, PriceRows, energyAt}
 use Rattle.sheet_prices.specs.ValueAndCost.{bandPrice, singlePrice, costIn, costOf, valueIn, valueOf}
 
-pub band-price-fits : (s : List ℕ) → Passed s → (island : Bool) (m b : ℕ) → m < 12 → b < 3 → bandPrice s island m b ≤ maxPrice
+pub band-price-fits : (s : List ℕ) → SheetPassed s → (island : Bool) (m b : ℕ) → m < 12 → b < 3 → bandPrice s island m b ≤ maxPrice
 unfolding bandPrice
 band-price-fits s h true m b hm hb = passed-price s (h .past13) m (6 + b) hm (omega arith) (omega arith)
 band-price-fits s h false m b hm hb = passed-price s (h .past13) m (10 + b) hm (omega arith) (omega arith)
 
-pub single-price-fits : (s : List ℕ) → Passed s → (island photovoltaic : Bool) (m : ℕ) → m < 12 → singlePrice s island photovoltaic m ≤ maxPrice
+pub single-price-fits : (s : List ℕ) → SheetPassed s → (island photovoltaic : Bool) (m : ℕ) → m < 12 → singlePrice s island photovoltaic m ≤ maxPrice
 unfolding singlePrice
 single-price-fits s h true p m hm = passed-price s (h .past13) m 9 hm (lit≤ tt) (lit< tt)
 single-price-fits s h false true m hm = passed-price s (h .past13) m 14 hm (lit≤ tt) (lit< tt)
 single-price-fits s h false false m hm = passed-price s (h .past13) m 13 hm (lit≤ tt) (lit< tt)
 
 -- withdrawn energies are at place 0, injected ones at place 3
-row-fits : (s : List ℕ) → Passed s → (place : ℕ) → place ≤ 3 → (bands island photovoltaic : Bool) (m : ℕ) → m < 12
+row-fits : (s : List ℕ) → SheetPassed s → (place : ℕ) → place ≤ 3 → (bands island photovoltaic : Bool) (m : ℕ) → m < 12
     → RowFits (energyRow s place m) (priceRow s bands island photovoltaic m)
 row-fits s h place hp true island p m hm =
     record {
@@ -84,12 +84,12 @@ rows-value s island photovoltaic e p he hp =
     sum-cong 12 (λ m. rowValue (getD e m []) (getD p m [])) (valueIn s island photovoltaic)
     (λ m l. rw (he m l, hp m l) (value-row-by s m (byBands (injectedReading s)) island photovoltaic))
 
-pub rows-fit : (s : List ℕ) → Passed s → (place : ℕ) → place ≤ 3 → (bands island photovoltaic : Bool) (e : List (List Kwh)) (p : List (List Rate))
+pub rows-fit : (s : List ℕ) → SheetPassed s → (place : ℕ) → place ≤ 3 → (bands island photovoltaic : Bool) (e : List (List Kwh)) (p : List (List Rate))
     → EnergyRows (energyRow s place) e → PriceRows (priceRow s bands island photovoltaic) p
     → (m : ℕ) → m < 12 → RowFits (getD e m []) (getD p m [])
 rows-fit s h place l bands island photovoltaic e p he hp m hm = rw (he m hm, hp m hm) (row-fits s h place l bands island photovoltaic m hm)
 
-pub energies-fit : (s : List ℕ) → Passed s → (place : ℕ) → place ≤ 3 → (e : List (List Kwh)) → EnergyRows (energyRow s place) e
+pub energies-fit : (s : List ℕ) → SheetPassed s → (place : ℕ) → place ≤ 3 → (e : List (List Kwh)) → EnergyRows (energyRow s place) e
     → (m : ℕ) → m < 12
     → (energyAt 0 (getD e m []) ≤ maxKwh) × ((energyAt 1 (getD e m []) ≤ maxKwh) × (energyAt 2 (getD e m []) ≤ maxKwh))
 energies-fit s h place l e he m hm =

@@ -9,7 +9,7 @@ ghost use Rattle.units.specs.Units.{rate};
 ghost use Rattle.units.specs.Limits.{maxKwh, maxPrice, maxYearTicks};
 ghost use Rattle.units.specs.Folds.{sumBelow};
 ghost use Rattle.codec.specs.Bytes.{part, number};
-ghost use Rattle.sheet.specs.YearSheet.{sheetLength, Passed};
+ghost use Rattle.sheet.specs.YearSheet.{sheetLength, SheetPassed};
 ghost use Rattle.units.specs.InnerWithin.{TicksWithin};
 ghost use Rattle.sheet_prices.specs.ValueAndCost.{costOf, valueOf};
 ghost use Rattle.sheet_prices.specs.InnerArrays.{energyRow, EnergyRows, priceRow, PriceRows, RowFits, rowValue};
@@ -133,7 +133,7 @@ fn year_value(energy: [[Kwh; 3]; 12], prices: [[Rate; 3]; 12]) -> Ticks
 
 // "O: withdrawn times PUN, by band or by mean, summed over the months."
 pub fn cost(s: &[u8]) -> Ticks
-    requires { ⌜ Passed (now s) ⌝ }
+    requires { ⌜ SheetPassed (now s) ⌝ }
     ensures { λ r. ⌜ TicksWithin (costOf (now (s .entry))) maxYearTicks r ⌝ }
 {
     let bands = sheet::withdrawn_reading(s) == 1;
@@ -142,7 +142,7 @@ pub fn cost(s: &[u8]) -> Ticks
 
 // "C: injected times zone price by band", or its PUN price on an island.
 pub fn value(s: &[u8], island: bool, photovoltaic: bool) -> Ticks
-    requires { ⌜ Passed (now s) ⌝ }
+    requires { ⌜ SheetPassed (now s) ⌝ }
     ensures { λ r. ⌜ TicksWithin (valueOf (now (s .entry)) island photovoltaic) maxYearTicks r ⌝ }
 {
     let bands = sheet::injected_reading(s) == 1;

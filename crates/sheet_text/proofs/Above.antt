@@ -9,8 +9,8 @@ use Rattle.units.specs.Limits.{maxKwh}
 use Rattle.units.specs.Folds.{anyBelow, firstBelow}
 use Rattle.units.proofs.Bools.{or-neither}
 use Rattle.units.proofs.Folds.{any-zero, any-step, any-of, any-cong, none-at, none-of, first-is}
-use Rattle.sheet_text.specs.Lines.{places}
-use Rattle.sheet_text.specs.Reading.{someAbove, firstAbove}
+use Rattle.sheet_text.specs.Lines.{readings}
+use Rattle.sheet_text.specs.Reading.{someKwhAbove, firstAbove}
 use Rattle.sheet_text.specs.InnerSteps.{placeAbove}
 
 first-within : (n : ℕ) (p : ℕ → Bool) → anyBelow n p ≡ true → firstBelow n p < n
@@ -33,46 +33,46 @@ module _ (kwh : ℕ → ℕ) where
   none-more p h l = any-step p (λ i. ltb maxKwh (kwh i)) ∙ or-neither h (le-ltb maxKwh (kwh p) l)
 
   -- a number above the limit, none before it; none at all
-  some-above : (p : ℕ) → p < places → maxKwh < kwh p → someAbove kwh ≡ true
-  unfolding someAbove
-  some-above p l h = any-of places (λ i. ltb maxKwh (kwh i)) p l (lt-ltb maxKwh (kwh p) h)
+  some-above : (p : ℕ) → p < readings → maxKwh < kwh p → someKwhAbove kwh ≡ true
+  unfolding someKwhAbove
+  some-above p l h = any-of readings (λ i. ltb maxKwh (kwh i)) p l (lt-ltb maxKwh (kwh p) h)
 
-  pub above-found : (p : ℕ) → p < places → NoneBefore p → maxKwh < kwh p → p ≡ placeAbove kwh
+  pub above-found : (p : ℕ) → p < readings → NoneBefore p → maxKwh < kwh p → p ≡ placeAbove kwh
   unfolding placeAbove firstAbove
   above-found p l none h =
       rw (some-above p l h)
-      (first-is places (λ i. ltb maxKwh (kwh i)) p l (lt-ltb maxKwh (kwh p) h) (λ j b. none-at p (λ i. ltb maxKwh (kwh i)) none j b))
+      (first-is readings (λ i. ltb maxKwh (kwh i)) p l (lt-ltb maxKwh (kwh p) h) (λ j b. none-at p (λ i. ltb maxKwh (kwh i)) none j b))
 
-  pub above-none : NoneBefore places → places ≡ placeAbove kwh
-  unfolding placeAbove someAbove
+  pub above-none : NoneBefore readings → readings ≡ placeAbove kwh
+  unfolding placeAbove someKwhAbove
   above-none none = rw none
 
-  pub none-above : someAbove kwh ≡ false → (p : ℕ) → p < places → kwh p ≤ maxKwh
-  unfolding someAbove
-  none-above none p l = ltb-false maxKwh (kwh p) (none-at places (λ i. ltb maxKwh (kwh i)) none p l)
+  pub none-above : someKwhAbove kwh ≡ false → (p : ℕ) → p < readings → kwh p ≤ maxKwh
+  unfolding someKwhAbove
+  none-above none p l = ltb-false maxKwh (kwh p) (none-at readings (λ i. ltb maxKwh (kwh i)) none p l)
 
-  pub all-within : ((p : ℕ) → p < places → kwh p ≤ maxKwh) → someAbove kwh ≡ false
-  unfolding someAbove
-  all-within h = none-of places (λ i. ltb maxKwh (kwh i)) (λ p l. le-ltb maxKwh (kwh p) (h p l))
+  pub all-within : ((p : ℕ) → p < readings → kwh p ≤ maxKwh) → someKwhAbove kwh ≡ false
+  unfolding someKwhAbove
+  all-within h = none-of readings (λ i. ltb maxKwh (kwh i)) (λ p l. le-ltb maxKwh (kwh p) (h p l))
 
-  first-above : someAbove kwh ≡ true → firstAbove kwh < places
-  unfolding someAbove firstAbove
-  first-above some = first-within places (λ i. ltb maxKwh (kwh i)) some
+  first-above : someKwhAbove kwh ≡ true → firstAbove kwh < readings
+  unfolding someKwhAbove firstAbove
+  first-above some = first-within readings (λ i. ltb maxKwh (kwh i)) some
 
   -- what the place that was found says
-  pub found-place : placeAbove kwh < places → (someAbove kwh ≡ true) × (placeAbove kwh ≡ firstAbove kwh)
+  pub found-place : placeAbove kwh < readings → (someKwhAbove kwh ≡ true) × (placeAbove kwh ≡ firstAbove kwh)
   unfolding placeAbove
-  found-place h = by-test (someAbove kwh) h
+  found-place h = by-test (someKwhAbove kwh) h
     where
-      by-test : (t : Bool) → cond t (firstAbove kwh) places < places → (t ≡ true) × (cond t (firstAbove kwh) places ≡ firstAbove kwh)
+      by-test : (t : Bool) → cond t (firstAbove kwh) readings < readings → (t ≡ true) × (cond t (firstAbove kwh) readings ≡ firstAbove kwh)
       by-test true l = (refl, refl)
       by-test false l = let z : ⊥ = omega arith in absurd z
 
-  pub none-found : places ≤ placeAbove kwh → someAbove kwh ≡ false
+  pub none-found : readings ≤ placeAbove kwh → someKwhAbove kwh ≡ false
   unfolding placeAbove
-  none-found h = by-test (someAbove kwh) refl h
+  none-found h = by-test (someKwhAbove kwh) refl h
     where
-      by-test : (t : Bool) → someAbove kwh ≡ t → places ≤ cond t (firstAbove kwh) places → t ≡ false
+      by-test : (t : Bool) → someKwhAbove kwh ≡ t → readings ≤ cond t (firstAbove kwh) readings → t ≡ false
       by-test true e l = let first = first-above e in let z : ⊥ = omega arith in absurd z
       by-test false e l = refl
 
@@ -82,8 +82,8 @@ first-same zero p q h = refl
 first-same (suc n) p q h =
     rw (any-cong n p q (λ i l. h i (omega arith)), first-same n p q (λ i l. h i (omega arith)))
 
-pub place-same : (f g : ℕ → ℕ) → ((p : ℕ) → p < places → ltb maxKwh (f p) ≡ ltb maxKwh (g p)) → placeAbove f ≡ placeAbove g
-unfolding placeAbove someAbove firstAbove
+pub place-same : (f g : ℕ → ℕ) → ((p : ℕ) → p < readings → ltb maxKwh (f p) ≡ ltb maxKwh (g p)) → placeAbove f ≡ placeAbove g
+unfolding placeAbove someKwhAbove firstAbove
 place-same f g h =
-    ap₂ (λ (t : Bool) (p : ℕ). cond t p places) (any-cong places (λ i. ltb maxKwh (f i)) (λ i. ltb maxKwh (g i)) h)
-    (first-same places (λ i. ltb maxKwh (f i)) (λ i. ltb maxKwh (g i)) h)
+    ap₂ (λ (t : Bool) (p : ℕ). cond t p readings) (any-cong readings (λ i. ltb maxKwh (f i)) (λ i. ltb maxKwh (g i)) h)
+    (first-same readings (λ i. ltb maxKwh (f i)) (λ i. ltb maxKwh (g i)) h)

@@ -9,7 +9,7 @@ use Rattle.codec.specs.Bytes.{bytesOf, stored}
 use Rattle.codec.proofs.Numbers.{length-bytes}
 use Rattle.codec.proofs.Stores.{length-stored}
 use Rattle.sheet.specs.YearSheet.{sheetLength}
-use Rattle.sheet_text.specs.Lines.{months, places}
+use Rattle.sheet_text.specs.Lines.{months, readings}
 use Rattle.sheet_text.specs.Reading.{monthFilled, monthsFilled}
 
 module _ (kwh : ℕ → ℕ) (m : ℕ) (s : List ℕ) where
@@ -21,7 +21,7 @@ module _ (kwh : ℕ → ℕ) (m : ℕ) (s : List ℕ) where
   unfolding monthFilled
   month-next p = rw add-one
 
-  pub month-length : (p : ℕ) → length s ≡ sheetLength → m < months → p ≤ places → length (monthFilled kwh m p s) ≡ sheetLength
+  pub month-length : (p : ℕ) → length s ≡ sheetLength → m < months → p ≤ readings → length (monthFilled kwh m p s) ≡ sheetLength
   unfolding monthFilled
   month-length zero long hm hp = long
   month-length (suc p) long hm hp =
@@ -39,7 +39,7 @@ module _ (kwh : ℕ → ℕ → ℕ) (s : List ℕ) where
   unfolding monthsFilled
   months-none = refl
 
-  pub months-next : (m : ℕ) → monthFilled (kwh m) m places (monthsFilled kwh m s) ≡ monthsFilled kwh (m + 1) s
+  pub months-next : (m : ℕ) → monthFilled (kwh m) m readings (monthsFilled kwh m s) ≡ monthsFilled kwh (m + 1) s
   unfolding monthsFilled
   months-next m = rw add-one
 
@@ -47,12 +47,12 @@ module _ (kwh : ℕ → ℕ → ℕ) (s : List ℕ) where
   unfolding monthsFilled
   months-length zero long hm = long
   months-length (suc m) long hm =
-      month-length (kwh m) m (monthsFilled kwh m s) places (months-length m long (omega arith)) (omega arith) (omega arith)
+      month-length (kwh m) m (monthsFilled kwh m s) readings (months-length m long (omega arith)) (omega arith) (omega arith)
 
-pub months-same : (f g : ℕ → ℕ → ℕ) (s : List ℕ) (m : ℕ) → ((i p : ℕ) → i < m → p < places → f i p ≡ g i p)
+pub months-same : (f g : ℕ → ℕ → ℕ) (s : List ℕ) (m : ℕ) → ((i p : ℕ) → i < m → p < readings → f i p ≡ g i p)
     → monthsFilled f m s ≡ monthsFilled g m s
 unfolding monthsFilled
 months-same f g s zero h = refl
 months-same f g s (suc m) h =
-    month-same (f m) (g m) m (monthsFilled f m s) places (λ p l. h m p (omega arith) l)
-    ∙ ap (monthFilled (g m) m places) (months-same f g s m (λ i p l k. h i p (omega arith) k))
+    month-same (f m) (g m) m (monthsFilled f m s) readings (λ p l. h m p (omega arith) l)
+    ∙ ap (monthFilled (g m) m readings) (months-same f g s m (λ i p l k. h i p (omega arith) k))

@@ -8,10 +8,10 @@ use native.Mathlib.Omega.{arith}
 use lib.Dec.{eqb}
 use borrow.Author.Tests.{ne-eqb}
 use lib.ListN.{drop}
-use Rattle.decimals.specs.declared.Field.{Field}
-use Rattle.decimals.specs.Decimals.{value, beginsField, behind, FieldRead}
-use Rattle.sheet_text.specs.Lines.{semicolon, lineFeed, months, places, fromNumber, beginsLine, kwhAt}
-use Rattle.sheet_text.specs.InnerSteps.{tooMuch, kwhOf, LineRead}
+use Rattle.decimals.specs.declared.TextField.{TextField}
+use Rattle.decimals.specs.Decimals.{value, beginsField, behind, FieldRead, lineFeed}
+use Rattle.sheet_text.specs.Lines.{semicolon, months, readings, fromNumber, beginsLine, kwhAt}
+use Rattle.sheet_text.specs.InnerSteps.{tooMuch, kwhOf, MonthLineRead}
 
 -- what counts of a number tells whether it is a month
 month-told : (n month : ℕ) → month ≤ months → eqb (min n tooMuch) month ≡ eqb n month
@@ -23,16 +23,16 @@ month-told n month h = by-size (decLt n tooMuch)
         ne-eqb (min n tooMuch) month (λ e. omega (arith, more)) ∙ sym (ne-eqb n month (λ e. omega (arith, more)))
 
 -- a field that follows the one before it
-record FieldOf (t : List ℕ) (at k stop : ℕ) (r : Field) : Type 0 where
+record FieldOf (t : List ℕ) (at k stop : ℕ) (r : TextField) : Type 0 where
   pub fits : r .fits ≡ beginsField stop (fromNumber k (drop at t))
   pub value : r .value ≡ min (value (fromNumber k (drop at t))) tooMuch
   pub rest : drop (r .next) t ≡ fromNumber (suc k) (drop at t)
 
-field-first : (t : List ℕ) (at stop : ℕ) (r : Field) → FieldRead t at stop tooMuch r → FieldOf t at 0 stop r
+field-first : (t : List ℕ) (at stop : ℕ) (r : TextField) → FieldRead t at stop tooMuch r → FieldOf t at 0 stop r
 unfolding fromNumber
 field-first t at stop r h = record { fits = h .fits; value = h .value; rest = h .rest }
 
-field-next : (t : List ℕ) (at k from stop : ℕ) (r : Field) → drop from t ≡ fromNumber k (drop at t)
+field-next : (t : List ℕ) (at k from stop : ℕ) (r : TextField) → drop from t ≡ fromNumber k (drop at t)
     → FieldRead t from stop tooMuch r → FieldOf t at k stop r
 unfolding fromNumber
 field-next t at k from stop r e h =
@@ -54,12 +54,12 @@ regrouped true true false b c d e g = refl
 regrouped true false a b c d e g = refl
 regrouped false m a b c d e g = refl
 
-pub line-read : (t : List ℕ) (at month : ℕ) (front first second third fourth fifth sixth : Field) → month ≤ months
+pub line-read : (t : List ℕ) (at month : ℕ) (front first second third fourth fifth sixth : TextField) → month ≤ months
     → FieldRead t at semicolon tooMuch front → FieldRead t (front .next) semicolon tooMuch first
     → FieldRead t (first .next) semicolon tooMuch second → FieldRead t (second .next) semicolon tooMuch third
     → FieldRead t (third .next) semicolon tooMuch fourth → FieldRead t (fourth .next) semicolon tooMuch fifth
     → FieldRead t (fifth .next) lineFeed tooMuch sixth
-    → LineRead t at month
+    → MonthLineRead t at month
     (record {
       fits =
           ((front .fits && eqb (front .value) month) && ((first .fits && second .fits) && third .fits))
@@ -88,7 +88,7 @@ line-read t at month front first second third fourth fifth sixth hm r₀ r₁ r�
     }
   where
     six : FieldOf t at 1 semicolon first → FieldOf t at 2 semicolon second → FieldOf t at 3 semicolon third → FieldOf t at 4 semicolon fourth
-        → FieldOf t at 5 semicolon fifth → FieldOf t at 6 lineFeed sixth → (p : ℕ) → p < places
+        → FieldOf t at 5 semicolon fifth → FieldOf t at 6 lineFeed sixth → (p : ℕ) → p < readings
         → kwhOf (first .value ∷ second .value ∷ third .value ∷ fourth .value ∷ fifth .value ∷ sixth .value ∷ []) p ≡ min (kwhAt (drop at t) p) tooMuch
     six f₁ f₂ f₃ f₄ f₅ f₆ zero l = f₁ .value
     six f₁ f₂ f₃ f₄ f₅ f₆ (suc zero) l = f₂ .value

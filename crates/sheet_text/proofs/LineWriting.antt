@@ -12,7 +12,7 @@ use Rattle.codec.specs.Bytes.{stored}
 use Rattle.codec.proofs.Pieces.{stored-then}
 use Rattle.decimals.specs.Decimals.{field}
 use Rattle.decimals.proofs.Written.{decimal-digit, length-more, decimal-short, decimal-long, field-length}
-use Rattle.sheet_text.specs.Lines.{semicolon, months, places, line, lines}
+use Rattle.sheet_text.specs.Lines.{semicolon, months, readings, line, lines}
 use Rattle.sheet_text.specs.Reading.{Within}
 use Rattle.sheet_text.specs.Writing.{textRoom}
 use Rattle.sheet_text.specs.InnerSteps.{stopAt, numbersTo}
@@ -30,14 +30,14 @@ module _ (kwh : ℕ → ℕ) where
   numbers-length p = ap length (numbers-more p) ∙ length-append (numbersTo kwh p) (field (kwh p) (stopAt p))
 
   -- what is left from a place on
-  rest-fits : (k p : ℕ) → p + k ≡ places → length (numbersTo kwh p) ≤ length (numbersTo kwh places)
-  rest-fits zero p e = let end : p ≡ places = omega arith in omega (arith, ap (λ (q : ℕ). length (numbersTo kwh q)) end)
+  rest-fits : (k p : ℕ) → p + k ≡ readings → length (numbersTo kwh p) ≤ length (numbersTo kwh readings)
+  rest-fits zero p e = let end : p ≡ readings = omega arith in omega (arith, ap (λ (q : ℕ). length (numbersTo kwh q)) end)
   rest-fits (suc k) p e = let more = rest-fits k (p + 1) (omega arith) in omega (arith, numbers-length p)
 
-  pub numbers-room : (p : ℕ) → p < places → length (numbersTo kwh p) + length (field (kwh p) (stopAt p)) ≤ length (numbersTo kwh places)
-  numbers-room p l = let more = rest-fits (places - (p + 1)) (p + 1) (omega arith) in omega (arith, numbers-length p)
+  pub numbers-room : (p : ℕ) → p < readings → length (numbersTo kwh p) + length (field (kwh p) (stopAt p)) ≤ length (numbersTo kwh readings)
+  numbers-room p l = let more = rest-fits (readings - (p + 1)) (p + 1) (omega arith) in omega (arith, numbers-length p)
 
-  pub numbers-written : (at p : ℕ) (s : List ℕ) → p < places → at + length (numbersTo kwh places) ≤ length s
+  pub numbers-written : (at p : ℕ) (s : List ℕ) → p < readings → at + length (numbersTo kwh readings) ≤ length s
       → stored (at + length (numbersTo kwh p)) (field (kwh p) (stopAt p)) (stored at (numbersTo kwh p) s) ≡ stored at (numbersTo kwh (p + 1)) s
   numbers-written at p s l room =
       stored-then at (numbersTo kwh p) (field (kwh p) (stopAt p)) s (omega (arith, numbers-room p l))
@@ -49,20 +49,20 @@ numbers-same f g zero h = refl
 numbers-same f g (suc p) h = ap₂ (λ (t : List ℕ) (n : ℕ). t ++ field n (stopAt p)) (numbers-same f g p (λ i l. h i (omega arith))) (h p (omega arith))
 
 -- the month in front
-line-parts : (month : ℕ) (kwh : ℕ → ℕ) → field month semicolon ++ numbersTo kwh places ≡ line month kwh
+line-parts : (month : ℕ) (kwh : ℕ → ℕ) → field month semicolon ++ numbersTo kwh readings ≡ line month kwh
 unfolding line numbersTo stopAt
 line-parts month kwh = simp append-assoc
 
-pub line-same : (month : ℕ) (f g : ℕ → ℕ) → ((p : ℕ) → p < places → f p ≡ g p) → line month f ≡ line month g
-line-same month f g h = sym (line-parts month f) ∙ ap (λ (t : List ℕ). field month semicolon ++ t) (numbers-same f g places h) ∙ line-parts month g
+pub line-same : (month : ℕ) (f g : ℕ → ℕ) → ((p : ℕ) → p < readings → f p ≡ g p) → line month f ≡ line month g
+line-same month f g h = sym (line-parts month f) ∙ ap (λ (t : List ℕ). field month semicolon ++ t) (numbers-same f g readings h) ∙ line-parts month g
 
-pub line-length : (month : ℕ) (kwh : ℕ → ℕ) → length (line month kwh) ≡ length (field month semicolon) + length (numbersTo kwh places)
-line-length month kwh = ap length (sym (line-parts month kwh)) ∙ length-append (field month semicolon) (numbersTo kwh places)
+pub line-length : (month : ℕ) (kwh : ℕ → ℕ) → length (line month kwh) ≡ length (field month semicolon) + length (numbersTo kwh readings)
+line-length month kwh = ap length (sym (line-parts month kwh)) ∙ length-append (field month semicolon) (numbersTo kwh readings)
 
 pub line-written : (at month : ℕ) (kwh : ℕ → ℕ) (s : List ℕ) → at + length (line month kwh) ≤ length s
-    → stored (at + length (field month semicolon)) (numbersTo kwh places) (stored at (field month semicolon) s) ≡ stored at (line month kwh) s
+    → stored (at + length (field month semicolon)) (numbersTo kwh readings) (stored at (field month semicolon) s) ≡ stored at (line month kwh) s
 line-written at month kwh s room =
-    stored-then at (field month semicolon) (numbersTo kwh places) s (omega (arith, line-length month kwh))
+    stored-then at (field month semicolon) (numbersTo kwh readings) s (omega (arith, line-length month kwh))
     ∙ ap (λ (t : List ℕ). stored at t s) (line-parts month kwh)
 
 -- eight digits hold a kWh, one the months to nine and two the others
@@ -104,7 +104,7 @@ unfolding lines
 lines-short zero kwh h within = omega arith
 lines-short (suc m) kwh h within =
     let before = lines-short m kwh (omega arith) within in
-    let numbers = numbers-short (kwh m) places (λ p l. within m p (omega arith) l) in
+    let numbers = numbers-short (kwh m) readings (λ p l. within m p (omega arith) l) in
     let front = month-length m (omega arith) in
     let whole = line-length (m + 1) (kwh m) in
     omega (arith, length-append (lines m kwh) (line (m + 1) (kwh m)))
@@ -133,7 +133,7 @@ unfolding lines
 full-lines zero h = refl
 full-lines (suc m) h =
     let before = full-lines m (omega arith) in
-    let numbers = full-numbers m places in
+    let numbers = full-numbers m readings in
     let front = month-length m (omega arith) in
     let whole = line-length (m + 1) (full m) in
     omega (arith, length-append (lines m full) (line (m + 1) (full m)))

@@ -11,8 +11,8 @@ use Rattle.sheet.specs.YearSheet.{sheetLength}
 use Rattle.sheet_text.specs.declared.Read.{Read}
 use Rattle.sheet_text.specs.declared.Measures.{Measures}
 use Rattle.sheet_text.specs.Lines.{months, kwhIn}
-use Rattle.sheet_text.specs.Reading.{lineWrong, wrongSize, wrongLine, aboveIn, firstAbove, objectionTo, someRefused, firstRefused, textAnswer, filled, readAnswer, sheetAfter}
-use Rattle.sheet_text.specs.InnerSteps.{yearOf, MeasuresRead}
+use Rattle.sheet_text.specs.Reading.{lineWrong, wrongSize, wrongLine, aboveIn, firstAbove, objectionTo, someRefused, firstRefused, textAnswer, filled, readAnswer, readAfter}
+use Rattle.sheet_text.specs.InnerSteps.{kwhOfYear, MeasuresRead}
 use Rattle.sheet_text.proofs.Filling.{months-same}
 
 objection-told : (t : List ℕ) (m : ℕ) → objectionTo t m .refusal ≡ 0 → ⊥
@@ -41,8 +41,8 @@ text-refused t h = by-test (someRefused t) h
     by-test false z = absurd (z refl)
 
 module _ (s t : List ℕ) where
-  pub size-answered : (length s ≡ sheetLength → ⊥) → (wrongSize ≡ readAnswer s t) × (s ≡ sheetAfter s t)
-  unfolding readAnswer sheetAfter
+  pub size-answered : (length s ≡ sheetLength → ⊥) → (wrongSize ≡ readAnswer s t) × (s ≡ readAfter s t)
+  unfolding readAnswer readAfter
   size-answered h = let no-size : eqb (length s) sheetLength ≡ false = ne-eqb (length s) sheetLength h in (rw no-size, rw no-size)
 
   module _ (long : length s ≡ sheetLength) (r : Measures) (read : MeasuresRead t r) where
@@ -53,15 +53,15 @@ module _ (s t : List ℕ) where
     unfolding readAnswer
     answered = rw size (read .answer)
 
-    pub refused-answered : (r .answer .refusal ≡ 0 → ⊥) → (r .answer ≡ readAnswer s t) × (s ≡ sheetAfter s t)
-    unfolding sheetAfter
+    pub refused-answered : (r .answer .refusal ≡ 0 → ⊥) → (r .answer ≡ readAnswer s t) × (s ≡ readAfter s t)
+    unfolding readAfter
     refused-answered h =
         let some : someRefused t ≡ true = text-refused t (λ z. h (ap (λ (a : Read). a .refusal) (read .answer) ∙ z)) in
         (answered, rw (size, some))
 
-    pub taken-answered : r .answer .refusal ≡ 0 → (after : List ℕ) → after ≡ filled (yearOf (r .year .kwh)) s
-        → (r .answer ≡ readAnswer s t) × (after ≡ sheetAfter s t)
-    unfolding sheetAfter
+    pub taken-answered : r .answer .refusal ≡ 0 → (after : List ℕ) → after ≡ filled (kwhOfYear (r .year .kwh)) s
+        → (r .answer ≡ readAnswer s t) × (after ≡ readAfter s t)
+    unfolding readAfter
     taken-answered z after e =
         let none : someRefused t ≡ false = text-taken t (ap (λ (a : Read). a .refusal) (sym (read .answer)) ∙ z) in
-        (answered, rw (size, none) (e ∙ months-same (yearOf (r .year .kwh)) (kwhIn t) s months (λ m p. read .numbers none m p)))
+        (answered, rw (size, none) (e ∙ months-same (kwhOfYear (r .year .kwh)) (kwhIn t) s months (λ m p. read .numbers none m p)))

@@ -13,11 +13,11 @@ use Rattle.units.specs.Limits.{maxKwh}
 use Rattle.units.specs.Folds.{anyBelow}
 use Rattle.units.proofs.Bools.{or-neither}
 use Rattle.units.proofs.Folds.{any-zero, any-step, any-of, none-at, first-is}
-use Rattle.sheet_text.specs.declared.Line.{Line}
+use Rattle.sheet_text.specs.declared.MonthLine.{MonthLine}
 use Rattle.sheet_text.specs.declared.Measures.{Measures}
-use Rattle.sheet_text.specs.Lines.{months, places, beginsLine, kwhAt, behindLine, fromLine, kwhIn}
-use Rattle.sheet_text.specs.Reading.{lineWrong, someAbove, firstAbove, lineRefused, accepted, wrongLine, aboveIn, objectionTo, someRefused, firstRefused, textAnswer}
-use Rattle.sheet_text.specs.InnerSteps.{tooMuch, kwhOf, yearOf, placeAbove, LineRead, MonthPut, MeasuresRead}
+use Rattle.sheet_text.specs.Lines.{months, readings, beginsLine, kwhAt, behindLine, fromLine, kwhIn}
+use Rattle.sheet_text.specs.Reading.{lineWrong, someKwhAbove, firstAbove, lineRefused, accepted, wrongLine, aboveIn, objectionTo, someRefused, firstRefused, textAnswer}
+use Rattle.sheet_text.specs.InnerSteps.{tooMuch, kwhOf, kwhOfYear, placeAbove, MonthLineRead, MonthPut, MeasuresRead}
 use Rattle.sheet_text.proofs.Above.{none-above, place-same}
 
 module _ (t : List ℕ) where
@@ -45,7 +45,7 @@ module _ (t : List ℕ) where
       let first = first-refused m h none (rw wrong) in
       (first .0, rw (first .0, first .1, wrong))
 
-  pub above-refused : (m : ℕ) → m < months → NoneRefused m → lineWrong t m ≡ false → someAbove (kwhIn t m) ≡ true
+  pub above-refused : (m : ℕ) → m < months → NoneRefused m → lineWrong t m ≡ false → someKwhAbove (kwhIn t m) ≡ true
       → (someRefused t ≡ true) × (aboveIn m (firstAbove (kwhIn t m)) ≡ textAnswer t)
   unfolding textAnswer objectionTo lineRefused
   above-refused m h none right above =
@@ -53,7 +53,7 @@ module _ (t : List ℕ) where
       (first .0, rw (first .0, first .1, right))
 
   -- a line that is taken, and the end
-  pub line-taken : (m : ℕ) → m < months → NoneRefused m → lineWrong t m ≡ false → someAbove (kwhIn t m) ≡ false → NoneRefused (m + 1)
+  pub line-taken : (m : ℕ) → m < months → NoneRefused m → lineWrong t m ≡ false → someKwhAbove (kwhIn t m) ≡ false → NoneRefused (m + 1)
   unfolding lineRefused
   line-taken m h none right within =
       any-step m (lineRefused t) ∙ or-neither none (rw (right, within) (neither (ltb m months)))
@@ -71,12 +71,12 @@ module _ (t : List ℕ) where
   taken none = rw none
 
   -- what is read of a line, at the place where it begins
-  module _ (at m : ℕ) (hm : m < months) (place : drop at t ≡ fromLine m t) (r : Line) (read : LineRead t at (m + 1) r) where
+  module _ (at m : ℕ) (hm : m < months) (place : drop at t ≡ fromLine m t) (r : MonthLine) (read : MonthLineRead t at (m + 1) r) where
     pub line-judged : not (r .fits) ≡ lineWrong t m
     unfolding lineWrong
     line-judged = rw (lt-ltb m months hm) (ap not (read .fits ∙ ap (beginsLine (m + 1)) place))
 
-    pub line-number : (p : ℕ) → p < places → kwhOf (r .kwh) p ≡ min (kwhIn t m p) tooMuch
+    pub line-number : (p : ℕ) → p < readings → kwhOf (r .kwh) p ≡ min (kwhIn t m p) tooMuch
     unfolding kwhIn
     line-number p l = read .numbers p l ∙ ap (λ (u : List ℕ). min (kwhAt u p) tooMuch) place
 
@@ -105,21 +105,21 @@ module _ (t : List ℕ) where
 
   -- the numbers of the lines passed
   abbrev pub Numbers : ℕ → List ℕ → Type 0
-  Numbers n year = (m p : ℕ) → m < n → p < places → yearOf year m p ≡ kwhIn t m p
+  Numbers n year = (m p : ℕ) → m < n → p < readings → kwhOfYear year m p ≡ kwhIn t m p
 
   pub numbers-more : (m : ℕ) (year six after : List ℕ) → Numbers m year → MonthPut year six m after
-      → ((p : ℕ) → p < places → kwhOf six p ≡ kwhIn t m p) → Numbers (m + 1) after
+      → ((p : ℕ) → p < readings → kwhOf six p ≡ kwhIn t m p) → Numbers (m + 1) after
   numbers-more m year six after before put here i p hi hp = either (decLt i m)
     where
-      either : Dec (i < m) → yearOf after i p ≡ kwhIn t i p
-      either (yes less) = put .earlier (places * i + p) (omega arith) ∙ before i p less hp
+      either : Dec (i < m) → kwhOfYear after i p ≡ kwhIn t i p
+      either (yes less) = put .earlier (readings * i + p) (omega arith) ∙ before i p less hp
       either (no more) =
           let same : m ≡ i = omega (arith, more) in
-          subst (λ (k : ℕ). yearOf after k p ≡ kwhIn t k p) same (put .here p hp ∙ here p hp)
+          subst (λ (k : ℕ). kwhOfYear after k p ≡ kwhIn t k p) same (put .here p hp ∙ here p hp)
 
   -- a number within the limit counts in full
-  pub number-within : (m : ℕ) (six : List ℕ) → ((p : ℕ) → p < places → kwhOf six p ≡ min (kwhIn t m p) tooMuch)
-      → someAbove (kwhIn t m) ≡ false → (p : ℕ) → p < places → kwhOf six p ≡ kwhIn t m p
+  pub number-within : (m : ℕ) (six : List ℕ) → ((p : ℕ) → p < readings → kwhOf six p ≡ min (kwhIn t m p) tooMuch)
+      → someKwhAbove (kwhIn t m) ≡ false → (p : ℕ) → p < readings → kwhOf six p ≡ kwhIn t m p
   number-within m six h within p l = h p l ∙ omega (arith, none-above (kwhIn t m) within p l)
 
   -- what is answered

@@ -11,7 +11,7 @@ use Rattle.sheet.specs.declared.Position.{Position}
 use Rattle.sheet.specs.YearSheet.{sheetLength, word, nowhere}
 use Rattle.sheet_text.specs.Lines.{yearText}
 use Rattle.sheet_text.specs.Reading.{firstAbove}
-use Rattle.sheet_text.specs.Writing.{textRoom, sizesFit, sheetAbove, monthAbove, sizeRefused, textWritten, writeAnswer, bufferAfter}
+use Rattle.sheet_text.specs.Writing.{textRoom, buffersFit, sheetAbove, firstMonthAbove, sizeRefused, textWritten, writeAnswer, bufferAfter}
 use Rattle.sheet_text.specs.InnerSteps.{positionAbove}
 
 either-wrong : (x y : Bool) → (not x || not y) ≡ true → (x && y) ≡ false
@@ -28,24 +28,24 @@ module _ (s b : List ℕ) where
   abbrev Wrong : Bool
   Wrong = not (eqb (length s) sheetLength) || not (eqb (length b) textRoom)
 
-  pub sizes-right : Wrong ≡ false → sizesFit s b ≡ true
-  unfolding sizesFit
+  pub sizes-right : Wrong ≡ false → buffersFit s b ≡ true
+  unfolding buffersFit
   sizes-right e = neither-wrong (eqb (length s) sheetLength) (eqb (length b) textRoom) e
 
   pub sizes-answered : Wrong ≡ true → (sizeRefused ≡ writeAnswer s b) × (b ≡ bufferAfter s b)
-  unfolding sizesFit writeAnswer bufferAfter
+  unfolding buffersFit writeAnswer bufferAfter
   sizes-answered e =
       let no-size = either-wrong (eqb (length s) sheetLength) (eqb (length b) textRoom) e in
       (rw no-size, rw no-size)
 
   module _ (right : Wrong ≡ false) (at : Position) (told : at ≡ positionAbove s) where
     -- a position is told exactly if a kWh is above its limit
-    above-told : (at .month ≡ 0 → ⊥) → (sheetAbove s ≡ true) × ((at .month ≡ monthAbove s + 1) × (at .place ≡ firstAbove (word s (monthAbove s)) + 1))
+    above-told : (at .month ≡ 0 → ⊥) → (sheetAbove s ≡ true) × ((at .month ≡ firstMonthAbove s + 1) × (at .place ≡ firstAbove (word s (firstMonthAbove s)) + 1))
     unfolding positionAbove
     above-told h = by-test (sheetAbove s) told
       where
-        by-test : (t : Bool) → at ≡ cond t (record { month = monthAbove s + 1; place = firstAbove (word s (monthAbove s)) + 1 }) nowhere
-            → (t ≡ true) × ((at .month ≡ monthAbove s + 1) × (at .place ≡ firstAbove (word s (monthAbove s)) + 1))
+        by-test : (t : Bool) → at ≡ cond t (record { month = firstMonthAbove s + 1; place = firstAbove (word s (firstMonthAbove s)) + 1 }) nowhere
+            → (t ≡ true) × ((at .month ≡ firstMonthAbove s + 1) × (at .place ≡ firstAbove (word s (firstMonthAbove s)) + 1))
         by-test true e = (refl, (ap (λ (p : Position). p .month) e, ap (λ (p : Position). p .place) e))
         by-test false e = absurd (h (ap (λ (p : Position). p .month) e))
 
@@ -53,8 +53,8 @@ module _ (s b : List ℕ) where
     unfolding positionAbove
     none-told h = by-test (sheetAbove s) told
       where
-        by-test : (t : Bool) → at ≡ cond t (record { month = monthAbove s + 1; place = firstAbove (word s (monthAbove s)) + 1 }) nowhere → t ≡ false
-        by-test true e = let m : at .month ≡ monthAbove s + 1 = ap (λ (p : Position). p .month) e in let z : ⊥ = omega arith in absurd z
+        by-test : (t : Bool) → at ≡ cond t (record { month = firstMonthAbove s + 1; place = firstAbove (word s (firstMonthAbove s)) + 1 }) nowhere → t ≡ false
+        by-test true e = let m : at .month ≡ firstMonthAbove s + 1 = ap (λ (p : Position). p .month) e in let z : ⊥ = omega arith in absurd z
         by-test false e = refl
 
     pub above-answered : (at .month ≡ 0 → ⊥)

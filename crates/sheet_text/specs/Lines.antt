@@ -5,21 +5,18 @@ use Prim.Native.Nat.{ℕ, zero, suc, _+_}
 use mathlib.Core.Bool.{Bool, _&&_}
 use mathlib.Core.List.{List, [], _++_}
 use lib.Dec.{eqb}
-use Rattle.decimals.specs.Decimals.{field, value, beginsField, behind}
+use Rattle.decimals.specs.Decimals.{field, value, beginsField, behind, lineFeed}
 
 abbrev pub semicolon : ℕ
 semicolon = 59
-
-abbrev pub lineFeed : ℕ
-lineFeed = 10
 
 -- "twelve such lines in month order"
 abbrev pub months : ℕ
 months = 12
 
 -- "three withdrawn, three injected"
-abbrev pub places : ℕ
-places = 6
+abbrev pub readings : ℕ
+readings = 6
 
 -- WRITTEN: the line that says so many kWh at each place, for the month that is written in front
 unfoldable pub line : ℕ → (ℕ → ℕ) → List ℕ

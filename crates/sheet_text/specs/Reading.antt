@@ -10,7 +10,7 @@ use Rattle.units.specs.Folds.{anyBelow, firstBelow}
 use Rattle.codec.specs.Bytes.{bytesOf, stored}
 use Rattle.sheet.specs.YearSheet.{sheetLength}
 use Rattle.sheet_text.specs.declared.Read.{Read}
-use Rattle.sheet_text.specs.Lines.{months, places, beginsLine, fromLine, kwhIn}
+use Rattle.sheet_text.specs.Lines.{months, readings, beginsLine, fromLine, kwhIn}
 
 -- "refuses with 17 a line not of this shape or month, missing or beyond the twelfth": a line that is missing begins with no
 -- number; line 12, counted from 0, is beyond the twelfth
@@ -18,17 +18,17 @@ unfoldable pub lineWrong : List ℕ → ℕ → Bool
 lineWrong t m = cond (ltb m months) (not (beginsLine (m + 1) (fromLine m t))) (not (eqb (length (fromLine m t)) 0))
 
 -- "and with 13 a number above its limit"
-unfoldable pub someAbove : (ℕ → ℕ) → Bool
-someAbove kwh = anyBelow places (λ p. ltb maxKwh (kwh p))
+unfoldable pub someKwhAbove : (ℕ → ℕ) → Bool
+someKwhAbove kwh = anyBelow readings (λ p. ltb maxKwh (kwh p))
 
 unfoldable pub firstAbove : (ℕ → ℕ) → ℕ
-firstAbove kwh = firstBelow places (λ p. ltb maxKwh (kwh p))
+firstAbove kwh = firstBelow readings (λ p. ltb maxKwh (kwh p))
 
 abbrev pub Within : (ℕ → ℕ → ℕ) → Type 0
-Within kwh = (m p : ℕ) → m < months → p < places → kwh m p ≤ maxKwh
+Within kwh = (m p : ℕ) → m < months → p < readings → kwh m p ≤ maxKwh
 
 unfoldable pub lineRefused : List ℕ → ℕ → Bool
-lineRefused t m = lineWrong t m || (ltb m months && someAbove (kwhIn t m))
+lineRefused t m = lineWrong t m || (ltb m months && someKwhAbove (kwhIn t m))
 
 -- "telling its place from 1 to 13"; 13 tells month and place as ticket 7 has it
 abbrev pub accepted : Read
@@ -63,7 +63,7 @@ monthFilled kwh m (suc p) s = stored (32 + 96 * m + 4 * p) (bytesOf 4 (kwh p)) (
 
 unfoldable pub monthsFilled : (ℕ → ℕ → ℕ) → ℕ → List ℕ → List ℕ
 monthsFilled kwh zero s = s
-monthsFilled kwh (suc m) s = monthFilled (kwh m) m places (monthsFilled kwh m s)
+monthsFilled kwh (suc m) s = monthFilled (kwh m) m readings (monthsFilled kwh m s)
 
 abbrev pub filled : (ℕ → ℕ → ℕ) → List ℕ → List ℕ
 filled kwh s = monthsFilled kwh months s
@@ -72,5 +72,5 @@ filled kwh s = monthsFilled kwh months s
 unfoldable pub readAnswer : List ℕ → List ℕ → Read
 readAnswer s t = cond (eqb (length s) sheetLength) (textAnswer t) wrongSize
 
-unfoldable pub sheetAfter : List ℕ → List ℕ → List ℕ
-sheetAfter s t = cond (eqb (length s) sheetLength && not (someRefused t)) (filled (kwhIn t) s) s
+unfoldable pub readAfter : List ℕ → List ℕ → List ℕ
+readAfter s t = cond (eqb (length s) sheetLength && not (someRefused t)) (filled (kwhIn t) s) s

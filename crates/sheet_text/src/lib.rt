@@ -6,10 +6,11 @@ ghost use Prim.Native.Nat.{_+_, _*_, _≤_, _<_};
 ghost use lib.ListN.{length};
 ghost use Rattle.sheet.specs.YearSheet.{sheetLength};
 ghost use Rattle.decimals.specs.InnerWritten.{TextPut};
-ghost use Rattle.sheet_text.specs.Lines.{months, places, line};
-ghost use Rattle.sheet_text.specs.Reading.{wrongLine, aboveIn, readAnswer, sheetAfter, monthFilled, filled};
-ghost use Rattle.sheet_text.specs.Writing.{sizesFit, sheetAbove, writeAnswer, bufferAfter};
-ghost use Rattle.sheet_text.specs.InnerSteps.{kwhOf, yearOf, placeAbove, positionAbove, stopAt, numbersTo, LineRead, MonthPut};
+ghost use Rattle.sheet_text.specs.Lines.{months, readings, line};
+ghost use Rattle.sheet_text.specs.Reading.{wrongLine, aboveIn, readAnswer, readAfter, monthFilled, filled};
+ghost use Rattle.sheet_text.specs.Writing.{buffersFit, sheetAbove, writeAnswer, bufferAfter};
+ghost use Rattle.sheet_text.specs.InnerSteps.{kwhOf, kwhOfYear, placeAbove, positionAbove, stopAt, numbersTo};
+ghost use Rattle.sheet_text.specs.InnerSteps.{MonthLineRead, MonthPut};
 ghost use Rattle.sheet_text.specs.InnerSteps.{MeasuresRead, MonthOf, YearPut};
 use sheet::HEADER;
 use sheet::LENGTH;
@@ -19,12 +20,12 @@ use sheet::Position;
 use units::MAX_KWH;
 
 // A month's kWh: three withdrawn, three injected.
-const PLACES: usize = 6;
+const READINGS: usize = 6;
 
-pub const NUMBERS: usize = 72;
+pub const YEAR_READINGS: usize = 72;
 
 // What the lines of every sheet fit into.
-pub const ROOM: usize = 675;
+const TEXT_ROOM: usize = 675;
 
 // A number above its limit counts as this.
 const TOO_MUCH: u32 = MAX_KWH + 1;
@@ -46,21 +47,21 @@ pub struct Written {
 }
 
 // A line: whether it is of the shape and month, its numbers as far as they count, and the place behind it.
-pub struct Line {
+struct MonthLine {
     pub fits: bool,
-    pub kwh: [u32; PLACES],
+    pub kwh: [u32; READINGS],
     pub next: usize,
 }
 
 // The kWh of a year, six a month.
-pub struct Year {
-    pub kwh: [u32; NUMBERS],
+pub struct YearKwh {
+    pub kwh: [u32; YEAR_READINGS],
 }
 
 // What a text says: whether it is taken, and its numbers.
 pub struct Measures {
     pub answer: Read,
-    pub year: Year,
+    pub year: YearKwh,
 }
 
 const ACCEPTED: Read = Read {
@@ -71,9 +72,9 @@ const ACCEPTED: Read = Read {
 };
 
 // The line that stands at a place of the text, if it is one of the month.
-fn line_at(text: &[u8], at: usize, month: u32) -> Line
+fn line_at(text: &[u8], at: usize, month: u32) -> MonthLine
     requires { ⌜ month ≤ months ⌝ }
-    ensures { λ r. ⌜ LineRead (now (text .entry)) at month r ⌝ }
+    ensures { λ r. ⌜ MonthLineRead (now (text .entry)) at month r ⌝ }
 {
     let front = decimals::read_field(text, at, b';', TOO_MUCH);
     let first = decimals::read_field(text, front.next, b';', TOO_MUCH);
@@ -92,39 +93,41 @@ fn line_at(text: &[u8], at: usize, month: u32) -> Line
     ];
     let withdrawn = first.fits & second.fits & third.fits;
     let injected = fourth.fits & fifth.fits & sixth.fits;
-    Line {
+    MonthLine {
         fits: front.fits & (front.value == month) & withdrawn & injected,
         kwh,
         next: sixth.next,
     }
 }
 
-// The first place of a month with a number above its limit, PLACES for none.
-fn place_above(kwh: [u32; PLACES]) -> usize
+// The first place of a month with a number above its limit, READINGS for none.
+fn place_above(kwh: [u32; READINGS]) -> usize
     ensures { λ r. ⌜ r ≡ placeAbove (kwhOf kwh) ⌝ }
 {
-    for place in 0..PLACES {
+    for place in 0..READINGS {
         if MAX_KWH < kwh[place] {
             return place;
         }
     }
-    PLACES
+    READINGS
 }
 
 // The numbers of a month put to those of the months before.
-fn with_month(year: Year, month: usize, kwh: [u32; PLACES]) -> Year
+fn with_month(year: YearKwh, month: usize, kwh: [u32; READINGS]) -> YearKwh
     requires { ⌜ month < months ⌝ }
     ensures { λ r. ⌜ MonthPut (year .kwh) kwh month (r .kwh) ⌝ }
 {
     let mut filled = year.kwh;
-    for place in 0..PLACES {
-        filled[PLACES * month + place] = kwh[place];
+    for place in 0..READINGS {
+        filled[READINGS * month + place] = kwh[place];
     }
-    Year { kwh: filled }
+    YearKwh { kwh: filled }
 }
 
-fn no_numbers() -> Year {
-    Year { kwh: [0; NUMBERS] }
+fn no_numbers() -> YearKwh {
+    YearKwh {
+        kwh: [0; YEAR_READINGS],
+    }
 }
 
 // What is told of a line that is wrong, and of a number above its limit; both counted from 0.
@@ -141,7 +144,7 @@ fn wrong_line(line: usize) -> Read
 }
 
 fn above_in(month: usize, place: usize) -> Read
-    requires { ⌜ (month < months) × (place < places) ⌝ }
+    requires { ⌜ (month < months) × (place < readings) ⌝ }
     ensures { λ r. ⌜ r ≡ aboveIn month place ⌝ }
 {
     Read {
@@ -168,7 +171,7 @@ pub fn measures_of(text: &[u8]) -> Measures
                 year,
             };
         }
-        if place < PLACES {
+        if place < READINGS {
             return Measures {
                 answer: above_in(month, place),
                 year,
@@ -189,22 +192,22 @@ pub fn measures_of(text: &[u8]) -> Measures
     }
 }
 
-fn fill_month(sheet: &mut [u8], month: usize, year: [u32; NUMBERS])
+fn fill_month(sheet: &mut [u8], month: usize, year: [u32; YEAR_READINGS])
     requires { ⌜ (length (now sheet) ≡ sheetLength) × (month < months) ⌝ }
-    ensures { λ _. ⌜ now (sheet .exit) ≡ monthFilled (yearOf year month) month places (now (sheet .entry)) ⌝ }
+    ensures { λ _. ⌜ now (sheet .exit) ≡ monthFilled (kwhOfYear year month) month readings (now (sheet .entry)) ⌝ }
 {
-    for place in 0..PLACES {
+    for place in 0..READINGS {
         codec::store_u32(
             sheet,
             HEADER + 96 * month + 4 * place,
-            year[PLACES * month + place],
+            year[READINGS * month + place],
         );
     }
 }
 
-fn fill(sheet: &mut [u8], year: [u32; NUMBERS])
+fn fill(sheet: &mut [u8], year: [u32; YEAR_READINGS])
     requires { ⌜ length (now sheet) ≡ sheetLength ⌝ }
-    ensures { λ _. ⌜ now (sheet .exit) ≡ filled (yearOf year) (now (sheet .entry)) ⌝ }
+    ensures { λ _. ⌜ now (sheet .exit) ≡ filled (kwhOfYear year) (now (sheet .entry)) ⌝ }
 {
     for month in 0..MONTHS {
         fill_month(sheet, month, year);
@@ -214,7 +217,7 @@ fn fill(sheet: &mut [u8], year: [u32; NUMBERS])
 // Fills the kWh of a sheet. All of the text is looked at before the first byte is written, so that a refusal leaves the sheet.
 pub fn read_measures(sheet: &mut [u8], text: &[u8]) -> Read
     ensures answer { λ r. ⌜ r ≡ readAnswer (now (sheet .entry)) (now (text .entry)) ⌝ }
-    ensures after { λ _. ⌜ now (sheet .exit) ≡ sheetAfter (now (sheet .entry)) (now (text .entry)) ⌝ }
+    ensures after { λ _. ⌜ now (sheet .exit) ≡ readAfter (now (sheet .entry)) (now (text .entry)) ⌝ }
 {
     if sheet.len() != LENGTH {
         return Read {
@@ -235,25 +238,25 @@ pub fn read_measures(sheet: &mut [u8], text: &[u8]) -> Read
 }
 
 // The kWh of a month of a sheet.
-fn month_of(sheet: &[u8], month: usize) -> [u32; PLACES]
+fn month_of(sheet: &[u8], month: usize) -> [u32; READINGS]
     requires { ⌜ (length (now sheet) ≡ sheetLength) × (month < months) ⌝ }
     ensures { λ r. ⌜ MonthOf (now (sheet .entry)) month r ⌝ }
 {
-    let mut kwh = [0u32; PLACES];
-    for place in 0..PLACES {
+    let mut kwh = [0u32; READINGS];
+    for place in 0..READINGS {
         kwh[place] = sheet::number_at(sheet, month, place);
     }
     kwh
 }
 
 // Where the first kWh of a sheet above its limit stands.
-fn first_above(sheet: &[u8]) -> Position
+fn position_above(sheet: &[u8]) -> Position
     requires { ⌜ length (now sheet) ≡ sheetLength ⌝ }
     ensures { λ r. ⌜ r ≡ positionAbove (now (sheet .entry)) ⌝ }
 {
     for month in 0..MONTHS {
         let place = place_above(month_of(sheet, month));
-        if place < PLACES {
+        if place < READINGS {
             return Position {
                 month: month as u32 + 1,
                 place: place as u32 + 1,
@@ -271,19 +274,19 @@ fn stop_at(place: usize) -> u8
 }
 
 // Writes the numbers of a line at a place of the text, and answers the place behind them.
-fn write_numbers(out: &mut [u8], at: usize, kwh: [u32; PLACES]) -> usize
-    requires { ⌜ at + length (numbersTo (kwhOf kwh) places) ≤ length (now out) ⌝ }
-    ensures { λ r. ⌜ TextPut at (numbersTo (kwhOf kwh) places) (now (out .entry)) (now (out .exit)) r ⌝ }
+fn write_numbers(out: &mut [u8], at: usize, kwh: [u32; READINGS]) -> usize
+    requires { ⌜ at + length (numbersTo (kwhOf kwh) readings) ≤ length (now out) ⌝ }
+    ensures { λ r. ⌜ TextPut at (numbersTo (kwhOf kwh) readings) (now (out .entry)) (now (out .exit)) r ⌝ }
 {
     let mut end = at;
-    for place in 0..PLACES {
+    for place in 0..READINGS {
         end = decimals::write_field(out, end, kwh[place] as u64, stop_at(place));
     }
     end
 }
 
 // The line of a month, counted from 0.
-fn write_line(out: &mut [u8], at: usize, month: usize, kwh: [u32; PLACES]) -> usize
+fn write_line(out: &mut [u8], at: usize, month: usize, kwh: [u32; READINGS]) -> usize
     requires { ⌜ (month < months) × (at + length (line (month + 1) (kwhOf kwh)) ≤ length (now out)) ⌝ }
     ensures { λ r. ⌜ TextPut at (line (month + 1) (kwhOf kwh)) (now (out .entry)) (now (out .exit)) r ⌝ }
 {
@@ -292,7 +295,7 @@ fn write_line(out: &mut [u8], at: usize, month: usize, kwh: [u32; PLACES]) -> us
 }
 
 fn write_lines(sheet: &[u8], out: &mut [u8]) -> usize
-    requires { ⌜ (sizesFit (now sheet) (now out) ≡ true) × (sheetAbove (now sheet) ≡ false) ⌝ }
+    requires { ⌜ (buffersFit (now sheet) (now out) ≡ true) × (sheetAbove (now sheet) ≡ false) ⌝ }
     ensures { λ r. ⌜ YearPut (now (sheet .entry)) (now (out .entry)) (now (out .exit)) r ⌝ }
 {
     let mut end = 0;
@@ -303,12 +306,12 @@ fn write_lines(sheet: &[u8], out: &mut [u8]) -> usize
     end
 }
 
-// Writes the lines of a sheet into exactly ROOM bytes, of which the rest stays. A refusal leaves them all.
+// Writes the lines of a sheet into exactly TEXT_ROOM bytes, of which the rest stays. A refusal leaves them all.
 pub fn write_measures(sheet: &[u8], text: &mut [u8]) -> Written
     ensures answer { λ r. ⌜ r ≡ writeAnswer (now (sheet .entry)) (now (text .entry)) ⌝ }
     ensures after { λ _. ⌜ now (text .exit) ≡ bufferAfter (now (sheet .entry)) (now (text .entry)) ⌝ }
 {
-    if (sheet.len() != LENGTH) | (text.len() != ROOM) {
+    if (sheet.len() != LENGTH) | (text.len() != TEXT_ROOM) {
         return Written {
             refusal: 11,
             length: 0,
@@ -316,7 +319,7 @@ pub fn write_measures(sheet: &[u8], text: &mut [u8]) -> Written
             place: 0,
         };
     }
-    let above = first_above(sheet);
+    let above = position_above(sheet);
     if above.month != 0 {
         return Written {
             refusal: 13,

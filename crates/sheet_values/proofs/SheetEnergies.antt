@@ -12,7 +12,7 @@ use Rattle.units.specs.Limits.{maxKwh}
 use Rattle.units.specs.Folds.{sumBelow, anyBelow}
 use Rattle.units.proofs.Folds.{sum-cong, any-cong}
 use Rattle.tariff.specs.Tariff.{monthlyThreshold, monthlyMethod, monthlyTiers, annualTiers, flatRateOf}
-use Rattle.sheet.specs.YearSheet.{Passed, monthWithdrawn}
+use Rattle.sheet.specs.YearSheet.{SheetPassed, monthWithdrawn}
 use Rattle.sheet_prices.specs.InnerArrays.{energyAt}
 use Rattle.sheet_values.specs.InnerArrays.{Months}
 use Rattle.sheet_values.proofs.Bounds.{sheets-bounded}
@@ -74,7 +74,7 @@ flat-annual s w i from n class plant power x total injected shared l hw hi t et 
     rw t (q ∙ ap₂ (λ (a b : ℕ). flatRateOf (annualTiers class a b) (annualRate s plant power from n)) total-is shared-is)
 
 -- the exchanged energy of a half year
-pub exchanged-capped : (s : List ℕ) → Passed s → (m : ℕ) → m < 12 → monthExchanged s m ≤ 3 * maxKwh
+pub exchanged-capped : (s : List ℕ) → SheetPassed s → (m : ℕ) → m < 12 → monthExchanged s m ≤ 3 * maxKwh
 exchanged-capped s h m l = omega (arith, exchanged-within s m, sheets-bounded s (h .past13) .month-withdrawn m l)
 
 pub half-is : (s : List ℕ) (e : List Kwh) (half : ℕ) (x : Kwh) → half < 2 → Months (monthExchanged s) e

@@ -6,7 +6,7 @@ use mathlib.Core.List.{List, [], _∷_, _++_}
 use lib.ListN.{replicate}
 use Rattle.units.specs.Limits.{maxKwh, maxPrice}
 use Rattle.codec.specs.Bytes.{bytesOf}
-use Rattle.sheet.specs.YearSheet.{monthWithdrawn, Past13, Passed}
+use Rattle.sheet.specs.YearSheet.{monthWithdrawn, Past13, SheetPassed}
 use Rattle.sheet_values.specs.YearsValues.{monthInjected, withdrawnOver, injectedOver}
 
 abbrev pub monthBound : ℕ
@@ -40,7 +40,7 @@ unfoldable pub fullSheet : List ℕ
 fullSheet = bytesOf 4 1 ++ (bytesOf 2 2013 ++ (1 ∷ 1 ∷ (replicate 24 0 ++ months 12)))
 
 pub record Reached (s : List ℕ) : Type 0 where
-  pub passed : Passed s
+  pub passed : SheetPassed s
   pub month-withdrawn : (m : ℕ) → m < 12 → monthWithdrawn s m ≡ monthBound
   pub month-injected : (m : ℕ) → m < 12 → monthInjected s m ≡ monthBound
   pub year-withdrawn : withdrawnOver s 0 12 ≡ yearBound

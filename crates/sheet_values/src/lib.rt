@@ -9,7 +9,7 @@ ghost use Rattle.units.specs.Limits.{maxKwh, maxPrice, maxTierRate, maxFlatRate
 ghost use Rattle.units.specs.Folds.{sumBelow, anyBelow};
 ghost use Rattle.tariff.specs.Table1.{tableEuroPerMwh};
 ghost use Rattle.tariff.specs.Tariff.{monthlyThreshold, monthlyTiers, annualTiers, meanRate, flatRateOf};
-ghost use Rattle.sheet.specs.YearSheet.{Passed, monthWithdrawn, word};
+ghost use Rattle.sheet.specs.YearSheet.{SheetPassed, monthWithdrawn, word};
 ghost use Rattle.sheet_prices.specs.InnerArrays.{energyAt, rowTotal};
 ghost use Rattle.units.specs.InnerWithin.{NumberWithin, KwhWithin, RateWithin, TicksWithin};
 ghost use Rattle.sheet_values.specs.YearsValues.{monthInjected, monthExchanged, monthRate, annualRate, monthFlatRate, flatRateOver};
@@ -86,7 +86,7 @@ fn energy_over(months: [Kwh; 12], from: usize, count: usize) -> Kwh
 
 // The energy withdrawn in each month.
 fn withdrawn(s: &[u8]) -> [Kwh; 12]
-    requires { ⌜ Passed (now s) ⌝ }
+    requires { ⌜ SheetPassed (now s) ⌝ }
     ensures { λ r. ⌜ Months (monthWithdrawn (now (s .entry))) r ⌝ }
 {
     month_totals(sheet_prices::energies(s, 0))
@@ -94,7 +94,7 @@ fn withdrawn(s: &[u8]) -> [Kwh; 12]
 
 // The energy injected in each month.
 fn injected(s: &[u8]) -> [Kwh; 12]
-    requires { ⌜ Passed (now s) ⌝ }
+    requires { ⌜ SheetPassed (now s) ⌝ }
     ensures { λ r. ⌜ Months (monthInjected (now (s .entry))) r ⌝ }
 {
     month_totals(sheet_prices::energies(s, 3))
@@ -115,7 +115,7 @@ fn some_month_above(months: [Kwh; 12], from: usize, count: usize) -> bool
 
 // A rate of the sheet, at a place of a month.
 fn rate_at(s: &[u8], month: usize, place: usize) -> Rate
-    requires { ⌜ Passed (now s) ⌝ }
+    requires { ⌜ SheetPassed (now s) ⌝ }
     requires { ⌜ (month < 12) × ((6 ≤ place) × (place < 23)) ⌝ }
     ensures { λ r. ⌜ RateWithin (word (now (s .entry)) month place) maxPrice r ⌝ }
 {
@@ -124,7 +124,7 @@ fn rate_at(s: &[u8], month: usize, place: usize) -> Rate
 
 // The tier rates of a month.
 fn month_rates(s: &[u8], month: usize, plant: u8, power: u32, table: Rate) -> [Rate; 4]
-    requires { ⌜ Passed (now s) ⌝ }
+    requires { ⌜ SheetPassed (now s) ⌝ }
     requires { ⌜ month < 12 ⌝ }
     requires { ⌜ table ≡ rate (unitsPerEuroMwh * tableEuroPerMwh plant power) ⌝ }
     ensures { λ r. ⌜ Rates (monthRate (now (s .entry)) plant power month) r ⌝ }
@@ -140,7 +140,7 @@ fn month_rates(s: &[u8], month: usize, plant: u8, power: u32, table: Rate) -> [R
 
 // A rate of the sheet, summed over a stretch of months.
 fn rate_over(s: &[u8], place: usize, from: usize, count: usize) -> Rate
-    requires { ⌜ Passed (now s) ⌝ }
+    requires { ⌜ SheetPassed (now s) ⌝ }
     requires { ⌜ (6 ≤ place) × (place < 23) ⌝ }
     requires { ⌜ from + count ≤ 12 ⌝ }
     ensures { λ r. ⌜ RateWithin (sumBelow count (λ i. word (now (s .entry)) (from + i) place)) (maxPrice * count) r ⌝ }
@@ -155,7 +155,7 @@ fn rate_over(s: &[u8], place: usize, from: usize, count: usize) -> Rate
 
 // "each annual rate .. is the sum of twelve divided by 12, halves up".
 fn mean_over(s: &[u8], place: usize, from: usize, count: usize) -> Rate
-    requires { ⌜ Passed (now s) ⌝ }
+    requires { ⌜ SheetPassed (now s) ⌝ }
     requires { ⌜ (6 ≤ place) × (place < 23) ⌝ }
     requires { ⌜ (0 < count) × (from + count ≤ 12) ⌝ }
     ensures { λ r. ⌜ RateWithin (meanRate count (sumBelow count (λ i. word (now (s .entry)) (from + i) place))) maxPrice r ⌝ }
@@ -172,7 +172,7 @@ fn annual_rates(
     power: u32,
     table: Rate,
 ) -> [Rate; 4]
-    requires { ⌜ Passed (now s) ⌝ }
+    requires { ⌜ SheetPassed (now s) ⌝ }
     requires { ⌜ (0 < count) × (from + count ≤ 12) ⌝ }
     requires { ⌜ table ≡ rate (unitsPerEuroMwh * tableEuroPerMwh plant power) ⌝ }
     ensures { λ r. ⌜ Rates (annualRate (now (s .entry)) plant power from count) r ⌝ }
@@ -196,7 +196,7 @@ fn month_flat_rate(
     power: u32,
     table: Rate,
 ) -> Ticks
-    requires { ⌜ Passed (now s) ⌝ }
+    requires { ⌜ SheetPassed (now s) ⌝ }
     requires { ⌜ month < 12 ⌝ }
     requires { ⌜ (exchanged .0 ≤ withdrawn .0) × (withdrawn .0 ≤ 3 * maxKwh) ⌝ }
     requires { ⌜ table ≡ rate (unitsPerEuroMwh * tableEuroPerMwh plant power) ⌝ }
@@ -219,7 +219,7 @@ fn annual_flat_rate(
     power: u32,
     table: Rate,
 ) -> Ticks
-    requires { ⌜ Passed (now s) ⌝ }
+    requires { ⌜ SheetPassed (now s) ⌝ }
     requires { ⌜ (0 < count) × (from + count ≤ 12) ⌝ }
     requires { ⌜ (exchanged .0 ≤ withdrawn .0) × (withdrawn .0 ≤ 36 * maxKwh) ⌝ }
     requires { ⌜ table ≡ rate (unitsPerEuroMwh * tableEuroPerMwh plant power) ⌝ }
@@ -241,7 +241,7 @@ fn monthly_flat_rate(
     power: u32,
     table: Rate,
 ) -> Ticks
-    requires { ⌜ Passed (now s) ⌝ }
+    requires { ⌜ SheetPassed (now s) ⌝ }
     requires { ⌜ from + count ≤ 12 ⌝ }
     requires { ⌜ Months (monthWithdrawn (now s)) withdrawn × Months (monthExchanged (now s)) exchanged ⌝ }
     requires { ⌜ table ≡ rate (unitsPerEuroMwh * tableEuroPerMwh plant power) ⌝ }
@@ -277,7 +277,7 @@ fn flat_rate(
     plant: u8,
     power: u32,
 ) -> Ticks
-    requires { ⌜ Passed (now s) ⌝ }
+    requires { ⌜ SheetPassed (now s) ⌝ }
     requires { ⌜ (0 < count) × (from + count ≤ 12) ⌝ }
     requires { ⌜ Months (monthWithdrawn (now s)) withdrawn × Months (monthInjected (now s)) injected ⌝ }
     ensures { λ r. ⌜ TicksWithin (flatRateOver (now (s .entry)) from count class plant power) maxFlatRate r ⌝ }
@@ -303,7 +303,7 @@ fn flat_rate(
 
 // All values of a sheet that has passed 11, 13 and 14, for a user with these details.
 pub fn year_values(s: &[u8], details: Details) -> YearValues
-    requires { ⌜ Passed (now s) ⌝ }
+    requires { ⌜ SheetPassed (now s) ⌝ }
     ensures { λ r. ⌜ ValuesWorked (now (s .entry)) details r ⌝ }
 {
     let withdrawn = withdrawn(s);

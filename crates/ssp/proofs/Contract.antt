@@ -1,9 +1,9 @@
 -- What the contract of each exported function says, of every call: a the arguments, r the answer, s the arguments at the end.
 use mathlib.Core.Path.{_≡_}
 use denote.Ref.{now}
-use Rattle.sheet_archive.specs.Archive.{answer, archiveAfter, sheetAfter}
+use Rattle.sheet_archive.specs.Archive.{sizeAnswer, archiveAfter, restoredAfter}
 use Rattle.sheet_losses.specs.Losses.{answerOf, raisedAfter}
-use Rattle.sheet_text.specs.Reading as reading
+use Rattle.sheet_text.specs.Reading.{readAnswer, readAfter}
 use Rattle.sheet_text.specs.Writing.{writeAnswer, bufferAfter}
 use Rattle.book_rules.specs.Book.{used}
 use Rattle.book_rules.specs.Find.{findUser}
@@ -69,11 +69,11 @@ pub statement-says : (κs : _) (a : _) (r : _) (s : _) → statement-of.Post κs
 statement-says κs a r s said = said
 
 pub archive-says : (κs : _) (a : _) (r : _) (s : _) → archive-of.Post κs a r s
-    → (r ≡ answer (now (a .0)) (now (a .1 .0))) × (now (s .1 .0) ≡ archiveAfter (now (a .0)) (now (a .1 .0)))
+    → (r ≡ sizeAnswer (now (a .0)) (now (a .1 .0))) × (now (s .1 .0) ≡ archiveAfter (now (a .0)) (now (a .1 .0)))
 archive-says κs a r s said = said
 
 pub restore-says : (κs : _) (a : _) (r : _) (s : _) → restore-of.Post κs a r s
-    → (r ≡ answer (now (a .0)) (now (a .1 .0))) × (now (s .1 .0) ≡ sheetAfter (now (a .0)) (now (a .1 .0)))
+    → (r ≡ sizeAnswer (now (a .0)) (now (a .1 .0))) × (now (s .1 .0) ≡ restoredAfter (now (a .0)) (now (a .1 .0)))
 restore-says κs a r s said = said
 
 pub raise-says : (κs : _) (a : _) (r : _) (s : _) → raise-of.Post κs a r s
@@ -81,7 +81,7 @@ pub raise-says : (κs : _) (a : _) (r : _) (s : _) → raise-of.Post κs a r s
 raise-says κs a r s said = said
 
 pub read-says : (κs : _) (a : _) (r : _) (s : _) → read-of.Post κs a r s
-    → (r ≡ flatRead (reading.readAnswer (now (a .0)) (now (a .1 .0)))) × (now (s .0) ≡ reading.sheetAfter (now (a .0)) (now (a .1 .0)))
+    → (r ≡ flatRead (readAnswer (now (a .0)) (now (a .1 .0)))) × (now (s .0) ≡ readAfter (now (a .0)) (now (a .1 .0)))
 read-says κs a r s said = said
 
 pub write-says : (κs : _) (a : _) (r : _) (s : _) → write-of.Post κs a r s

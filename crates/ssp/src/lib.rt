@@ -1,9 +1,9 @@
 // The calls as other programs link them (include/ssp.h). Each answer is flat, of plain numbers, and is by definition the
 // answer of the call beneath it.
 ghost use mathlib.Core.Path.{_≡_};
-ghost use Rattle.sheet_archive.specs.Archive.{answer, archiveAfter, sheetAfter};
+ghost use Rattle.sheet_archive.specs.Archive.{sizeAnswer, archiveAfter, restoredAfter};
 ghost use Rattle.sheet_losses.specs.Losses.{answerOf, raisedAfter};
-ghost use Rattle.sheet_text.specs.Reading as reading;
+ghost use Rattle.sheet_text.specs.Reading.{readAnswer, readAfter};
 ghost use Rattle.sheet_text.specs.Writing.{writeAnswer, bufferAfter};
 ghost use Rattle.book_rules.specs.Book.{used};
 ghost use Rattle.book_rules.specs.Find.{findUser};
@@ -335,7 +335,7 @@ pub extern "C" fn ssp_statement(book: &[u8], number: u32) -> Sums
 
 #[no_mangle]
 pub extern "C" fn ssp_archive(sheet: &[u8], archive: &mut [u8]) -> u32
-    ensures answer { λ r. ⌜ r ≡ answer (now (sheet .entry)) (now (archive .entry)) ⌝ }
+    ensures answer { λ r. ⌜ r ≡ sizeAnswer (now (sheet .entry)) (now (archive .entry)) ⌝ }
     ensures after { λ _. ⌜ now (archive .exit) ≡ archiveAfter (now (sheet .entry)) (now (archive .entry)) ⌝ }
 {
     sheet_archive::archive(sheet, archive)
@@ -343,8 +343,8 @@ pub extern "C" fn ssp_archive(sheet: &[u8], archive: &mut [u8]) -> u32
 
 #[no_mangle]
 pub extern "C" fn ssp_restore(archive: &[u8], sheet: &mut [u8]) -> u32
-    ensures answer { λ r. ⌜ r ≡ answer (now (archive .entry)) (now (sheet .entry)) ⌝ }
-    ensures after { λ _. ⌜ now (sheet .exit) ≡ sheetAfter (now (archive .entry)) (now (sheet .entry)) ⌝ }
+    ensures answer { λ r. ⌜ r ≡ sizeAnswer (now (archive .entry)) (now (sheet .entry)) ⌝ }
+    ensures after { λ _. ⌜ now (sheet .exit) ≡ restoredAfter (now (archive .entry)) (now (sheet .entry)) ⌝ }
 {
     sheet_archive::restore(archive, sheet)
 }
@@ -359,8 +359,8 @@ pub extern "C" fn ssp_raise(sheet: &mut [u8], factor: u32) -> Raised
 
 #[no_mangle]
 pub extern "C" fn ssp_read_measures(sheet: &mut [u8], text: &[u8]) -> Read
-    ensures answer { λ r. ⌜ r ≡ flatRead (reading.readAnswer (now (sheet .entry)) (now (text .entry))) ⌝ }
-    ensures after { λ _. ⌜ now (sheet .exit) ≡ reading.sheetAfter (now (sheet .entry)) (now (text .entry)) ⌝ }
+    ensures answer { λ r. ⌜ r ≡ flatRead (readAnswer (now (sheet .entry)) (now (text .entry))) ⌝ }
+    ensures after { λ _. ⌜ now (sheet .exit) ≡ readAfter (now (sheet .entry)) (now (text .entry)) ⌝ }
 {
     flat_read(sheet_text::read_measures(sheet, text))
 }

@@ -57,13 +57,13 @@ pub record BlankPassed (s : List ℕ) (at r : ℕ) : Type 0 where
   pub within : at ≤ length s → r ≤ length s
 
 -- the place after k numbers, each after one blank
-abbrev pub nextOf : ℕ → Number → ℕ
-nextOf at (number.Read value next) = next
-nextOf at number.Missing = at
+abbrev pub placeAfter : ℕ → Number → ℕ
+placeAfter at (number.Read value next) = next
+placeAfter at number.Missing = at
 
 unfoldable pub afterFields : List ℕ → ℕ → ℕ → ℕ
 afterFields s at zero = at
-afterFields s at (suc k) = nextOf (afterFields s at k) (fieldAt s (afterFields s at k))
+afterFields s at (suc k) = placeAfter (afterFields s at k) (fieldAt s (afterFields s at k))
 
 -- the numbers that were read are those that stand there; where they are fewer than asked, none stands after them
 pub record FieldsRead (s : List ℕ) (at count : ℕ) (r : Numbers) : Type 0 where

@@ -30,7 +30,7 @@ use Rattle.call_statement.specs.Stated.{sumsStated}
 use Rattle.call_statement.proofs.Contract.{statement-says}
 use Rattle.call_statement.proofs.statement.Reads as statement-of
 use Rattle.ledger_agrees.specs.Lists.{Made, callsOf, Runs, madeOf, bookAfterAll}
-use Rattle.ledger_agrees.specs.Fed.{posted, isFor, ledgerOf, valueOf, Enrols, here, later, NoneDamaged}
+use Rattle.ledger_agrees.specs.Fed.{posted, isFor, ledgerOf, valueFed, Enrols, here, later, NoneDamaged}
 use Rattle.ledger_agrees.specs.Charged.{ChargesKept}
 use Rattle.ledger_agrees.proofs.Theorem as demand
 use Rattle.theorem.specs.Runs.{Calls}
@@ -100,14 +100,14 @@ module _ (b : List ℕ) (fits : lengthFits b ≡ true) (ms : List Made) (b′ : 
       let fed = ap (λ (xs : List Made). ledgerOf number xs none) (sym (run-answers run)) ∙ l .1 in
       let d = demand.third-demand b fits (callsOf ms) (run-typed run) number (l .0) fed in
       let known : refusalOf b′ (statement number) ≡ 0 = rw left (d .answered) in
-      let right : Accounts (l .0) (valueOf number (l .0 .details) ms) (statementAt b′ (findUser b′ number)) =
-      subst₂ (λ (x : List ℕ) (xs : List Made). Accounts (l .0) (valueOf number (l .0 .details) xs) (statementAt x (findUser x number))) (sym left) (sym (run-answers run)) (d .right) in
+      let right : Accounts (l .0) (valueFed number (l .0 .details) ms) (statementAt b′ (findUser b′ number)) =
+      subst₂ (λ (x : List ℕ) (xs : List Made). Accounts (l .0) (valueFed number (l .0 .details) xs) (statementAt x (findUser x number))) (sym left) (sym (run-answers run)) (d .right) in
       record {
         ledger = l .0;
         fed = l .1;
         statement = λ κs a r s p is-book is-number.
             let said = statement-answers b′ number known κs a r s p is-book is-number in
-            (said .0, said .1, subst (Accounts (l .0) (valueOf number (l .0 .details) ms)) (sym (said .2)) right);
+            (said .0, said .1, subst (Accounts (l .0) (valueFed number (l .0 .details) ms)) (sym (said .2)) right);
         charges = subst (λ (x : List ℕ). ChargesKept x number (l .0)) (sym left) (d .charges);
       }
 

@@ -14,8 +14,8 @@ use Rattle.statements.specs.InnerWalk.{statementIn}
 use Rattle.call_rules.specs.Calls.{Call, AllTyped}
 use Rattle.call_statement.proofs.statement.Reads as statement-of
 use Rattle.check_book.proofs.fresh.Reads as fresh-of
-use Rattle.ledger_agrees.specs.Lists.{Made, callsOf, Runs}
-use Rattle.ledger_agrees.specs.Fed.{ledgerOf, valueOf, Enrols, NoneDamaged}
+use Rattle.ledger_agrees.specs.Lists.{Made, Runs, Performed}
+use Rattle.ledger_agrees.specs.Fed.{ledgerOf, valueFed, Enrols, NoneDamaged}
 use Rattle.ledger_agrees.specs.Charged.{ChargesKept}
 use Rattle.theorem.specs.Runs.{numberBy, Calls}
 
@@ -25,7 +25,7 @@ pub record Claim (ms : List Made) (b : List ℕ) (number : ℕ) : Type 1 where
   pub ledger : Ledger
   pub fed : ledgerOf number ms none ≡ some ledger
   pub statement : (κs : _) (a : _) (r : _) (s : _) → statement-of.Post κs a r s → now (a .0) ≡ b → numberBy a ≡ number
-      → (r .reply .refusal ≡ 0) × (r .reply .«record» .0 ≡ 0) × Accounts ledger (valueOf number (ledger .details) ms)
+      → (r .reply .refusal ≡ 0) × (r .reply .«record» .0 ≡ 0) × Accounts ledger (valueFed number (ledger .details) ms)
       (statementIn (r .sums))
   pub charges : ChargesKept b number ledger
 
@@ -34,13 +34,7 @@ ThirdDemand =
     (κs : _) (a : _) (r : _) (s : _) → fresh-of.Post κs a r s → r ≡ 0 → (ms : List Made) (b : List ℕ) → Runs Calls (now (s .0)) ms b
     → NoneDamaged ms × ((number : ℕ) → Enrols number ms → Claim ms b number)
 
--- a list of calls that was made, with these calls
-pub record Performed (start : List ℕ) (cs : List Call) : Type 1 where
-  pub made-as : List Made
-  pub after : List ℕ
-  pub run : Runs Calls start made-as after
-  pub calls : callsOf made-as ≡ cs
-
 -- "Every list of calls can be made": from any accepted fresh, with arguments as their types hold them
 abbrev pub EveryList : Type 1
-EveryList = (κs : _) (a : _) (r : _) (s : _) → fresh-of.Post κs a r s → r ≡ 0 → (cs : List Call) → AllTyped cs → Performed (now (s .0)) cs
+EveryList =
+    (κs : _) (a : _) (r : _) (s : _) → fresh-of.Post κs a r s → r ≡ 0 → (cs : List Call) → AllTyped cs → Performed Calls (now (s .0)) cs

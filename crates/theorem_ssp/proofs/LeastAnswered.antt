@@ -17,7 +17,7 @@ use Rattle.ssp.specs.declared.Sun.{Sun}
 use Rattle.ssp.specs.Flat.{positionOf}
 use Rattle.ssp.specs.FlatSun.{foundIn, addedIn, flatSun}
 use Rattle.ssp.proofs.Contract.{more-sun-says}
-use Rattle.theorem_ssp.specs.MoreSun.{reachesFor, WithinLimit, LeastAnswered}
+use Rattle.theorem_ssp.specs.MoreSun.{reachesFor, AdditionFits, LeastAnswered}
 
 -- a least addition, by its two numbers
 module _ (n : ℕ) (test : ℕ → Bool) where
@@ -45,12 +45,12 @@ module _ (b s : List ℕ) (month band : ℕ) (p : Position) (r : Sun) (flat : r 
   unfolding additionAnswered
   least = rw accepted (answers-least s (userAt b (sheetUser s) .details) (month - 1) (band - 1))
 
-  found : r .found ≡ 1 → WithinLimit s month band (r .added) × ((reachesFor b s month band (r .added) ≡ true) × ((y : ℕ) → y < r .added → reachesFor b s month band y ≡ false))
+  found : r .found ≡ 1 → AdditionFits s month band (r .added) × ((reachesFor b s month band (r .added) ≡ true) × ((y : ℕ) → y < r .added → reachesFor b s month band y ≡ false))
   found e =
       let h = is-found (additions s (month - 1) (band - 1)) (reachesFor b s month band) answer least (sym found-is ∙ e) in
       rw added-is (omega (arith, h .0), h .1)
 
-  none : r .found ≡ 0 → (y : ℕ) → WithinLimit s month band y → reachesFor b s month band y ≡ false
+  none : r .found ≡ 0 → (y : ℕ) → AdditionFits s month band y → reachesFor b s month band y ≡ false
   none e y within = is-none (additions s (month - 1) (band - 1)) (reachesFor b s month band) answer least (sym found-is ∙ e) y (omega (arith, within))
 
 pub least-answered : LeastAnswered

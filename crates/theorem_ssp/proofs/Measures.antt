@@ -6,7 +6,7 @@ use lib.ListN.{take}
 use denote.Ref.{now}
 use Rattle.sheet.specs.YearSheet.{word}
 use Rattle.sheet_text.specs.declared.Read.{Read}
-use Rattle.sheet_text.specs.Reading.{readAnswer, sheetAfter}
+use Rattle.sheet_text.specs.Reading.{readAnswer, readAfter}
 use Rattle.sheet_text.specs.Writing.{textWritten, writeAnswer, bufferAfter}
 use Rattle.sheet_language.proofs.ReadsBack.{reads-back, written-answer}
 use Rattle.ssp.specs.declared.Read as flat-read
@@ -39,6 +39,6 @@ measures-back =
           (sym (ap (λ (w : flat-written.Written). w .length) (said .0))) in
           let text : now (a′ .1 .0) ≡ take n (bufferAfter (now (a .0)) (now (a .1 .0))) = same ∙ ap (take n) (said .1) in
           ap (λ (l : List ℕ). word l m q) (said′ .1)
-          ∙ ap (λ (t : List ℕ). word (sheetAfter (now (a′ .0)) t) m q) text
+          ∙ ap (λ (t : List ℕ). word (readAfter (now (a′ .0)) t) m q) text
           ∙ reads-back .numbers (now (a .0)) (now (a .1 .0)) (now (a′ .0)) n wrote long m q hm hq;
     }

@@ -9,7 +9,7 @@ use denote.Ref.{now}
 use lib.Dec.{eqb}
 use lib.ListN.{getD}
 use Rattle.sheet_losses.specs.declared.Rests.{Rests}
-use Rattle.sheet_losses.specs.Losses.{decembersRest, refusalOf, answerOf, raisedAfter}
+use Rattle.sheet_losses.specs.Losses.{decembersRest, raiseRefusal, answerOf, raisedAfter}
 use Rattle.sheet_losses.specs.Laws.{Elsewhere}
 use Rattle.sheet_losses.proofs.Calls.{accepted-rests, refused-leaves}
 use Rattle.sheet_losses.proofs.Laws.{raised-well}
@@ -20,12 +20,12 @@ use Rattle.theorem_ssp.specs.Raises.{SumKept, Raises}
 use Rattle.theorem_ssp.specs.Archives.{Bytes}
 
 module _ (factor : ℕ) (before after : List ℕ) (r : Raised) (said : (r ≡ flatRaised (answerOf factor before)) × (after ≡ raisedAfter factor before)) where
-  refusal-is : r .refusal ≡ refusalOf factor before
+  refusal-is : r .refusal ≡ raiseRefusal factor before
   unfolding flatRaised answerOf
   refusal-is = ap (λ (x : Raised). x .refusal) (said .0)
 
   module _ (accepted : r .refusal ≡ 0) where
-    passed : refusalOf factor before ≡ 0
+    passed : raiseRefusal factor before ≡ 0
     passed = sym refusal-is ∙ accepted
 
     kept : (band : ℕ) → band < 3 → (rest : ℕ) → rest ≡ decembersRest factor before band → SumKept before after factor band rest
@@ -56,18 +56,18 @@ module _ (factor : ℕ) (before after : List ℕ) (r : Raised) (said : (r ≡ fl
   left other = said .1 ∙ refused-leaves factor before (λ e. other (refusal-is ∙ e))
 
   other-bytes : (k : ℕ) → Elsewhere k → getD after k 0 ≡ getD before k 0
-  other-bytes k e = ap (λ (t : List ℕ). getD t k 0) (said .1) ∙ by-answer (eqb (refusalOf factor before) 0) refl
+  other-bytes k e = ap (λ (t : List ℕ). getD t k 0) (said .1) ∙ by-answer (eqb (raiseRefusal factor before) 0) refl
     where
-      by-answer : (t : Bool) → eqb (refusalOf factor before) 0 ≡ t → getD (raisedAfter factor before) k 0 ≡ getD before k 0
-      by-answer true z = raised-well factor before (eqb-true (refusalOf factor before) 0 z) .others k e
-      by-answer false z = ap (λ (t : List ℕ). getD t k 0) (refused-leaves factor before (eqb-false (refusalOf factor before) 0 z))
+      by-answer : (t : Bool) → eqb (raiseRefusal factor before) 0 ≡ t → getD (raisedAfter factor before) k 0 ≡ getD before k 0
+      by-answer true z = raised-well factor before (eqb-true (raiseRefusal factor before) 0 z) .others k e
+      by-answer false z = ap (λ (t : List ℕ). getD t k 0) (refused-leaves factor before (eqb-false (raiseRefusal factor before) 0 z))
 
   of-none : factor ≡ 0 → Bytes before → after ≡ before
-  of-none e bytes = said .1 ∙ by-answer (eqb (refusalOf factor before) 0) refl
+  of-none e bytes = said .1 ∙ by-answer (eqb (raiseRefusal factor before) 0) refl
     where
-      by-answer : (t : Bool) → eqb (refusalOf factor before) 0 ≡ t → raisedAfter factor before ≡ before
-      by-answer true z = raised-well factor before (eqb-true (refusalOf factor before) 0 z) .unraised e bytes
-      by-answer false z = refused-leaves factor before (eqb-false (refusalOf factor before) 0 z)
+      by-answer : (t : Bool) → eqb (raiseRefusal factor before) 0 ≡ t → raisedAfter factor before ≡ before
+      by-answer true z = raised-well factor before (eqb-true (raiseRefusal factor before) 0 z) .unraised e bytes
+      by-answer false z = refused-leaves factor before (eqb-false (raiseRefusal factor before) 0 z)
 
 pub raises : Raises
 raises =

@@ -12,20 +12,20 @@ use Rattle.call_answers.specs.Replies.{replyOf}
 use Rattle.call_statement.specs.declared.Stated.{Stated}
 use Rattle.call_statement.specs.Stated.{sumsStated}
 use Rattle.ledger_agrees.specs.Lists.{Made}
-use Rattle.ledger_agrees.specs.Fed.{valueOf}
+use Rattle.ledger_agrees.specs.Fed.{valueFed}
 use Rattle.theorem.specs.Claims as beneath
 use Rattle.theorem.proofs.Theorem as functions
 use Rattle.ssp.specs.declared.Sums as ssp
 use Rattle.ssp.specs.Flat.{flatSums}
 use Rattle.ssp.proofs.Contract.{statement-says}
 use Rattle.ssp.proofs.ssp_statement.Reads as statement-of
-use Rattle.theorem_ssp.specs.Exported.{statementIn, Claim, ThirdDemand, EveryList}
+use Rattle.theorem_ssp.specs.Exported.{statementAnswered, Claim, ThirdDemand, EveryList}
 use Rattle.theorem_ssp.proofs.Steps.{lift, flat}
 
 -- a flat answer is the statement of the sums beneath it
-same-statement : (r : ssp.Sums) (refusal named : ℕ) (sums : Sums) → r ≡ flatSums refusal named sums → statementIn r ≡ statements.statementIn sums
-unfolding statementIn flatSums statements.statementIn
-same-statement r refusal named sums e = ap statementIn e
+same-statement : (r : ssp.Sums) (refusal named : ℕ) (sums : Sums) → r ≡ flatSums refusal named sums → statementAnswered r ≡ statements.statementIn sums
+unfolding statementAnswered flatSums statements.statementIn
+same-statement r refusal named sums e = ap statementAnswered e
 
 module _ (ms : List Made) (b : List ℕ) (number : ℕ) (c : beneath.Claim ms b number) where
   claimed : Claim ms b number
@@ -41,7 +41,7 @@ module _ (ms : List Made) (b : List ℕ) (number : ℕ) (c : beneath.Claim ms b 
             let under = c .statement κs (a .0, brought) answer (s .0, brought) (said .0, refl) is-book is-number in (
               under .0,
               under .1,
-              subst (Accounts (c .ledger) (valueOf number (c .ledger .details) ms)) (sym (same-statement r (r .refusal) (r .«record») sums (said .1))) (under .2),
+              subst (Accounts (c .ledger) (valueFed number (c .ledger .details) ms)) (sym (same-statement r (r .refusal) (r .«record») sums (said .1))) (under .2),
             );
         charges = c .charges;
       }

@@ -9,9 +9,9 @@ use denote.Ref.{RefT, now}
 use Rattle.ledger.specs.Ledger.{Ledger, Statement}
 use Rattle.ledger.specs.Accounting.{Accounts}
 use Rattle.call_rules.specs.Calls.{Call, enrol, elect, advance, close, statement, charge, AllTyped}
-use Rattle.ledger_agrees.specs.Lists.{Made, made, callsOf, Runs}
+use Rattle.ledger_agrees.specs.Lists.{Made, made, Runs, Performed}
 use Rattle.ledger_agrees.specs.Charged.{ChargesKept}
-use Rattle.ledger_agrees.specs.Fed.{ledgerOf, valueOf, Enrols, NoneDamaged}
+use Rattle.ledger_agrees.specs.Fed.{ledgerOf, valueFed, Enrols, NoneDamaged}
 use Rattle.ssp.specs.declared.Sums.{Sums}
 use Rattle.ssp.specs.Flat.{detailsOf}
 use Rattle.ssp.proofs.ssp_fresh.Reads as fresh-of
@@ -58,8 +58,8 @@ pub data Calls : List ℕ → Made → List ℕ → Type 1 where
       → Calls (now (a .0)) (made (statementBy a) (r .refusal)) (now (a .0))
 
 -- the statement that an exported answer's fields are
-unfoldable pub statementIn : Sums → Statement
-statementIn s =
+unfoldable pub statementAnswered : Sums → Statement
+statementAnswered s =
     record {
       openYear = s .«open_year»;
       credit = s .credit;
@@ -79,7 +79,7 @@ pub record Claim (ms : List Made) (b : List ℕ) (number : ℕ) : Type 1 where
   pub ledger : Ledger
   pub fed : ledgerOf number ms none ≡ some ledger
   pub statement : (κs : _) (a : _) (r : _) (s : _) → statement-of.Post κs a r s → now (a .0) ≡ b → numberBy a ≡ number
-      → (r .refusal ≡ 0) × (r .«record» ≡ 0) × Accounts ledger (valueOf number (ledger .details) ms) (statementIn r)
+      → (r .refusal ≡ 0) × (r .«record» ≡ 0) × Accounts ledger (valueFed number (ledger .details) ms) (statementAnswered r)
   pub charges : ChargesKept b number ledger
 
 abbrev pub ThirdDemand : Type 1
@@ -88,11 +88,6 @@ ThirdDemand =
     → NoneDamaged ms × ((number : ℕ) → Enrols number ms → Claim ms b number)
 
 -- every list of calls can be made
-pub record Performed (start : List ℕ) (cs : List Call) : Type 1 where
-  pub made-as : List Made
-  pub after : List ℕ
-  pub run : Runs Calls start made-as after
-  pub calls : callsOf made-as ≡ cs
-
 abbrev pub EveryList : Type 1
-EveryList = (κs : _) (a : _) (r : _) (s : _) → fresh-of.Post κs a r s → r ≡ 0 → (cs : List Call) → AllTyped cs → Performed (now (s .0)) cs
+EveryList =
+    (κs : _) (a : _) (r : _) (s : _) → fresh-of.Post κs a r s → r ≡ 0 → (cs : List Call) → AllTyped cs → Performed Calls (now (s .0)) cs

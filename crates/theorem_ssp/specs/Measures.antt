@@ -6,7 +6,7 @@ use mathlib.Core.Path.{_≡_}
 use lib.ListN.{length, take}
 use denote.Ref.{now}
 use Rattle.sheet.specs.YearSheet.{sheetLength, word}
-use Rattle.sheet_text.specs.Lines.{months, places}
+use Rattle.sheet_text.specs.Lines.{months, readings}
 use Rattle.ssp.proofs.ssp_read_measures.Reads as read-of
 use Rattle.ssp.proofs.ssp_write_measures.Reads as write-of
 
@@ -20,4 +20,4 @@ pub record MeasuresBack : Type 1 where
       → (κs′ : _) (a′ : _) (r′ : _) (s′ : _) → read-of.Post κs′ a′ r′ s′
       → now (a′ .1 .0) ≡ take (r .length) (now (s .1 .0))
       → length (now (a′ .0)) ≡ sheetLength
-      → (m p : ℕ) → m < months → p < places → word (now (s′ .0)) m p ≡ word (now (a .0)) m p
+      → (m p : ℕ) → m < months → p < readings → word (now (s′ .0)) m p ≡ word (now (a .0)) m p

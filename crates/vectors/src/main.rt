@@ -108,7 +108,7 @@ fn answer_values(line: &[u8]) -> bool {
     let Bytes::Read(count) = text::hex_from(line, at, &mut bytes) else {
         return say_error();
     };
-    answer_sheet(details, &bytes[..count])
+    answer_sheet(details, text::front(&bytes, count))
 }
 
 // `table1`: Table 1 at kinds and powers, a line each: kind, power in watts, €/MWh. It prints the kind and the power with the price
@@ -148,7 +148,7 @@ fn answer_verdict(line: &[u8]) -> bool {
     let Bytes::Read(count) = text::hex_from(line, 0, &mut bytes) else {
         return say_error();
     };
-    say_verdict(&bytes[..count])
+    say_verdict(text::front(&bytes, count))
 }
 
 // `listings`: the listings of books, a line each in hexadecimal, `-` for no bytes. For each it prints what the listing program
@@ -160,11 +160,11 @@ fn is_no_bytes(line: &[u8]) -> bool {
 
 // The buffer has room for every listing.
 fn say_listing(book: &[u8]) -> bool {
-    let mut text = listing_text::buffer();
-    let Listed::Written(count) = listing_text::listing_of(book, &mut text) else {
+    let mut lines = listing_text::buffer();
+    let Listed::Written(count) = listing_text::listing_of(book, &mut lines) else {
         return false;
     };
-    if !say_text(&text[..count]) {
+    if !say_text(text::front(&lines, count)) {
         return false;
     }
     say_text(b"end\n")
@@ -178,7 +178,7 @@ fn answer_listing(line: &[u8]) -> bool {
     let Bytes::Read(count) = text::hex_from(line, 0, &mut bytes) else {
         return say_error();
     };
-    say_listing(&bytes[..count])
+    say_listing(text::front(&bytes, count))
 }
 
 fn answer(question: Question, line: &[u8]) -> bool {

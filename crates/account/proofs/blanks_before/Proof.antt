@@ -12,27 +12,15 @@ returns c =
     let a = c .before .args in
     rw (le-ltb (a .euros + 6 + a .sign) columnWidth (omega arith))
 
-sub-left : tie.Need-sub-left
-sub-left c = search needs
-
 returns-2 : tie.Need-returns-2
 returns-2 c =
     let a = c .before .before .args in
     rw (le-ltb (a .euros + 6 + a .sign) columnWidth (omega arith))
 
-sub-if3 : tie.Need-sub-if3
-sub-if3 c = search needs
-
 returns-3 : tie.Need-returns-3
 returns-3 c =
     let a = c .before .before .before .args in
     rw (le-ltb (a .euros + 6 + a .sign) columnWidth (omega arith))
-
-sub-result : tie.Need-sub-result
-sub-result c = search needs
-
-sub-result-2 : tie.Need-sub-result-2
-sub-result-2 c = search needs
 
 returns-4 : tie.Need-returns-4
 returns-4 c =
@@ -42,4 +30,4 @@ returns-4 c =
 pub blanks-before-spec : {M : Type 1} → statement M
 blanks-before-spec =
     tie.close
-    (tie.spec returns sub-left returns-2 sub-if3 returns-3 sub-result sub-result-2 returns-4)
+    (tie.spec returns (search needs) returns-2 (search needs) returns-3 (search needs) (search needs) returns-4)

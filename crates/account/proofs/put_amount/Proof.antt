@@ -10,20 +10,8 @@ use borrow.Author.Needs.{needs}
 use Rattle.account.proofs.put_amount.Statement.{statement}
 use Rattle.account.proofs.put_amount.Tie as tie
 
-slice-aggregate-write-number : tie.Need-slice-aggregate-write-number
-slice-aggregate-write-number c = search needs
-
 write-number-requires : tie.Need-write-number-requires
 write-number-requires c κs = digits-fit (omega arith) refl
-
-blanks-before-requires : tie.Need-blanks-before-requires
-blanks-before-requires c κs = search needs
-
-put-blanks-requires : tie.Need-put-blanks-requires
-put-blanks-requires c κs = search needs
-
-put-text-requires : tie.Need-put-text-requires
-put-text-requires c κs = search needs
 
 array-share-prefix-euros : tie.Need-array-share-prefix-euros
 array-share-prefix-euros c =
@@ -36,15 +24,6 @@ slice-aggregate-put-text c =
     let w = c .before .before .before .before .before .write-number in
     let few = digits-fit (omega arith) (w .ensures .end) in
     sym (length-take-le (w .result) (w .last .0) (omega (arith, w .kept .0)))
-
-put-text-requires-2 : tie.Need-put-text-requires-2
-put-text-requires-2 c κs = search needs
-
-put-requires : tie.Need-put-requires
-put-requires c κs = search needs
-
-put-decimals-requires : tie.Need-put-decimals-requires
-put-decimals-requires c κs = search needs
 
 returns : tie.Need-returns
 returns c =
@@ -62,14 +41,14 @@ pub put-amount-spec : {M : Type 1} → statement M
 put-amount-spec =
     tie.close
     (tie.spec
-    slice-aggregate-write-number
+    (search needs)
     write-number-requires
-    blanks-before-requires
-    put-blanks-requires
-    put-text-requires
+    (search needs)
+    (search needs)
+    (search needs)
     array-share-prefix-euros
     slice-aggregate-put-text
-    put-text-requires-2
-    put-requires
-    put-decimals-requires
+    (search needs)
+    (search needs)
+    (search needs)
     returns)

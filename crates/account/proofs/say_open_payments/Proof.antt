@@ -6,42 +6,21 @@ use borrow.Author.Needs.{needs}
 use Rattle.account.proofs.say_open_payments.Statement.{statement}
 use Rattle.account.proofs.say_open_payments.Tie as tie
 
-open-year-of-requires : tie.Need-open-year-of-requires
-open-year-of-requires c κs = search needs
-
-payments-of-requires : tie.Need-payments-of-requires
-payments-of-requires c κs = search needs
-
-say-payments-of-requires : tie.Need-say-payments-of-requires
-say-payments-of-requires c κs = search needs
-
-returns : tie.Need-returns
-returns c = search needs
-
 add-later : tie.Need-add-later
 add-later c =
     let o = c .before .before .before in
     let s = o .before .before in
     omega (arith, year-fits (now (s .args .book)) (s .pre .0) (s .args .user .0) (s .pre .1) (o .open-year-of .result) (o .open-year-of .ensures))
 
-payments-of-requires-2 : tie.Need-payments-of-requires-2
-payments-of-requires-2 c κs = search needs
-
-say-payments-of-requires-2 : tie.Need-say-payments-of-requires-2
-say-payments-of-requires-2 c κs = search needs
-
-returns-2 : tie.Need-returns-2
-returns-2 c = search needs
-
 pub say-open-payments-spec : {M : Type 1} → statement M
 say-open-payments-spec =
     tie.close
     (tie.spec
-    open-year-of-requires
-    payments-of-requires
-    say-payments-of-requires
-    returns
+    (λ c κs. search needs)
+    (λ c κs. search needs)
+    (λ c κs. search needs)
+    (search needs)
     add-later
-    payments-of-requires-2
-    say-payments-of-requires-2
-    returns-2)
+    (λ c κs. search needs)
+    (λ c κs. search needs)
+    (search needs))

@@ -14,12 +14,6 @@ Inv-loop book user activation «open» n₀ n-end n = (n ≤ n-end) × (n-end �
 abbrev μ-loop : tie.MeasureT-loop
 μ-loop book user activation «open» n₀ n-end n = n-end - n
 
-activation-of-requires : tie.Need-activation-of-requires Inv-loop μ-loop
-activation-of-requires c κs = search needs
-
-open-year-of-requires : tie.Need-open-year-of-requires Inv-loop μ-loop
-open-year-of-requires c κs = search needs
-
 sub-n-end : tie.Need-sub-n-end Inv-loop μ-loop
 sub-n-end c =
     let s = c .before .before .before in
@@ -34,29 +28,11 @@ loop-holds c =
     let o = c .open-year-of in
     (search needs, years-closed (now (s .args .book)) (s .pre .0) (s .args .user .0) (s .pre .1) (a .result) (o .result) (a .ensures) (o .ensures) .1)
 
-year-of-requires : tie.Need-year-of-requires Inv-loop μ-loop
-year-of-requires c κs =
+closed-year-requires : tie.Need-closed-year-requires Inv-loop μ-loop
+closed-year-requires c κs =
     let s = c .before .before .before .before .before in
     let l = c .before .loop in
     (s .pre .0 .fits, (s .pre .0 .isSound, (s .pre .1, omega (arith, l .inv .1))))
-
-say-year-requires : tie.Need-say-year-requires Inv-loop μ-loop
-say-year-requires c κs = search needs
-
-returns : tie.Need-returns Inv-loop μ-loop
-returns c = search needs
-
-add-n : tie.Need-add-n Inv-loop μ-loop
-add-n c = search needs
-
-loop-less : tie.Need-loop-less Inv-loop μ-loop
-loop-less c = search needs
-
-loop-again : tie.Need-loop-again Inv-loop μ-loop
-loop-again c = search needs
-
-returns-2 : tie.Need-returns-2 Inv-loop μ-loop
-returns-2 c = search needs
 
 pub say-years-spec : {M : Type 1} → statement M
 say-years-spec =
@@ -64,14 +40,14 @@ say-years-spec =
     (tie.spec
     Inv-loop
     μ-loop
-    activation-of-requires
-    open-year-of-requires
+    (search needs)
+    (search needs)
     sub-n-end
     loop-holds
-    year-of-requires
-    say-year-requires
-    returns
-    add-n
-    loop-less
-    loop-again
-    returns-2)
+    closed-year-requires
+    (search needs)
+    (search needs)
+    (search needs)
+    (search needs)
+    (search needs)
+    (search needs))

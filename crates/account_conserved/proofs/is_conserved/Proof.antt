@@ -6,9 +6,6 @@ use borrow.Author.Needs.{needs}
 use Rattle.account_conserved.proofs.is_conserved.Statement.{statement}
 use Rattle.account_conserved.proofs.is_conserved.Tie as tie
 
-conserved-sum-requires : tie.Need-conserved-sum-requires
-conserved-sum-requires c κs = search needs
-
 returns : tie.Need-returns
 returns c =
     let s = c .before .before .before .before in
@@ -22,4 +19,4 @@ returns-2 c =
     (λ t. absurd (false≢true t), λ f. other-value (s .args .sums) (s .pre) (sum .result) (search needs) (sum .ensures) (c .if1 .left))
 
 pub is-conserved-spec : {M : Type 1} → statement M
-is-conserved-spec = tie.close (tie.spec conserved-sum-requires returns returns-2)
+is-conserved-spec = tie.close (tie.spec (search needs) returns returns-2)

@@ -6,9 +6,6 @@ use borrow.Author.Needs.{needs}
 use Rattle.account_conserved.proofs.less.Statement.{statement}
 use Rattle.account_conserved.proofs.less.Tie as tie
 
-balance-bits-requires : tie.Need-balance-bits-requires
-balance-bits-requires c κs = search needs
-
 joined-requires : tie.Need-joined-requires
 joined-requires c κs =
     let s = c .before in
@@ -20,4 +17,4 @@ returns c =
     less-is (toZ w64 (s .args .sum .0)) (s .args .part .0) (s .pre .0) (c .before .balance-bits .result) (c .before .balance-bits .ensures) (s .pre .1) (c .joined .result) (c .joined .ensures)
 
 pub less-spec : {M : Type 1} → statement M
-less-spec = tie.close (tie.spec balance-bits-requires joined-requires returns)
+less-spec = tie.close (tie.spec (search needs) joined-requires returns)

@@ -5,11 +5,8 @@ use borrow.Author.Needs.{needs}
 use Rattle.account_steps.proofs.balance_bits.Statement.{statement}
 use Rattle.account_steps.proofs.balance_bits.Tie as tie
 
-wrapping-sub-u64-requires : tie.Need-wrapping-sub-u64-requires
-wrapping-sub-u64-requires c κs = search needs
-
 returns : tie.Need-returns
 returns c = ap (λ n. record { 0 = n }) (wrapped-bits _ _ _ (search needs) (search needs) (search needs) (c .wrapping-sub-u64 .ensures))
 
 pub balance-bits-spec : {M : Type 1} → statement M
-balance-bits-spec = tie.close (tie.spec wrapping-sub-u64-requires returns)
+balance-bits-spec = tie.close (tie.spec (search needs) returns)

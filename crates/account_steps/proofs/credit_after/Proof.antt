@@ -5,12 +5,6 @@ use borrow.Author.Needs.{needs}
 use Rattle.account_steps.proofs.credit_after.Statement.{statement}
 use Rattle.account_steps.proofs.credit_after.Tie as tie
 
-enum-known-outcome : tie.Need-enum-known-outcome
-enum-known-outcome c = search needs
-
-enum-known-outcome-2 : tie.Need-enum-known-outcome-2
-enum-known-outcome-2 c = search needs
-
 returns : tie.Need-returns
 unfolding creditIn
 returns c = sym (ap creditIn (c .before .outcome .given .1))
@@ -20,4 +14,4 @@ unfolding creditIn
 returns-2 c = sym (ap creditIn (c .before .outcome2 .given .1))
 
 pub credit-after-spec : {M : Type 1} → statement M
-credit-after-spec = tie.close (tie.spec enum-known-outcome enum-known-outcome-2 returns returns-2)
+credit-after-spec = tie.close (tie.spec (search needs) (search needs) returns returns-2)

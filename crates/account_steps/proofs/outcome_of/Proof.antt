@@ -4,15 +4,6 @@ use borrow.Author.Needs.{needs}
 use Rattle.account_steps.proofs.outcome_of.Statement.{statement}
 use Rattle.account_steps.proofs.outcome_of.Tie as tie
 
-add-t6 : tie.Need-add-t6
-add-t6 c = search needs
-
-excess-requires : tie.Need-excess-requires
-excess-requires c κs = search needs
-
-excess-requires-2 : tie.Need-excess-requires-2
-excess-requires-2 c κs = search needs
-
 returns : tie.Need-returns
 returns c = outcome-liquidated _ _ _ _ _ (c .before .if1 .taken) (c .excess .ensures)
 
@@ -20,4 +11,4 @@ returns-2 : tie.Need-returns-2
 returns-2 c = outcome-carried _ _ _ _ _ (c .before .if1 .left) (c .excess2 .ensures)
 
 pub outcome-of-spec : {M : Type 1} → statement M
-outcome-of-spec = tie.close (tie.spec add-t6 excess-requires excess-requires-2 returns returns-2)
+outcome-of-spec = tie.close (tie.spec (search needs) (search needs) (search needs) returns returns-2)

@@ -4,18 +4,9 @@ use borrow.Author.Needs.{needs}
 use Rattle.account_steps.proofs.settle.Statement.{statement}
 use Rattle.account_steps.proofs.settle.Tie as tie
 
-contribution-of-requires : tie.Need-contribution-of-requires
-contribution-of-requires c κs = search needs
-
-balance-bits-requires : tie.Need-balance-bits-requires
-balance-bits-requires c κs = search needs
-
-outcome-of-requires : tie.Need-outcome-of-requires
-outcome-of-requires c κs = search needs
-
 returns : tie.Need-returns
 returns c = settlement-of-parts _ _ _ _ _ _ _ _ _ (c .before .before .contribution-of .ensures) (c .before .balance-bits .ensures) (c .outcome-of .ensures)
 
 pub settle-spec : {M : Type 1} → statement M
 settle-spec =
-    tie.close (tie.spec contribution-of-requires balance-bits-requires outcome-of-requires returns)
+    tie.close (tie.spec (search needs) (search needs) (search needs) returns)

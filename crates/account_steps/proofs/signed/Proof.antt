@@ -4,15 +4,6 @@ use borrow.Author.Needs.{needs}
 use Rattle.account_steps.proofs.signed.Statement.{statement}
 use Rattle.account_steps.proofs.signed.Tie as tie
 
-cast-result : tie.Need-cast-result
-cast-result c = search needs
-
-sub-result : tie.Need-sub-result
-sub-result c = search needs
-
-cast-result-2 : tie.Need-cast-result-2
-cast-result-2 c = search needs
-
 sub-result-2 : tie.Need-sub-result-2
 sub-result-2 c = upper-half-fits (c .before .before .before .args .balance .0) (search needs) (search needs)
 
@@ -24,4 +15,4 @@ returns-2 c = upper-half-back (c .before .before .before .args .balance .0) (sea
 
 pub signed-spec : {M : Type 1} → statement M
 signed-spec =
-    tie.close (tie.spec cast-result sub-result cast-result-2 sub-result-2 returns returns-2)
+    tie.close (tie.spec (search needs) (search needs) (search needs) sub-result-2 returns returns-2)

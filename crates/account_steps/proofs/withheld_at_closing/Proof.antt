@@ -9,18 +9,6 @@ use borrow.Author.Needs.{needs}
 use Rattle.account_steps.proofs.withheld_at_closing.Statement.{statement}
 use Rattle.account_steps.proofs.withheld_at_closing.Tie as tie
 
-excess-requires : tie.Need-excess-requires
-excess-requires c κs = search needs
-
-withheld-from-requires : tie.Need-withheld-from-requires
-withheld-from-requires c κs = search needs
-
-excess-requires-2 : tie.Need-excess-requires-2
-excess-requires-2 c κs = search needs
-
-withheld-from-requires-2 : tie.Need-withheld-from-requires-2
-withheld-from-requires-2 c κs = search needs
-
 add-t8 : tie.Need-add-t8
 unfolding withheldFrom
 add-t8 c =
@@ -41,9 +29,9 @@ pub withheld-at-closing-spec : {M : Type 1} → statement M
 withheld-at-closing-spec =
     tie.close
     (tie.spec
-    excess-requires
-    withheld-from-requires
-    excess-requires-2
-    withheld-from-requires-2
+    (search needs)
+    (search needs)
+    (search needs)
+    (search needs)
     add-t8
     returns)

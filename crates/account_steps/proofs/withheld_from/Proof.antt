@@ -6,12 +6,9 @@ use borrow.Author.Needs.{needs}
 use Rattle.account_steps.proofs.withheld_from.Statement.{statement}
 use Rattle.account_steps.proofs.withheld_from.Tie as tie
 
-smaller-requires : tie.Need-smaller-requires
-smaller-requires c κs = search needs
-
 returns : tie.Need-returns
 unfolding withheldFrom
 returns c = ap ticks (c .smaller .ensures)
 
 pub withheld-from-spec : {M : Type 1} → statement M
-withheld-from-spec = tie.close (tie.spec smaller-requires returns)
+withheld-from-spec = tie.close (tie.spec (search needs) returns)

@@ -7,9 +7,6 @@ use borrow.Author.Needs.{needs}
 use Rattle.account_years.proofs.by_advance.Statement.{statement}
 use Rattle.account_years.proofs.by_advance.Tie as tie
 
-excess-requires : tie.Need-excess-requires
-excess-requires c κs = search needs
-
 returns : tie.Need-returns
 unfolding byAdvance
 returns c =
@@ -17,4 +14,4 @@ returns c =
     ap (λ (n : ℕ). record { advances = a .ticks; withheld = a .withheld; paid = ticks n }) (c .excess .ensures)
 
 pub by-advance-spec : {M : Type 1} → statement M
-by-advance-spec = tie.close (tie.spec excess-requires returns)
+by-advance-spec = tie.close (tie.spec (search needs) returns)

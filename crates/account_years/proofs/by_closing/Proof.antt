@@ -4,20 +4,14 @@ use Prim.Native.Nat.{ℕ, _+_, _-_}
 use mathlib.Core.Path.{ap, _∙_}
 use native.Mathlib.Omega.{arith}
 use Rattle.account_years.specs.History.{byClosing}
-use Rattle.account_years.proofs.PaidOut.{balance-most}
+use Rattle.call_keeps.proofs.Widths.{paid-capped}
 use borrow.Author.Needs.{needs}
 use Rattle.account_years.proofs.by_closing.Statement.{statement}
 use Rattle.account_years.proofs.by_closing.Tie as tie
 
-paid-balance-requires : tie.Need-paid-balance-requires
-paid-balance-requires c κs = search needs
-
 add-t7 : tie.Need-add-t7
 add-t7 c =
-    omega (arith, c .before .before .before .before .before .pre, c .before .before .paid-balance .ensures, balance-most (c .before .before .before .before .before .args .closing .sums .balance .0))
-
-excess-requires : tie.Need-excess-requires
-excess-requires c κs = search needs
+    omega (arith, c .before .before .before .before .before .pre, c .before .before .paid-balance .ensures, paid-capped (c .before .before .before .before .before .args .closing .sums .balance .0))
 
 returns : tie.Need-returns
 unfolding byClosing
@@ -27,4 +21,4 @@ returns c =
     (c .excess .ensures ∙ ap (λ (n : ℕ). n + x .sums .liquidation .0 - x .withheld .0) (c .before .before .before .paid-balance .ensures))
 
 pub by-closing-spec : {M : Type 1} → statement M
-by-closing-spec = tie.close (tie.spec paid-balance-requires add-t7 excess-requires returns)
+by-closing-spec = tie.close (tie.spec (search needs) add-t7 (search needs) returns)

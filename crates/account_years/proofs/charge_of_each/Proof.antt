@@ -8,9 +8,6 @@ use Rattle.account_years.proofs.charge_of_each.Tie as tie
 returns : tie.Need-returns
 returns c = let a = c .before .before .before .args in none-charged (a .made .0) (a .of-open .0) (a .yearly .0) (a .closed) (c .if1 .taken)
 
-wide-requires : tie.Need-wide-requires
-wide-requires c κs = search needs
-
 mul-if2 : tie.Need-mul-if2
 mul-if2 c = charge-room (c .before .before .before .before .before .pre .1) (c .before .wide .result) (omega arith)
 
@@ -31,4 +28,4 @@ returns-3 c =
 
 pub charge-of-each-spec : {M : Type 1} → statement M
 charge-of-each-spec =
-    tie.close (tie.spec returns wide-requires mul-if2 add-if2 returns-2 returns-3)
+    tie.close (tie.spec returns (search needs) mul-if2 add-if2 returns-2 returns-3)

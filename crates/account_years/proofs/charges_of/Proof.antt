@@ -9,9 +9,6 @@ use Rattle.account_years.proofs.charges_of.Tie as tie
 account-at-requires : tie.Need-account-at-requires
 account-at-requires c κs = let s = c .before in user-whole (now (s .args .book)) (s .args .user .0) (s .pre .0) (s .pre .1 .0) (s .pre .1 .1)
 
-payments-of-requires : tie.Need-payments-of-requires
-payments-of-requires c κs = search needs
-
 add-t12 : tie.Need-add-t12
 add-t12 c =
     let s = c .before .before .before .before .before .before .before .before in
@@ -19,12 +16,6 @@ add-t12 c =
     let account = c .before .before .before .before .before .before .account-at in
     let paid = c .before .before .before .before .before .payments-of in
     made-room (now (a .book)) (a .user .0) (s .pre .0) (s .pre .1 .0) (s .pre .1 .1) (account .result) (account .ensures) (paid .result) (paid .ensures)
-
-charge-of-requires : tie.Need-charge-of-requires
-charge-of-requires c κs = search needs
-
-charge-of-open-requires : tie.Need-charge-of-open-requires
-charge-of-open-requires c κs = search needs
 
 sub-charge-of-each : tie.Need-sub-charge-of-each
 sub-charge-of-each c =
@@ -55,10 +46,10 @@ charges-of-spec =
     tie.close
     (tie.spec
     account-at-requires
-    payments-of-requires
+    (λ c κs. search needs)
     add-t12
-    charge-of-requires
-    charge-of-open-requires
+    (λ c κs. search needs)
+    (λ c κs. search needs)
     sub-charge-of-each
     charge-of-each-requires
     returns)

@@ -33,12 +33,6 @@ next-credit-requires c κs =
     let l = c .before .before .loop in
     (s .pre .0, (s .pre .1 .0, (is-closing (now (a .book)) (a .user .0) (l .n) (c .closing-after .result) (c .closing-after .ensures), omega (arith, l .inv .0, l .inv .1 .most, s .pre .1 .1 .1))))
 
-add-n : tie.Need-add-n Inv-loop μ-loop
-add-n c = search needs
-
-loop-less : tie.Need-loop-less Inv-loop μ-loop
-loop-less c = search needs
-
 loop-again : tie.Need-loop-again Inv-loop μ-loop
 loop-again c =
     let a = c .before .before .before .before .before .args in
@@ -64,7 +58,7 @@ credit-after-years-spec =
     loop-holds
     closing-after-requires
     next-credit-requires
-    add-n
-    loop-less
+    (search needs)
+    (search needs)
     loop-again
     returns)

@@ -2,15 +2,8 @@
 use denote.Ref.{now}
 use Rattle.account_years.proofs.Years.{credit-room, credited}
 use borrow.Author.Needs.{needs}
-use borrow.Author.Needs.{needs}
 use Rattle.account_years.proofs.credit_over.Statement.{statement}
 use Rattle.account_years.proofs.credit_over.Tie as tie
-
-record-requires : tie.Need-record-requires
-record-requires c κs = search needs
-
-closing-of-requires : tie.Need-closing-of-requires
-closing-of-requires c κs = search needs
 
 outcome-of-requires : tie.Need-outcome-of-requires
 outcome-of-requires c κs =
@@ -19,9 +12,6 @@ outcome-of-requires c κs =
     let a = s .args in
     credit-room (now (a .book)) (s .pre .0) (s .pre .1 .0) (a .entry .0) (a .credit .0) (s .pre .1 .1 .0) (closing .closing-of .result) (now (closing .before .«record» .result))
     (closing .before .«record» .ensures) (closing .closing-of .ensures) (s .pre .1 .1 .1)
-
-credit-after-requires : tie.Need-credit-after-requires
-credit-after-requires c κs = search needs
 
 returns : tie.Need-returns
 returns c =
@@ -35,8 +25,8 @@ pub credit-over-spec : {M : Type 1} → statement M
 credit-over-spec =
     tie.close
     (tie.spec
-    record-requires
-    closing-of-requires
+    (search needs)
+    (search needs)
     outcome-of-requires
-    credit-after-requires
+    (search needs)
     returns)

@@ -6,18 +6,6 @@ use borrow.Author.Needs.{needs}
 use Rattle.account_years.proofs.payments_by.Statement.{statement}
 use Rattle.account_years.proofs.payments_by.Tie as tie
 
-record-requires : tie.Need-record-requires
-record-requires c κs = search needs
-
-advance-of-requires : tie.Need-advance-of-requires
-advance-of-requires c κs = search needs
-
-is-advance-requires : tie.Need-is-advance-requires
-is-advance-requires c κs = search needs
-
-by-advance-requires : tie.Need-by-advance-requires
-by-advance-requires c κs = search needs
-
 returns : tie.Need-returns
 returns c =
     let a = c .before .before .before .before .before .before .before .before .args in
@@ -26,12 +14,6 @@ returns c =
     let is = c .before .before .before .before .is-advance in
     its-advance (now (a .book)) (a .first) (a .last) (a .entry .0) (now (bytes .result)) (bytes .ensures) (advance .result) (advance .ensures) (is .result) (is .ensures) (c .before .if1 .taken)
     (c .by-advance .result) (c .by-advance .ensures)
-
-closing-of-requires : tie.Need-closing-of-requires
-closing-of-requires c κs = search needs
-
-is-closing-requires : tie.Need-is-closing-requires
-is-closing-requires c κs = search needs
 
 by-closing-requires : tie.Need-by-closing-requires
 by-closing-requires c κs =
@@ -73,13 +55,13 @@ pub payments-by-spec : {M : Type 1} → statement M
 payments-by-spec =
     tie.close
     (tie.spec
-    record-requires
-    advance-of-requires
-    is-advance-requires
-    by-advance-requires
+    (search needs)
+    (search needs)
+    (search needs)
+    (search needs)
     returns
-    closing-of-requires
-    is-closing-requires
+    (search needs)
+    (search needs)
     by-closing-requires
     returns-2
     returns-3)

@@ -14,9 +14,6 @@ Inv-loop book first last advances₀ withheld₀ paid₀ at₀ advances withheld
 abbrev μ-loop : tie.MeasureT-loop
 μ-loop book first last advances₀ withheld₀ paid₀ at₀ advances withheld paid at = at .0
 
-first-entry-of-requires : tie.Need-first-entry-of-requires Inv-loop μ-loop
-first-entry-of-requires c κs = search needs
-
 loop-holds : tie.Need-loop-holds Inv-loop μ-loop
 loop-holds c =
     let s = c .before .before in
@@ -55,9 +52,6 @@ add-t11-3 c =
           (l .withheld .0) (l .paid .0) (l .at .0) (l .inv) (c .before .before .before .before .before .before .before .if1 .taken) (part .result) (part .ensures) .paid;
     }
 
-next-of-requires : tie.Need-next-of-requires Inv-loop μ-loop
-next-of-requires c κs = search needs
-
 loop-less : tie.Need-loop-less Inv-loop μ-loop
 loop-less c =
     let l = c .before .before .before .before .before .before .before .before .before .before .loop in
@@ -85,13 +79,13 @@ payments-of-spec =
     (tie.spec
     Inv-loop
     μ-loop
-    first-entry-of-requires
+    (search needs)
     loop-holds
     payments-by-requires
     add-t11
     add-t11-2
     add-t11-3
-    next-of-requires
+    (search needs)
     loop-less
     loop-again
     returns)

@@ -5,15 +5,9 @@ use borrow.Author.Needs.{needs}
 use Rattle.book_layout.proofs.advance_rest_zero.Statement.{statement}
 use Rattle.book_layout.proofs.advance_rest_zero.Tie as tie
 
-zeros-requires : tie.Need-zeros-requires
-zeros-requires c κs = search needs
-
-zeros-requires-2 : tie.Need-zeros-requires-2
-zeros-requires-2 c κs = search needs
-
 returns : tie.Need-returns
 unfolding allZero
 returns c = simp (and-true, c .before .zeros .ensures, c .zeros2 .ensures)
 
 pub advance-rest-zero-spec : {M : Type 1} → statement M
-advance-rest-zero-spec = tie.close (tie.spec zeros-requires zeros-requires-2 returns)
+advance-rest-zero-spec = tie.close (tie.spec (search needs) (search needs) returns)

@@ -9,16 +9,10 @@ use Rattle.units.specs.Limits.{recordLength}
 use Rattle.book_layout.proofs.has_whole.Statement.{statement}
 use Rattle.book_layout.proofs.has_whole.Tie as tie
 
-start-of-requires : tie.Need-start-of-requires
-start-of-requires c κs = search needs
-
-add-result : tie.Need-add-result
-add-result c = search needs
-
 returns : tie.Need-returns
 returns c =
     let b = now (c .before .before .args .book) in
     ap (λ (n : ℕ). leb (n + recordLength) (length b)) (c .start-of .ensures)
 
 pub has-whole-spec : {M : Type 1} → statement M
-has-whole-spec = tie.close (tie.spec start-of-requires add-result returns)
+has-whole-spec = tie.close (tie.spec (search needs) (search needs) returns)

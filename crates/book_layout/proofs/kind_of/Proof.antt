@@ -4,12 +4,9 @@ use borrow.Author.Needs.{needs}
 use Rattle.book_layout.proofs.kind_of.Statement.{statement}
 use Rattle.book_layout.proofs.kind_of.Tie as tie
 
-read-u8-requires : tie.Need-read-u8-requires
-read-u8-requires c κs = search needs
-
 returns : tie.Need-returns
 unfolding get
 returns c = c .read-u8 .ensures
 
 pub kind-of-spec : {M : Type 1} → statement M
-kind-of-spec = tie.close (tie.spec read-u8-requires returns)
+kind-of-spec = tie.close (tie.spec (search needs) returns)

@@ -6,12 +6,9 @@ use borrow.Author.Needs.{needs}
 use Rattle.book_layout.proofs.next_of.Statement.{statement}
 use Rattle.book_layout.proofs.next_of.Tie as tie
 
-read-u32-requires : tie.Need-read-u32-requires
-read-u32-requires c κs = search needs
-
 returns : tie.Need-returns
 unfolding get
 returns c = ap recordIndex (c .read-u32 .ensures)
 
 pub next-of-spec : {M : Type 1} → statement M
-next-of-spec = tie.close (tie.spec read-u32-requires returns)
+next-of-spec = tie.close (tie.spec (search needs) returns)

@@ -6,13 +6,10 @@ use borrow.Author.Needs.{needs}
 use Rattle.book_layout.proofs.read_u8.Statement.{statement}
 use Rattle.book_layout.proofs.read_u8.Tie as tie
 
-byte-at-requires : tie.Need-byte-at-requires
-byte-at-requires c κs = search needs
-
 returns : tie.Need-returns
 returns c =
     let a = c .before .before .args in
     c .byte-at .ensures ∙ sym (number-one (a .at) (now (a .r)))
 
 pub read-u8-spec : {M : Type 1} → statement M
-read-u8-spec = tie.close (tie.spec byte-at-requires returns)
+read-u8-spec = tie.close (tie.spec (search needs) returns)

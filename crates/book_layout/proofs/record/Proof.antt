@@ -12,27 +12,6 @@ use borrow.Author.Needs.{needs}
 use Rattle.book_layout.proofs.record.Statement.{statement}
 use Rattle.book_layout.proofs.record.Tie as tie
 
-start-of-requires : tie.Need-start-of-requires
-start-of-requires c κs = search needs
-
-smaller-requires : tie.Need-smaller-requires
-smaller-requires c κs = search needs
-
-add-smaller : tie.Need-add-smaller
-add-smaller c = search needs
-
-smaller-requires-2 : tie.Need-smaller-requires-2
-smaller-requires-2 c κs = search needs
-
-sub-result : tie.Need-sub-result
-sub-result c = search needs
-
-part-result-start : tie.Need-part-result-start
-part-result-start c = search needs
-
-part-result-end : tie.Need-part-result-end
-part-result-end c = search needs
-
 returns : tie.Need-returns
 unfolding recordAt
 returns c =
@@ -46,11 +25,11 @@ pub record-spec : {M : Type 1} → statement M
 record-spec =
     tie.close
     (tie.spec
-    start-of-requires
-    smaller-requires
-    add-smaller
-    smaller-requires-2
-    sub-result
-    part-result-start
-    part-result-end
+    (search needs)
+    (search needs)
+    (search needs)
+    (search needs)
+    (search needs)
+    (search needs)
+    (search needs)
     returns)

@@ -4,14 +4,8 @@ use borrow.Author.Needs.{needs}
 use Rattle.book_layout.proofs.start_of.Statement.{statement}
 use Rattle.book_layout.proofs.start_of.Tie as tie
 
-cast-result : tie.Need-cast-result
-cast-result c = search needs
-
-mul-result : tie.Need-mul-result
-mul-result c = search needs
-
 returns : tie.Need-returns
 returns c = omega arith
 
 pub start-of-spec : {M : Type 1} → statement M
-start-of-spec = tie.close (tie.spec cast-result mul-result returns)
+start-of-spec = tie.close (tie.spec (search needs) (search needs) returns)

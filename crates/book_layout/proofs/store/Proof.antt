@@ -38,19 +38,10 @@ Inv-loop book₀ image start k₀ book k = (k ≤ recordLength) × (book ≡ pas
 abbrev μ-loop : tie.MeasureT-loop
 μ-loop book₀ image start k₀ book k = recordLength - k
 
-start-of-requires : tie.Need-start-of-requires Inv-loop μ-loop
-start-of-requires c κs = search needs
-
 loop-holds : tie.Need-loop-holds Inv-loop μ-loop
 loop-holds c =
     let a = c .before .before .args in
     (search needs, paste-zero (now (a .book)) (c .start-of .result) (a .t3))
-
-array-read-book : tie.Need-array-read-book Inv-loop μ-loop
-array-read-book c = search needs
-
-add-book : tie.Need-add-book Inv-loop μ-loop
-add-book c = search needs
 
 slice-write-book : tie.Need-slice-write-book Inv-loop μ-loop
 slice-write-book c =
@@ -58,12 +49,6 @@ slice-write-book c =
     let l = c .before .loop in
     let n = copied-length (now (s .before .before .args .book)) (s .start-of .result) (s .before .before .args .t3) (l .book) (l .k) (l .inv .1) (search needs) (search needs) in
     omega arith
-
-add-k : tie.Need-add-k Inv-loop μ-loop
-add-k c = search needs
-
-loop-less : tie.Need-loop-less Inv-loop μ-loop
-loop-less c = search needs
 
 loop-again : tie.Need-loop-again Inv-loop μ-loop
 loop-again c =
@@ -92,13 +77,13 @@ store-spec =
     (tie.spec
     Inv-loop
     μ-loop
-    start-of-requires
+    (search needs)
     loop-holds
-    array-read-book
-    add-book
+    (search needs)
+    (search needs)
     slice-write-book
-    add-k
-    loop-less
+    (search needs)
+    (search needs)
     loop-again
     same-length
     returns)

@@ -4,12 +4,9 @@ use borrow.Author.Needs.{needs}
 use Rattle.book_layout.proofs.used_of.Statement.{statement}
 use Rattle.book_layout.proofs.used_of.Tie as tie
 
-read-u32-requires : tie.Need-read-u32-requires
-read-u32-requires c κs = search needs
-
 returns : tie.Need-returns
 unfolding get
 returns c = c .read-u32 .ensures
 
 pub used-of-spec : {M : Type 1} → statement M
-used-of-spec = tie.close (tie.spec read-u32-requires returns)
+used-of-spec = tie.close (tie.spec (search needs) returns)

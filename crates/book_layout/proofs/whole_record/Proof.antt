@@ -11,21 +11,6 @@ use borrow.Author.Needs.{needs}
 use Rattle.book_layout.proofs.whole_record.Statement.{statement}
 use Rattle.book_layout.proofs.whole_record.Tie as tie
 
-mul-start : tie.Need-mul-start
-mul-start c = search needs
-
-add-result : tie.Need-add-result
-add-result c = search needs
-
-sub-result : tie.Need-sub-result
-sub-result c = search needs
-
-part-result-start : tie.Need-part-result-start
-part-result-start c = search needs
-
-part-result-end : tie.Need-part-result-end
-part-result-end c = search needs
-
 returns : tie.Need-returns
 unfolding recordAt part
 returns c =
@@ -35,4 +20,4 @@ returns c =
 
 pub whole-record-spec : {M : Type 1} → statement M
 whole-record-spec =
-    tie.close (tie.spec mul-start add-result sub-result part-result-start part-result-end returns)
+    tie.close (tie.spec (search needs) (search needs) (search needs) (search needs) (search needs) returns)

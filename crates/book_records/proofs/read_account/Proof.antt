@@ -5,14 +5,8 @@ use borrow.Author.Needs.{needs}
 use Rattle.book_records.proofs.read_account.Statement.{statement}
 use Rattle.book_records.proofs.read_account.Tie as tie
 
-whole-requires : tie.Need-whole-requires
-whole-requires c κs = search needs
-
-account-of-requires : tie.Need-account-of-requires
-account-of-requires c κs = search needs
-
 returns : tie.Need-returns
 returns c = c .account-of .ensures ∙ ap accountIn (c .before .whole .ensures)
 
 pub read-account-spec : {M : Type 1} → statement M
-read-account-spec = tie.close (tie.spec whole-requires account-of-requires returns)
+read-account-spec = tie.close (tie.spec (search needs) (search needs) returns)

@@ -5,14 +5,8 @@ use borrow.Author.Needs.{needs}
 use Rattle.book_records.proofs.read_advance.Statement.{statement}
 use Rattle.book_records.proofs.read_advance.Tie as tie
 
-whole-requires : tie.Need-whole-requires
-whole-requires c κs = search needs
-
-advance-of-requires : tie.Need-advance-of-requires
-advance-of-requires c κs = search needs
-
 returns : tie.Need-returns
 returns c = c .advance-of .ensures ∙ ap advanceIn (c .before .whole .ensures)
 
 pub read-advance-spec : {M : Type 1} → statement M
-read-advance-spec = tie.close (tie.spec whole-requires advance-of-requires returns)
+read-advance-spec = tie.close (tie.spec (search needs) (search needs) returns)

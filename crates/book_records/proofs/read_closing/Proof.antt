@@ -5,14 +5,8 @@ use borrow.Author.Needs.{needs}
 use Rattle.book_records.proofs.read_closing.Statement.{statement}
 use Rattle.book_records.proofs.read_closing.Tie as tie
 
-whole-requires : tie.Need-whole-requires
-whole-requires c κs = search needs
-
-closing-of-requires : tie.Need-closing-of-requires
-closing-of-requires c κs = search needs
-
 returns : tie.Need-returns
 returns c = c .closing-of .ensures ∙ ap closingIn (c .before .whole .ensures)
 
 pub read-closing-spec : {M : Type 1} → statement M
-read-closing-spec = tie.close (tie.spec whole-requires closing-of-requires returns)
+read-closing-spec = tie.close (tie.spec (search needs) (search needs) returns)

@@ -9,21 +9,6 @@ use borrow.Author.Needs.{needs}
 use Rattle.book_rules.proofs.account_fits.Statement.{statement}
 use Rattle.book_rules.proofs.account_fits.Tie as tie
 
-details-fit-requires : tie.Need-details-fit-requires
-details-fit-requires c κs = search needs
-
-open-year-fits-requires : tie.Need-open-year-fits-requires
-open-year-fits-requires c κs = search needs
-
-halves-fit-requires : tie.Need-halves-fit-requires
-halves-fit-requires c κs = search needs
-
-credit-fits-requires : tie.Need-credit-fits-requires
-credit-fits-requires c κs = search needs
-
-payments-fit-requires : tie.Need-payments-fit-requires
-payments-fit-requires c κs = search needs
-
 -- the test in the middle is made last
 moved : (s t u : Bool) → (s && (t && u)) ≡ (t && (s && u))
 moved true t u = refl
@@ -79,11 +64,11 @@ pub account-fits-spec : {M : Type 1} → statement M
 account-fits-spec =
     tie.close
     (tie.spec
-    details-fit-requires
-    open-year-fits-requires
-    halves-fit-requires
-    credit-fits-requires
-    payments-fit-requires
+    (search needs)
+    (search needs)
+    (search needs)
+    (search needs)
+    (search needs)
     returns
     returns-2
     returns-3)

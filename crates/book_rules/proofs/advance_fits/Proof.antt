@@ -37,18 +37,6 @@ module _ (owner : Account) (a : AdvanceRecord) {run : Bool} (is-run : run ≡ is
           let there = ne-eqb (a .booked) 0 some in
           rw (all-paid, there, f, t, d, b, and-true (within from to (a .booked) && bookedFits (a .year) (a .booked)))
 
-is-run-requires : tie.Need-is-run-requires
-is-run-requires c κs = search needs
-
-year-fits-requires : tie.Need-year-fits-requires
-year-fits-requires c κs = search needs
-
-year-fits-requires-2 : tie.Need-year-fits-requires-2
-year-fits-requires-2 c κs = search needs
-
-booked-fits-requires : tie.Need-booked-fits-requires
-booked-fits-requires c κs = search needs
-
 returns : tie.Need-returns
 returns c owner from to = unpaid owner (c .before .before .before .before .args .a) (c .before .before .before .is-run .ensures) (c .if1 .taken)
 
@@ -64,4 +52,4 @@ returns-3 c owner from to =
     (c .booked-fits .ensures)
 
 pub advance-fits-spec : {M : Type 1} → statement M
-advance-fits-spec = tie.close (tie.spec is-run-requires returns year-fits-requires year-fits-requires-2 booked-fits-requires returns-2 returns-3)
+advance-fits-spec = tie.close (tie.spec (search needs) returns (search needs) (search needs) (search needs) returns-2 returns-3)

@@ -5,12 +5,9 @@ use borrow.Author.Needs.{needs}
 use Rattle.book_rules.proofs.booked_fits.Statement.{statement}
 use Rattle.book_rules.proofs.booked_fits.Tie as tie
 
-add-result : tie.Need-add-result
-add-result c = search needs
-
 returns : tie.Need-returns
 unfolding bookedFits
 returns c = refl
 
 pub booked-fits-spec : {M : Type 1} → statement M
-booked-fits-spec = tie.close (tie.spec add-result returns)
+booked-fits-spec = tie.close (tie.spec (search needs) returns)

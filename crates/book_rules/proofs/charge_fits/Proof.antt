@@ -9,18 +9,6 @@ use borrow.Author.Needs.{needs}
 use Rattle.book_rules.proofs.charge_fits.Statement.{statement}
 use Rattle.book_rules.proofs.charge_fits.Tie as tie
 
-years-between-requires : tie.Need-years-between-requires
-years-between-requires c κs = search needs
-
-cast-result : tie.Need-cast-result
-cast-result c = search needs
-
-add-result : tie.Need-add-result
-add-result c = search needs
-
-mul-result : tie.Need-mul-result
-mul-result c = search needs
-
 returns : tie.Need-returns
 unfolding chargeFits
 returns c =
@@ -28,4 +16,4 @@ returns c =
     ap (λ (years : ℕ). leb (a .charge .made) 1 && leb (a .charge .rest .0) (maxCharge * (years + a .charge .made))) (c .before .before .before .before .years-between .ensures)
 
 pub charge-fits-spec : {M : Type 1} → statement M
-charge-fits-spec = tie.close (tie.spec years-between-requires cast-result add-result mul-result returns)
+charge-fits-spec = tie.close (tie.spec (search needs) (search needs) (search needs) (search needs) returns)

@@ -4,12 +4,9 @@ use borrow.Author.Needs.{needs}
 use Rattle.book_rules.proofs.credit_fits.Statement.{statement}
 use Rattle.book_rules.proofs.credit_fits.Tie as tie
 
-fits-years-requires : tie.Need-fits-years-requires
-fits-years-requires c κs = search needs
-
 returns : tie.Need-returns
 unfolding creditFits
 returns c = cc
 
 pub credit-fits-spec : {M : Type 1} → statement M
-credit-fits-spec = tie.close (tie.spec fits-years-requires returns)
+credit-fits-spec = tie.close (tie.spec (search needs) returns)

@@ -33,36 +33,15 @@ module _ (o r : List ℕ) {kind : ℕ} (k : kind ≡ get kindField r) where
 whole-requires : tie.Need-whole-requires
 whole-requires c κs = c .before .before .pre
 
-activation-year-of-requires : tie.Need-activation-year-of-requires
-activation-year-of-requires c κs = search needs
-
-open-year-of-requires : tie.Need-open-year-of-requires
-open-year-of-requires c κs = search needs
-
-kind-of-requires : tie.Need-kind-of-requires
-kind-of-requires c κs = search needs
-
 read-advance-requires : tie.Need-read-advance-requires
 read-advance-requires c κs =
     let w = c .before .before .before .before in
     ap length (w .whole .ensures) ∙ w .before .before .before .pre
 
-advance-fits-requires : tie.Need-advance-fits-requires
-advance-fits-requires c κs = search needs
-
-advance-rest-zero-requires : tie.Need-advance-rest-zero-requires
-advance-rest-zero-requires c κs = search needs
-
 read-closing-requires : tie.Need-read-closing-requires
 read-closing-requires c κs =
     let w = c .before .before .before .before in
     ap length (w .whole .ensures) ∙ w .before .before .before .pre
-
-closing-fits-requires : tie.Need-closing-fits-requires
-closing-fits-requires c κs = search needs
-
-closing-rest-zero-requires : tie.Need-closing-rest-zero-requires
-closing-rest-zero-requires c κs = search needs
 
 returns : tie.Need-returns
 returns c =
@@ -118,15 +97,15 @@ entry-record-fits-spec =
     tie.close
     (tie.spec
     whole-requires
-    activation-year-of-requires
-    open-year-of-requires
-    kind-of-requires
+    (search needs)
+    (search needs)
+    (search needs)
     read-advance-requires
-    advance-fits-requires
-    advance-rest-zero-requires
+    (search needs)
+    (search needs)
     read-closing-requires
-    closing-fits-requires
-    closing-rest-zero-requires
+    (search needs)
+    (search needs)
     returns
     returns-2
     returns-3

@@ -9,9 +9,6 @@ use borrow.Author.Needs.{needs}
 use Rattle.book_rules.proofs.fits_years.Statement.{statement}
 use Rattle.book_rules.proofs.fits_years.Tie as tie
 
-years-between-requires : tie.Need-years-between-requires
-years-between-requires c κs = search needs
-
 mul-result : tie.Need-mul-result
 mul-result c = omega arith
 
@@ -30,4 +27,4 @@ returns-3 c =
     sym (le-leb (s .args .amount .0) (maxYearTicks * (s .args .to - s .args .from)) (omega (arith, s .good .0 .1)))
 
 pub fits-years-spec : {M : Type 1} → statement M
-fits-years-spec = tie.close (tie.spec returns years-between-requires mul-result returns-2 returns-3)
+fits-years-spec = tie.close (tie.spec returns (search needs) mul-result returns-2 returns-3)

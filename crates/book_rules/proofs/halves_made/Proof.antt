@@ -7,15 +7,6 @@ use borrow.Author.Needs.{needs}
 use Rattle.book_rules.proofs.halves_made.Statement.{statement}
 use Rattle.book_rules.proofs.halves_made.Tie as tie
 
-is-made-requires : tie.Need-is-made-requires
-is-made-requires c κs = search needs
-
-halves-of-requires : tie.Need-halves-of-requires
-halves-of-requires c κs = search needs
-
-halves-count-requires : tie.Need-halves-count-requires
-halves-count-requires c κs = search needs
-
 returns : tie.Need-returns
 unfolding halvesMade
 returns c =
@@ -34,4 +25,4 @@ returns-2 c =
 pub halves-made-spec : {M : Type 1} → statement M
 halves-made-spec =
     tie.close
-    (tie.spec is-made-requires halves-of-requires halves-count-requires returns returns-2)
+    (tie.spec (search needs) (search needs) (search needs) returns returns-2)

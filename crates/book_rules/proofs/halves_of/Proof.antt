@@ -4,12 +4,9 @@ use borrow.Author.Needs.{needs}
 use Rattle.book_rules.proofs.halves_of.Statement.{statement}
 use Rattle.book_rules.proofs.halves_of.Tie as tie
 
-halves-paid-requires : tie.Need-halves-paid-requires
-halves-paid-requires c κs = search needs
-
 returns : tie.Need-returns
 unfolding halvesOf
 returns c = cc
 
 pub halves-of-spec : {M : Type 1} → statement M
-halves-of-spec = tie.close (tie.spec halves-paid-requires returns)
+halves-of-spec = tie.close (tie.spec (search needs) returns)

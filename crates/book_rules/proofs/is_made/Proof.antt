@@ -5,12 +5,9 @@ use borrow.Author.Needs.{needs}
 use Rattle.book_rules.proofs.is_made.Statement.{statement}
 use Rattle.book_rules.proofs.is_made.Tie as tie
 
-div-result : tie.Need-div-result
-div-result c = search needs
-
 returns : tie.Need-returns
 unfolding isMade
 returns c = refl
 
 pub is-made-spec : {M : Type 1} → statement M
-is-made-spec = tie.close (tie.spec div-result returns)
+is-made-spec = tie.close (tie.spec (search needs) returns)

@@ -5,9 +5,6 @@ use borrow.Author.Needs.{needs}
 use Rattle.book_rules.proofs.later_half.Statement.{statement}
 use Rattle.book_rules.proofs.later_half.Tie as tie
 
-is-made-requires : tie.Need-is-made-requires
-is-made-requires c κs = search needs
-
 returns : tie.Need-returns
 unfolding laterHalf
 returns c =
@@ -21,4 +18,4 @@ returns-2 c =
     record { is = rw made; most = search needs }
 
 pub later-half-spec : {M : Type 1} → statement M
-later-half-spec = tie.close (tie.spec is-made-requires returns returns-2)
+later-half-spec = tie.close (tie.spec (search needs) returns returns-2)

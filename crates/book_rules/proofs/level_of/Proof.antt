@@ -18,20 +18,8 @@ module _ (r : List ℕ) {kind year : ℕ} (k : kind ≡ get kindField r) (y : ye
   unfolding levelIn
   of-other c b l = rw (ne-eqb (get kindField r) closingKind (λ e. c (k ∙ e)), l, b, y)
 
-year-of-requires : tie.Need-year-of-requires
-year-of-requires c κs = search needs
-
-kind-of-requires : tie.Need-kind-of-requires
-kind-of-requires c κs = search needs
-
 returns : tie.Need-returns
 returns c = of-closing _ (c .before .kind-of .ensures) (c .before .before .year-of .ensures) (c .if1 .taken)
-
-booked-of-requires : tie.Need-booked-of-requires
-booked-of-requires c κs = search needs
-
-level-from-requires : tie.Need-level-from-requires
-level-from-requires c κs = search needs
 
 returns-2 : tie.Need-returns-2
 returns-2 c =
@@ -39,4 +27,4 @@ returns-2 c =
     of-other _ (kind .kind-of .ensures) (kind .before .year-of .ensures) (c .before .before .if1 .left) (c .before .booked-of .ensures) (c .level-from .ensures)
 
 pub level-of-spec : {M : Type 1} → statement M
-level-of-spec = tie.close (tie.spec year-of-requires kind-of-requires booked-of-requires level-from-requires returns returns-2)
+level-of-spec = tie.close (tie.spec (search needs) (search needs) (search needs) (search needs) returns returns-2)

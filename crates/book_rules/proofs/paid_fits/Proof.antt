@@ -4,12 +4,6 @@ use borrow.Author.Needs.{needs}
 use Rattle.book_rules.proofs.paid_fits.Statement.{statement}
 use Rattle.book_rules.proofs.paid_fits.Tie as tie
 
-runs-fit-requires : tie.Need-runs-fit-requires
-runs-fit-requires c κs = search needs
-
-advances-fit-requires : tie.Need-advances-fit-requires
-advances-fit-requires c κs = search needs
-
 returns : tie.Need-returns
 returns c = unpaid (c .before .before .before .args .a) (c .before .if1 .taken)
 
@@ -17,4 +11,4 @@ returns-2 : tie.Need-returns-2
 returns-2 c = cc
 
 pub paid-fits-spec : {M : Type 1} → statement M
-paid-fits-spec = tie.close (tie.spec runs-fit-requires advances-fit-requires returns returns-2)
+paid-fits-spec = tie.close (tie.spec (search needs) (search needs) returns returns-2)

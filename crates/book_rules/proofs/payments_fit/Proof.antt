@@ -8,26 +8,14 @@ use borrow.Author.Needs.{needs}
 use Rattle.book_rules.proofs.payments_fit.Statement.{statement}
 use Rattle.book_rules.proofs.payments_fit.Tie as tie
 
-nothing-paid-requires : tie.Need-nothing-paid-requires
-nothing-paid-requires c κs = search needs
-
 returns : tie.Need-returns
 returns c = sym (c .before .nothing-paid .ensures (c .if1 .taken))
-
-charge-fits-requires : tie.Need-charge-fits-requires
-charge-fits-requires c κs = search needs
 
 returns-2 : tie.Need-returns-2
 returns-2 c =
     let a = c .before .before .before .before .args .a in
     let charge = c .before .charge-fits in
     untested ((runsFit a && advancesFit a) && laterFits a) (sym (charge .ensures) ∙ not-true (charge .result) (c .if2 .taken))
-
-paid-fits-requires : tie.Need-paid-fits-requires
-paid-fits-requires c κs = search needs
-
-later-fits-requires : tie.Need-later-fits-requires
-later-fits-requires c κs = search needs
 
 returns-3 : tie.Need-returns-3
 returns-3 c =
@@ -36,4 +24,4 @@ returns-3 c =
 
 pub payments-fit-spec : {M : Type 1} → statement M
 payments-fit-spec =
-    tie.close (tie.spec nothing-paid-requires returns charge-fits-requires returns-2 paid-fits-requires later-fits-requires returns-3)
+    tie.close (tie.spec (search needs) returns (search needs) returns-2 (search needs) (search needs) returns-3)

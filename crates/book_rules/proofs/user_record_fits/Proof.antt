@@ -19,14 +19,8 @@ own r = accountFits (accountIn r) && allZero unnamedOfUser r
 whole-requires : tie.Need-whole-requires
 whole-requires c κs = c .before .pre
 
-user-rest-zero-requires : tie.Need-user-rest-zero-requires
-user-rest-zero-requires c κs = search needs
-
 read-account-requires : tie.Need-read-account-requires
 read-account-requires c κs = ap length (c .before .before .whole .ensures) ∙ c .before .before .before .before .pre
-
-account-fits-requires : tie.Need-account-fits-requires
-account-fits-requires c κs = search needs
 
 returns : tie.Need-returns
 returns c =
@@ -44,8 +38,8 @@ user-record-fits-spec =
     tie.close
     (tie.spec
     whole-requires
-    user-rest-zero-requires
+    (search needs)
     read-account-requires
-    account-fits-requires
+    (search needs)
     returns
     returns-2)

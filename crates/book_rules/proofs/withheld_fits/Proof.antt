@@ -18,12 +18,6 @@ left-over w paid liquidation above = by-size (decLt (paid + liquidation) w)
     by-size (yes more) = lt-leb (w - paid) liquidation (omega (arith, more)) ∙ sym (lt-leb w (paid + liquidation) more)
     by-size (no within) = le-leb (w - paid) liquidation (omega (arith, within)) ∙ sym (le-leb w (paid + liquidation) (omega (arith, within)))
 
-paid-balance-requires : tie.Need-paid-balance-requires
-paid-balance-requires c κs = search needs
-
-sub-result : tie.Need-sub-result
-sub-result c = search needs
-
 returns : tie.Need-returns
 unfolding withheldFits
 returns c =
@@ -45,4 +39,4 @@ returns-3 c =
     ∙ ap (λ (n : ℕ). leb (x .withheld .0) (n + x .sums .liquidation .0)) (paid .ensures)
 
 pub withheld-fits-spec : {M : Type 1} → statement M
-withheld-fits-spec = tie.close (tie.spec returns paid-balance-requires returns-2 sub-result returns-3)
+withheld-fits-spec = tie.close (tie.spec returns (search needs) returns-2 (search needs) returns-3)

@@ -7,12 +7,6 @@ use borrow.Author.Needs.{needs}
 use Rattle.book_view.proofs.account_at.Statement.{statement}
 use Rattle.book_view.proofs.account_at.Tie as tie
 
-cast-whole-record : tie.Need-cast-whole-record
-cast-whole-record c = search needs
-
-whole-record-requires : tie.Need-whole-record-requires
-whole-record-requires c κs = search needs
-
 read-account-requires : tie.Need-read-account-requires
 read-account-requires c κs =
     let start = c .before .before .before in
@@ -23,4 +17,4 @@ returns c = cc
 
 pub account-at-spec : {M : Type 1} → statement M
 account-at-spec =
-    tie.close (tie.spec cast-whole-record whole-record-requires read-account-requires returns)
+    tie.close (tie.spec (search needs) (search needs) read-account-requires returns)

@@ -4,15 +4,9 @@ use borrow.Author.Needs.{needs}
 use Rattle.book_view.proofs.activation_of.Statement.{statement}
 use Rattle.book_view.proofs.activation_of.Tie as tie
 
-record-requires : tie.Need-record-requires
-record-requires c κs = search needs
-
-activation-year-of-requires : tie.Need-activation-year-of-requires
-activation-year-of-requires c κs = search needs
-
 returns : tie.Need-returns
 unfolding activationOf
 returns c = cc
 
 pub activation-of-spec : {M : Type 1} → statement M
-activation-of-spec = tie.close (tie.spec record-requires activation-year-of-requires returns)
+activation-of-spec = tie.close (tie.spec (search needs) (search needs) returns)

@@ -4,15 +4,9 @@ use borrow.Author.Needs.{needs}
 use Rattle.book_view.proofs.first_entry_of.Statement.{statement}
 use Rattle.book_view.proofs.first_entry_of.Tie as tie
 
-record-requires : tie.Need-record-requires
-record-requires c κs = search needs
-
-first-entry-of-requires : tie.Need-first-entry-of-requires
-first-entry-of-requires c κs = search needs
-
 returns : tie.Need-returns
 unfolding firstEntryOf
 returns c = cc
 
 pub first-entry-of-spec : {M : Type 1} → statement M
-first-entry-of-spec = tie.close (tie.spec record-requires first-entry-of-requires returns)
+first-entry-of-spec = tie.close (tie.spec (search needs) (search needs) returns)

@@ -4,15 +4,9 @@ use borrow.Author.Needs.{needs}
 use Rattle.book_view.proofs.first_user.Statement.{statement}
 use Rattle.book_view.proofs.first_user.Tie as tie
 
-record-requires : tie.Need-record-requires
-record-requires c κs = search needs
-
-first-user-of-requires : tie.Need-first-user-of-requires
-first-user-of-requires c κs = search needs
-
 returns : tie.Need-returns
 unfolding firstUser
 returns c = cc
 
 pub first-user-spec : {M : Type 1} → statement M
-first-user-spec = tie.close (tie.spec record-requires first-user-of-requires returns)
+first-user-spec = tie.close (tie.spec (search needs) (search needs) returns)

@@ -4,15 +4,9 @@ use borrow.Author.Needs.{needs}
 use Rattle.book_view.proofs.has_kind.Statement.{statement}
 use Rattle.book_view.proofs.has_kind.Tie as tie
 
-used-requires : tie.Need-used-requires
-used-requires c κs = search needs
-
-kind-at-requires : tie.Need-kind-at-requires
-kind-at-requires c κs = search needs
-
 returns : tie.Need-returns
 unfolding hasKind
 returns c = cc
 
 pub has-kind-spec : {M : Type 1} → statement M
-has-kind-spec = tie.close (tie.spec used-requires kind-at-requires returns)
+has-kind-spec = tie.close (tie.spec (search needs) (search needs) returns)

@@ -4,15 +4,9 @@ use borrow.Author.Needs.{needs}
 use Rattle.book_view.proofs.kind_at.Statement.{statement}
 use Rattle.book_view.proofs.kind_at.Tie as tie
 
-record-requires : tie.Need-record-requires
-record-requires c κs = search needs
-
-kind-of-requires : tie.Need-kind-of-requires
-kind-of-requires c κs = search needs
-
 returns : tie.Need-returns
 unfolding kindAt
 returns c = cc
 
 pub kind-at-spec : {M : Type 1} → statement M
-kind-at-spec = tie.close (tie.spec record-requires kind-of-requires returns)
+kind-at-spec = tie.close (tie.spec (search needs) (search needs) returns)

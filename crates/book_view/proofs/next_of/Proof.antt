@@ -4,15 +4,9 @@ use borrow.Author.Needs.{needs}
 use Rattle.book_view.proofs.next_of.Statement.{statement}
 use Rattle.book_view.proofs.next_of.Tie as tie
 
-record-requires : tie.Need-record-requires
-record-requires c κs = search needs
-
-next-of-requires : tie.Need-next-of-requires
-next-of-requires c κs = search needs
-
 returns : tie.Need-returns
 unfolding nextOf
 returns c = cc
 
 pub next-of-spec : {M : Type 1} → statement M
-next-of-spec = tie.close (tie.spec record-requires next-of-requires returns)
+next-of-spec = tie.close (tie.spec (search needs) (search needs) returns)

@@ -4,15 +4,9 @@ use borrow.Author.Needs.{needs}
 use Rattle.book_view.proofs.number_of.Statement.{statement}
 use Rattle.book_view.proofs.number_of.Tie as tie
 
-record-requires : tie.Need-record-requires
-record-requires c κs = search needs
-
-number-of-requires : tie.Need-number-of-requires
-number-of-requires c κs = search needs
-
 returns : tie.Need-returns
 unfolding numberOf
 returns c = cc
 
 pub number-of-spec : {M : Type 1} → statement M
-number-of-spec = tie.close (tie.spec record-requires number-of-requires returns)
+number-of-spec = tie.close (tie.spec (search needs) (search needs) returns)

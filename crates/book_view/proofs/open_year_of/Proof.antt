@@ -4,15 +4,9 @@ use borrow.Author.Needs.{needs}
 use Rattle.book_view.proofs.open_year_of.Statement.{statement}
 use Rattle.book_view.proofs.open_year_of.Tie as tie
 
-record-requires : tie.Need-record-requires
-record-requires c κs = search needs
-
-open-year-of-requires : tie.Need-open-year-of-requires
-open-year-of-requires c κs = search needs
-
 returns : tie.Need-returns
 unfolding openYearOf
 returns c = cc
 
 pub open-year-of-spec : {M : Type 1} → statement M
-open-year-of-spec = tie.close (tie.spec record-requires open-year-of-requires returns)
+open-year-of-spec = tie.close (tie.spec (search needs) (search needs) returns)

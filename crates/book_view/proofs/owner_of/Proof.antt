@@ -4,15 +4,9 @@ use borrow.Author.Needs.{needs}
 use Rattle.book_view.proofs.owner_of.Statement.{statement}
 use Rattle.book_view.proofs.owner_of.Tie as tie
 
-record-requires : tie.Need-record-requires
-record-requires c κs = search needs
-
-owner-of-requires : tie.Need-owner-of-requires
-owner-of-requires c κs = search needs
-
 returns : tie.Need-returns
 unfolding ownerOf
 returns c = cc
 
 pub owner-of-spec : {M : Type 1} → statement M
-owner-of-spec = tie.close (tie.spec record-requires owner-of-requires returns)
+owner-of-spec = tie.close (tie.spec (search needs) (search needs) returns)

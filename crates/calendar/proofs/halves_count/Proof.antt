@@ -5,12 +5,6 @@ use Rattle.calendar.specs.ElectionAndAdvances.{halvesCount}
 use Rattle.calendar.proofs.halves_count.Statement.{statement}
 use Rattle.calendar.proofs.halves_count.Tie as tie
 
-count-requires : tie.Need-count-requires
-count-requires c κs = search needs
-
-count-requires-2 : tie.Need-count-requires-2
-count-requires-2 c κs = search needs
-
 add-result : tie.Need-add-result
 add-result c = omega arith
 
@@ -19,4 +13,4 @@ unfolding halvesCount
 returns c = cc
 
 pub halves-count-spec : {M : Type 1} → statement M
-halves-count-spec = tie.close (tie.spec count-requires count-requires-2 add-result returns)
+halves-count-spec = tie.close (tie.spec (search needs) (search needs) add-result returns)

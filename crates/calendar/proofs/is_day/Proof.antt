@@ -4,12 +4,9 @@ use Rattle.calendar.specs.ElectionAndAdvances.{isDay}
 use Rattle.calendar.proofs.is_day.Statement.{statement}
 use Rattle.calendar.proofs.is_day.Tie as tie
 
-days-in-requires : tie.Need-days-in-requires
-days-in-requires c κs = search needs
-
 returns : tie.Need-returns
 unfolding isDay
 returns c = cc
 
 pub is-day-spec : {M : Type 1} → statement M
-is-day-spec = tie.close (tie.spec days-in-requires returns)
+is-day-spec = tie.close (tie.spec (search needs) returns)

@@ -7,9 +7,6 @@ use Rattle.calendar.proofs.Amounts.{half-at-most}
 use Rattle.calendar.proofs.share.Statement.{statement}
 use Rattle.calendar.proofs.share.Tie as tie
 
-priced-half-requires : tie.Need-priced-half-requires
-priced-half-requires c κs = search needs
-
 returns : tie.Need-returns
 returns c =
     let start = c .before .before in
@@ -21,4 +18,4 @@ returns-2 : tie.Need-returns-2
 returns-2 c = search needs
 
 pub share-spec : {M : Type 1} → statement M
-share-spec = tie.close (tie.spec priced-half-requires returns returns-2)
+share-spec = tie.close (tie.spec (search needs) returns returns-2)

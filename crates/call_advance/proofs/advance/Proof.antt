@@ -9,24 +9,12 @@ use borrow.Author.Needs.{needs}
 use Rattle.call_advance.proofs.advance.Statement.{statement}
 use Rattle.call_advance.proofs.advance.Tie as tie
 
-look-requires : tie.Need-look-requires
-look-requires c κs = search needs
-
-same-length : tie.Need-same-length
-same-length c = search needs
-
 returns : tie.Need-returns
 returns c =
     let a = c .before .before .before .before .before .before .args in
     let some = c .if1 .taken in
     leaves (now (a .book)) (a .number .0) (a .year) (a .run) (a .price .0) (a .estimate1 .0) (a .estimate2 .0) (c .before .before .before .look .result .reply) some
     (damaged (now (a .book)) (calls.advance (a .number .0) (a .year) (a .run) (a .price .0) (a .estimate1 .0) (a .estimate2 .0)) 0 (c .before .before .before .look .ensures) some)
-
-refused-requires : tie.Need-refused-requires
-refused-requires c κs = search needs
-
-same-length-2 : tie.Need-same-length-2
-same-length-2 c = search needs
 
 returns-2 : tie.Need-returns-2
 returns-2 c =
@@ -44,18 +32,6 @@ account-at-requires c κs =
     let looked = c .before .before .before .before .before .before .before .look .ensures in
     let none = c .before .before .before .before .if1 .left in
     found-stands (now (a .book)) (looked .is-sound none) (a .number .0) _ (looked .found none)
-
-has-room-requires : tie.Need-has-room-requires
-has-room-requires c κs = search needs
-
-advance-objection-requires : tie.Need-advance-objection-requires
-advance-objection-requires c κs = search needs
-
-refused-requires-2 : tie.Need-refused-requires-2
-refused-requires-2 c κs = search needs
-
-same-length-3 : tie.Need-same-length-3
-same-length-3 c = search needs
 
 returns-3 : tie.Need-returns-3
 returns-3 c =
@@ -99,9 +75,6 @@ book-run-requires c κs =
     (c .before .before .before .before .before .before .before .before .if2 .left) (read .result) (read .ensures) (left .result) (left .ensures) (judged .result) (judged .ensures)
     (c .before .before .if3 .left) (c .before .run-amount .result) (c .before .run-amount .ensures)
 
-same-length-4 : tie.Need-same-length-4
-same-length-4 c = search needs
-
 returns-4 : tie.Need-returns-4
 returns-4 c =
     let a = c .before .before .before .before .before .before .before .before .before .before .before .before .before .before .before .before .before .before .before .before .args in
@@ -124,19 +97,19 @@ pub advance-spec : {M : Type 1} → statement M
 advance-spec =
     tie.close
     (tie.spec
-    look-requires
-    same-length
+    (search needs)
+    (λ c. search needs)
     returns
-    refused-requires
-    same-length-2
+    (search needs)
+    (λ c. search needs)
     returns-2
     account-at-requires
-    has-room-requires
-    advance-objection-requires
-    refused-requires-2
-    same-length-3
+    (search needs)
+    (search needs)
+    (search needs)
+    (λ c. search needs)
     returns-3
     run-amount-requires
     book-run-requires
-    same-length-4
+    (λ c. search needs)
     returns-4)

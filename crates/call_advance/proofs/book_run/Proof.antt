@@ -9,25 +9,10 @@ use borrow.Author.Needs.{needs}
 use Rattle.call_advance.proofs.book_run.Statement.{statement}
 use Rattle.call_advance.proofs.book_run.Tie as tie
 
-cast-named : tie.Need-cast-named
-cast-named c = search needs
-
-first-entry-of-requires : tie.Need-first-entry-of-requires
-first-entry-of-requires c κs = search needs
-
-booked-in-requires : tie.Need-booked-in-requires
-booked-in-requires c κs = search needs
-
-advance-image-requires : tie.Need-advance-image-requires
-advance-image-requires c κs = search needs
-
 advanced-requires : tie.Need-advanced-requires
 advanced-requires c κs =
     let fits = c .before .before .before .before .before .before .before .pre in
     (omega (arith, fits .runs), omega (arith, fits .advances))
-
-withheld-from-requires : tie.Need-withheld-from-requires
-withheld-from-requires c κs = search needs
 
 withheld-requires : tie.Need-withheld-requires
 withheld-requires c κs =
@@ -40,9 +25,6 @@ write-entry-requires : tie.Need-write-entry-requires
 write-entry-requires c κs =
     let fits = c .before .before .before .before .before .before .before .before .before .before .pre .entry in
     (fits .user, (fits .room, (ap length (c .before .before .before .advance-image .ensures) ∙ length-advance-image _, fits .index)))
-
-same-length : tie.Need-same-length
-same-length c = search needs
 
 returns : tie.Need-returns
 returns c =
@@ -60,13 +42,13 @@ pub book-run-spec : {M : Type 1} → statement M
 book-run-spec =
     tie.close
     (tie.spec
-    cast-named
-    withheld-from-requires
-    first-entry-of-requires
-    booked-in-requires
-    advance-image-requires
+    (search needs)
+    (search needs)
+    (search needs)
+    (search needs)
+    (search needs)
     advanced-requires
     withheld-requires
     write-entry-requires
-    same-length
+    (λ c. search needs)
     returns)

@@ -5,9 +5,6 @@ use borrow.Author.Needs.{needs}
 use Rattle.call_advance.proofs.booked_in.Statement.{statement}
 use Rattle.call_advance.proofs.booked_in.Tie as tie
 
-cast-if1 : tie.Need-cast-if1
-cast-if1 c = search needs
-
 returns : tie.Need-returns
 unfolding bookedIn
 returns c = rw (eq-eqb _ _ (c .if1 .taken))
@@ -17,4 +14,4 @@ unfolding bookedIn
 returns-2 c = rw (ne-eqb _ _ (c .if1 .left))
 
 pub booked-in-spec : {M : Type 1} → statement M
-booked-in-spec = tie.close (tie.spec cast-if1 returns returns-2)
+booked-in-spec = tie.close (tie.spec (search needs) returns returns-2)

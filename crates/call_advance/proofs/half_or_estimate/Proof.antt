@@ -4,9 +4,6 @@ use borrow.Author.Needs.{needs}
 use Rattle.call_advance.proofs.half_or_estimate.Statement.{statement}
 use Rattle.call_advance.proofs.half_or_estimate.Tie as tie
 
-cast-t6 : tie.Need-cast-t6
-cast-t6 c = search needs
-
 returns : tie.Need-returns
 returns c = let a = c .before .before .args in
     first-year (a .a .«open_year») (a .a .details .year) (a .estimate .0) (a .half .0) (c .if1 .taken)
@@ -16,4 +13,4 @@ returns-2 c = let a = c .before .before .before .args in
     later-year (a .a .«open_year») (a .a .details .year) (a .estimate .0) (a .half .0) (c .before .if1 .left)
 
 pub half-or-estimate-spec : {M : Type 1} → statement M
-half-or-estimate-spec = tie.close (tie.spec cast-t6 returns returns-2)
+half-or-estimate-spec = tie.close (tie.spec (search needs) returns returns-2)

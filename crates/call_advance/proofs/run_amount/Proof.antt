@@ -4,18 +4,6 @@ use borrow.Author.Needs.{needs}
 use Rattle.call_advance.proofs.run_amount.Statement.{statement}
 use Rattle.call_advance.proofs.run_amount.Tie as tie
 
-half-or-estimate-requires : tie.Need-half-or-estimate-requires
-half-or-estimate-requires c κs = search needs
-
-half-or-estimate-requires-2 : tie.Need-half-or-estimate-requires-2
-half-or-estimate-requires-2 c κs = search needs
-
-cast-halves-in : tie.Need-cast-halves-in
-cast-halves-in c = search needs
-
-halves-in-requires : tie.Need-halves-in-requires
-halves-in-requires c κs = search needs
-
 amount-of-requires : tie.Need-amount-of-requires
 amount-of-requires c κs =
     let s = c .before .before .before in
@@ -34,9 +22,9 @@ pub run-amount-spec : {M : Type 1} → statement M
 run-amount-spec =
     tie.close
     (tie.spec
-    half-or-estimate-requires
-    half-or-estimate-requires-2
-    cast-halves-in
-    halves-in-requires
+    (search needs)
+    (search needs)
+    (search needs)
+    (search needs)
     amount-of-requires
     returns)

@@ -10,21 +10,6 @@ use borrow.Author.Needs.{needs}
 use Rattle.call_answers.proofs.look.Statement.{statement}
 use Rattle.call_answers.proofs.look.Tie as tie
 
-find-requires : tie.Need-find-requires
-find-requires c κs = search needs
-
-enum-told : tie.Need-enum-told
-enum-told c = search needs
-
-refused-requires : tie.Need-refused-requires
-refused-requires c κs = search needs
-
-enum-known-index : tie.Need-enum-known-index
-enum-known-index c = search needs
-
-enum-known-user : tie.Need-enum-known-user
-enum-known-user c = search needs
-
 returns : tie.Need-returns
 returns c =
     let a = c .before .before .before .before .before .args in
@@ -46,4 +31,4 @@ returns-3 c =
 pub look-spec : {M : Type 1} → statement M
 look-spec =
     tie.close
-    (tie.spec find-requires enum-told refused-requires enum-known-index enum-known-user returns returns-2 returns-3)
+    (tie.spec (search needs) (search needs) (search needs) (search needs) (search needs) returns returns-2 returns-3)

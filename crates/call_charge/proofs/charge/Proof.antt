@@ -9,22 +9,10 @@ use borrow.Author.Needs.{needs}
 use Rattle.call_charge.proofs.charge.Statement.{statement}
 use Rattle.call_charge.proofs.charge.Tie as tie
 
-look-requires : tie.Need-look-requires
-look-requires c κs = search needs
-
-same-length : tie.Need-same-length
-same-length c = search needs
-
 returns : tie.Need-returns
 returns c =
     let a = c .before .before .before .before .before .before .args in
     damaged (now (a .book)) (calls.charge (a .number .0)) (findUser (now (a .book)) (a .number .0)) (c .before .before .before .look .ensures) (c .if1 .taken)
-
-refused-requires : tie.Need-refused-requires
-refused-requires c κs = search needs
-
-same-length-2 : tie.Need-same-length-2
-same-length-2 c = search needs
 
 returns-2 : tie.Need-returns-2
 returns-2 c =
@@ -39,15 +27,6 @@ account-at-requires c κs =
     let looked = c .before .before .before .before .before .before .before .look .ensures in
     let none = c .before .before .before .before .if1 .left in
     found-stands (now (a .book)) (looked .is-sound none) (a .number .0) _ (looked .found none)
-
-charge-objection-requires : tie.Need-charge-objection-requires
-charge-objection-requires c κs = search needs
-
-refused-requires-2 : tie.Need-refused-requires-2
-refused-requires-2 c κs = search needs
-
-same-length-3 : tie.Need-same-length-3
-same-length-3 c = search needs
 
 returns-3 : tie.Need-returns-3
 returns-3 c =
@@ -77,9 +56,6 @@ write-account-requires c κs =
     let none = c .before .before .before .before .before .before .before .before .before .if1 .left in
     found-stands (now (a .book)) (looked .is-sound none) (a .number .0) _ (looked .found none)
 
-same-length-4 : tie.Need-same-length-4
-same-length-4 c = search needs
-
 returns-4 : tie.Need-returns-4
 returns-4 c =
     let a = c .before .before .before .before .before .before .before .before .before .before .before .before .before .before .before .before .before .before .args in
@@ -95,18 +71,18 @@ pub charge-spec : {M : Type 1} → statement M
 charge-spec =
     tie.close
     (tie.spec
-    look-requires
-    same-length
+    (search needs)
+    (λ c. search needs)
     returns
-    refused-requires
-    same-length-2
+    (search needs)
+    (λ c. search needs)
     returns-2
     account-at-requires
-    charge-objection-requires
-    refused-requires-2
-    same-length-3
+    (search needs)
+    (search needs)
+    (λ c. search needs)
     returns-3
     charged-requires
     write-account-requires
-    same-length-4
+    (λ c. search needs)
     returns-4)

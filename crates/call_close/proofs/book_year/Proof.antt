@@ -8,20 +8,8 @@ use borrow.Author.Needs.{needs}
 use Rattle.call_close.proofs.book_year.Statement.{statement}
 use Rattle.call_close.proofs.book_year.Tie as tie
 
-first-entry-of-requires : tie.Need-first-entry-of-requires
-first-entry-of-requires c κs = search needs
-
 closed-requires : tie.Need-closed-requires
 closed-requires c κs = c .before .before .before .pre .in-range
-
-settled-sums-requires : tie.Need-settled-sums-requires
-settled-sums-requires c κs = search needs
-
-withheld-at-closing-requires : tie.Need-withheld-at-closing-requires
-withheld-at-closing-requires c κs = search needs
-
-closing-image-requires : tie.Need-closing-image-requires
-closing-image-requires c κs = search needs
 
 withheld-requires : tie.Need-withheld-requires
 withheld-requires c κs =
@@ -36,9 +24,6 @@ write-entry-requires : tie.Need-write-entry-requires
 write-entry-requires c κs =
     let fits = c .before .before .before .before .before .before .before .before .before .before .before .pre .entry in
     (fits .user, (fits .room, (ap length (c .before .before .before .closing-image .ensures) ∙ length-closing-image _, fits .index)))
-
-same-length : tie.Need-same-length
-same-length c = search needs
 
 returns : tie.Need-returns
 returns c =
@@ -60,12 +45,12 @@ pub book-year-spec : {M : Type 1} → statement M
 book-year-spec =
     tie.close
     (tie.spec
-    first-entry-of-requires
+    (search needs)
     closed-requires
-    settled-sums-requires
-    withheld-at-closing-requires
-    closing-image-requires
+    (search needs)
+    (search needs)
+    (search needs)
     withheld-requires
     write-entry-requires
-    same-length
+    (λ c. search needs)
     returns)

@@ -16,18 +16,6 @@ use borrow.Author.Needs.{needs}
 use Rattle.call_close.proofs.close.Statement.{statement}
 use Rattle.call_close.proofs.close.Tie as tie
 
-user-requires : tie.Need-user-requires
-user-requires c κs = search needs
-
-look-requires : tie.Need-look-requires
-look-requires c κs = search needs
-
-without-sums-requires : tie.Need-without-sums-requires
-without-sums-requires c κs = search needs
-
-same-length : tie.Need-same-length
-same-length c = search needs
-
 returns : tie.Need-returns
 returns c =
     let looked = c .before .before .before .before .look in
@@ -37,18 +25,6 @@ returns c =
     let some = c .before .if1 .taken in
     leaves b s (looked .result .reply) _ some (damaged b (calls.close s) 0 (looked .ensures) some) (untold-before s _ (omega (arith, looked .ensures .to-2))) (c .without-sums .result)
     (c .without-sums .ensures)
-
-header-wrong-requires : tie.Need-header-wrong-requires
-header-wrong-requires c κs = search needs
-
-refused-requires : tie.Need-refused-requires
-refused-requires c κs = search needs
-
-without-sums-requires-2 : tie.Need-without-sums-requires-2
-without-sums-requires-2 c κs = search needs
-
-same-length-2 : tie.Need-same-length-2
-same-length-2 c = search needs
 
 returns-2 : tie.Need-returns-2
 returns-2 c =
@@ -61,15 +37,6 @@ returns-2 c =
     let reply = c .before .refused in
     leaves-early b s 11 (omega arith) (omega arith) (reply .result) (reply .ensures)
     (close-unread b s (looked .is-sound none) (sym (h .header-wrong .ensures) ∙ c .before .before .if2 .taken) (reply .result) (reply .ensures)) (c .without-sums2 .result) (c .without-sums2 .ensures)
-
-refused-requires-2 : tie.Need-refused-requires-2
-refused-requires-2 c κs = search needs
-
-without-sums-requires-3 : tie.Need-without-sums-requires-3
-without-sums-requires-3 c κs = search needs
-
-same-length-3 : tie.Need-same-length-3
-same-length-3 c = search needs
 
 returns-3 : tie.Need-returns-3
 returns-3 c =
@@ -92,9 +59,6 @@ account-at-requires c κs =
     let none = c .before .before .before .before .before .before .if1 .left in
     found-stands (now (c .before .before .before .before .before .before .before .before .before .before .before .before .before .before .args .book)) (looked .is-sound none) _ _ (looked .found none)
 
-has-room-requires : tie.Need-has-room-requires
-has-room-requires c κs = search needs
-
 whole-requires : tie.Need-whole-requires
 whole-requires c κs =
     passed-length (now (c .before .before .before .before .before .before .before .before .before .before .before .before .before .before .before .before .before .args .s))
@@ -105,15 +69,6 @@ close-objection-requires c κs =
     ap length (c .whole .ensures) ∙ passed-length
     (now (c .before .before .before .before .before .before .before .before .before .before .before .before .before .before .before .before .before .before .args .s)) (sym
     (c .before .before .before .before .before .before .before .before .before .header-wrong .ensures) ∙ c .before .before .before .before .before .before .before .before .if2 .left)
-
-refused-requires-3 : tie.Need-refused-requires-3
-refused-requires-3 c κs = search needs
-
-without-sums-requires-4 : tie.Need-without-sums-requires-4
-without-sums-requires-4 c κs = search needs
-
-same-length-4 : tie.Need-same-length-4
-same-length-4 c = search needs
 
 returns-4 : tie.Need-returns-4
 returns-4 c =
@@ -171,9 +126,6 @@ book-year-requires c κs =
     (q .before .whole .ensures) (judged .result .refusal) (judged .ensures .refused)
     (c .before .before .if4 .left) (values .result) (values .ensures)
 
-same-length-5 : tie.Need-same-length-5
-same-length-5 c = search needs
-
 returns-5 : tie.Need-returns-5
 returns-5 c =
     let q = c .before .before .before .before .before .before .before in
@@ -198,29 +150,29 @@ pub close-spec : {M : Type 1} → statement M
 close-spec =
     tie.close
     (tie.spec
-    user-requires
-    look-requires
-    without-sums-requires
-    same-length
+    (search needs)
+    (search needs)
+    (search needs)
+    (λ c. search needs)
     returns
-    header-wrong-requires
-    refused-requires
-    without-sums-requires-2
-    same-length-2
+    (search needs)
+    (search needs)
+    (search needs)
+    (λ c. search needs)
     returns-2
-    refused-requires-2
-    without-sums-requires-3
-    same-length-3
+    (search needs)
+    (search needs)
+    (λ c. search needs)
     returns-3
     account-at-requires
-    has-room-requires
+    (search needs)
     whole-requires
     close-objection-requires
-    refused-requires-3
-    without-sums-requires-4
-    same-length-4
+    (search needs)
+    (search needs)
+    (λ c. search needs)
     returns-4
     year-values-requires
     book-year-requires
-    same-length-5
+    (λ c. search needs)
     returns-5)

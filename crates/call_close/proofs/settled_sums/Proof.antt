@@ -4,16 +4,10 @@ use borrow.Author.Needs.{needs}
 use Rattle.call_close.proofs.settled_sums.Statement.{statement}
 use Rattle.call_close.proofs.settled_sums.Tie as tie
 
-liquidation-in-requires : tie.Need-liquidation-in-requires
-liquidation-in-requires c κs = search needs
-
-lapsed-in-requires : tie.Need-lapsed-in-requires
-lapsed-in-requires c κs = search needs
-
 returns : tie.Need-returns
 returns c account e =
     let a = c .before .before .before .before .before .before .before .args in
     sums-are account (a .values) (a .settlement) e (c .before .liquidation-in .result) (c .lapsed-in .result) (c .before .liquidation-in .ensures) (c .lapsed-in .ensures)
 
 pub settled-sums-spec : {M : Type 1} → statement M
-settled-sums-spec = tie.close (tie.spec liquidation-in-requires lapsed-in-requires returns)
+settled-sums-spec = tie.close (tie.spec (search needs) (search needs) returns)

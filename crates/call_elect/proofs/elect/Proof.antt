@@ -8,22 +8,10 @@ use borrow.Author.Needs.{needs}
 use Rattle.call_elect.proofs.elect.Statement.{statement}
 use Rattle.call_elect.proofs.elect.Tie as tie
 
-look-requires : tie.Need-look-requires
-look-requires c κs = search needs
-
-same-length : tie.Need-same-length
-same-length c = search needs
-
 returns : tie.Need-returns
 returns c =
     let a = c .before .before .before .before .before .before .args in
     damaged (now (a .book)) (calls.elect (a .number .0) (a .option) (a .year) (a .month) (a .day)) 0 (c .before .before .before .look .ensures) (c .if1 .taken)
-
-refused-requires : tie.Need-refused-requires
-refused-requires c κs = search needs
-
-same-length-2 : tie.Need-same-length-2
-same-length-2 c = search needs
 
 returns-2 : tie.Need-returns-2
 returns-2 c =
@@ -40,15 +28,6 @@ account-at-requires c κs =
     let none = c .before .before .before .before .if1 .left in
     found-stands (now (a .book)) (looked .is-sound none) (a .number .0) _ (looked .found none)
 
-elect-objection-requires : tie.Need-elect-objection-requires
-elect-objection-requires c κs = search needs
-
-refused-requires-2 : tie.Need-refused-requires-2
-refused-requires-2 c κs = search needs
-
-same-length-3 : tie.Need-same-length-3
-same-length-3 c = search needs
-
 returns-3 : tie.Need-returns-3
 returns-3 c =
     let a = c .before .before .before .before .before .before .before .before .before .before .before .before .before .before .args in
@@ -59,18 +38,12 @@ returns-3 c =
     elect-refused (now (a .book)) (looked .is-sound none) (a .number .0) (a .option) (a .year) (a .month) (a .day) _ (looked .found none) (c .before .before .before .before .before .if2 .left)
     (read .result) (read .ensures) (judged .result) (judged .ensures) (c .before .if3 .taken) (c .refused2 .result) (c .refused2 .ensures)
 
-elected-requires : tie.Need-elected-requires
-elected-requires c κs = search needs
-
 write-account-requires : tie.Need-write-account-requires
 write-account-requires c κs =
     let a = c .before .before .before .before .before .before .before .before .before .before .before .before .before .before .before .args in
     let looked = c .before .before .before .before .before .before .before .before .before .before .before .before .look .ensures in
     let none = c .before .before .before .before .before .before .before .before .before .if1 .left in
     found-stands (now (a .book)) (looked .is-sound none) (a .number .0) _ (looked .found none)
-
-same-length-4 : tie.Need-same-length-4
-same-length-4 c = search needs
 
 returns-4 : tie.Need-returns-4
 returns-4 c =
@@ -87,18 +60,18 @@ pub elect-spec : {M : Type 1} → statement M
 elect-spec =
     tie.close
     (tie.spec
-    look-requires
-    same-length
+    (search needs)
+    (λ c. search needs)
     returns
-    refused-requires
-    same-length-2
+    (search needs)
+    (λ c. search needs)
     returns-2
     account-at-requires
-    elect-objection-requires
-    refused-requires-2
-    same-length-3
+    (search needs)
+    (search needs)
+    (λ c. search needs)
     returns-3
-    elected-requires
+    (search needs)
     write-account-requires
-    same-length-4
+    (λ c. search needs)
     returns-4)

@@ -8,28 +8,10 @@ use borrow.Author.Needs.{needs}
 use Rattle.call_enrol.proofs.enrol.Statement.{statement}
 use Rattle.call_enrol.proofs.enrol.Tie as tie
 
-look-requires : tie.Need-look-requires
-look-requires c κs = search needs
-
-same-length : tie.Need-same-length
-same-length c = search needs
-
 returns : tie.Need-returns
 returns c =
     let a = c .before .before .before .before .before .before .args in
     damaged (now (a .book)) (calls.enrol (a .number .0) (a .details) (a .option)) (used (now (a .book))) (c .before .before .before .look .ensures) (c .if1 .taken)
-
-has-room-requires : tie.Need-has-room-requires
-has-room-requires c κs = search needs
-
-enrol-objection-requires : tie.Need-enrol-objection-requires
-enrol-objection-requires c κs = search needs
-
-refused-requires : tie.Need-refused-requires
-refused-requires c κs = search needs
-
-same-length-2 : tie.Need-same-length-2
-same-length-2 c = search needs
 
 returns-2 : tie.Need-returns-2
 returns-2 c =
@@ -41,12 +23,6 @@ returns-2 c =
     enrol-refused (now (a .book)) (looked .is-sound none) (a .number .0) (a .details) (a .option) _ (left .result) (looked .found none) (left .ensures) (judged .result) (judged .ensures)
     (c .before .if2 .taken) (c .refused .result) (c .refused .ensures)
 
-used-requires : tie.Need-used-requires
-used-requires c κs = search needs
-
-new-account-requires : tie.Need-new-account-requires
-new-account-requires c κs = search needs
-
 write-user-requires : tie.Need-write-user-requires
 write-user-requires c κs =
     let a = c .before .before .before .before .before .before .before .before .before .before .before .before .before .before .args in
@@ -56,9 +32,6 @@ write-user-requires c κs =
     let judged = c .before .before .before .before .before .enrol-objection in
     enrol-room (now (a .book)) (looked .is-sound none) (a .number .0) (a .details) (a .option) _ (left .result) (looked .found none) (left .ensures) (judged .result) (judged .ensures)
     (c .before .before .before .before .if2 .left)
-
-same-length-3 : tie.Need-same-length-3
-same-length-3 c = search needs
 
 returns-3 : tie.Need-returns-3
 returns-3 c =
@@ -75,16 +48,16 @@ pub enrol-spec : {M : Type 1} → statement M
 enrol-spec =
     tie.close
     (tie.spec
-    look-requires
-    same-length
+    (search needs)
+    (λ c. search needs)
     returns
-    has-room-requires
-    enrol-objection-requires
-    refused-requires
-    same-length-2
+    (search needs)
+    (search needs)
+    (search needs)
+    (λ c. search needs)
     returns-2
-    used-requires
-    new-account-requires
+    (search needs)
+    (search needs)
     write-user-requires
-    same-length-3
+    (λ c. search needs)
     returns-3)

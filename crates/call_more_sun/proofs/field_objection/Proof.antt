@@ -10,9 +10,6 @@ use Rattle.call_more_sun.proofs.field_objection.Tie as tie
 sheet-fault-requires : tie.Need-sheet-fault-requires
 sheet-fault-requires c κs = c .before .pre
 
-has-field-requires : tie.Need-has-field-requires
-has-field-requires c κs = search needs
-
 returns : tie.Need-returns
 returns c =
     let a = c .before .before .before .before .args in
@@ -24,9 +21,6 @@ returns-2 c =
     let a = c .before .before .before .before .before .before .args in
     let fault = c .before .before .before .before .sheet-fault in
     by-fault (now (a .s)) (a .month) (a .band) (fault .result) (fault .ensures) (λ none. let z : ⊥ = omega (arith, c .if2 .taken) in absurd z)
-
-unplaced-requires : tie.Need-unplaced-requires
-unplaced-requires c κs = search needs
 
 returns-3 : tie.Need-returns-3
 returns-3 c =
@@ -40,8 +34,8 @@ field-objection-spec =
     tie.close
     (tie.spec
     sheet-fault-requires
-    has-field-requires
+    (search needs)
     returns
     returns-2
-    unplaced-requires
+    (search needs)
     returns-3)

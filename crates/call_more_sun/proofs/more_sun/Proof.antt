@@ -12,29 +12,11 @@ use borrow.Author.Needs.{needs}
 use Rattle.call_more_sun.proofs.more_sun.Statement.{statement}
 use Rattle.call_more_sun.proofs.more_sun.Tie as tie
 
-user-requires : tie.Need-user-requires
-user-requires c κs = search needs
-
-look-requires : tie.Need-look-requires
-look-requires c κs = search needs
-
-nothing-added-requires : tie.Need-nothing-added-requires
-nothing-added-requires c κs = search needs
-
 returns : tie.Need-returns
 returns c =
     let a = c .before .before .before .before .before .before .before .before .args in
     let look = c .before .before .before .before .look in
     leaves-damaged (now (a .book)) (now (a .s)) (a .month) (a .band) (look .result .reply) (look .ensures) (c .before .if1 .taken) (c .nothing-added .result) (c .nothing-added .ensures)
-
-header-wrong-requires : tie.Need-header-wrong-requires
-header-wrong-requires c κs = search needs
-
-refused-requires : tie.Need-refused-requires
-refused-requires c κs = search needs
-
-nothing-added-requires-2 : tie.Need-nothing-added-requires-2
-nothing-added-requires-2 c κs = search needs
 
 returns-2 : tie.Need-returns-2
 returns-2 c =
@@ -47,12 +29,6 @@ returns-2 c =
     let reply = c .before .refused in
     leaves-unread b s (a .month) (a .band) (looked .is-sound none) (sym (c .before .before .before .header-wrong .ensures) ∙ c .before .before .if2 .taken) (reply .result) (reply .ensures)
     (c .nothing-added2 .result) (c .nothing-added2 .ensures)
-
-refused-requires-2 : tie.Need-refused-requires-2
-refused-requires-2 c κs = search needs
-
-nothing-added-requires-3 : tie.Need-nothing-added-requires-3
-nothing-added-requires-3 c κs = search needs
 
 returns-3 : tie.Need-returns-3
 returns-3 c =
@@ -72,12 +48,6 @@ field-objection-requires : tie.Need-field-objection-requires
 field-objection-requires c κs =
     passed-length (now (c .before .before .before .before .before .before .before .before .before .before .before .before .args .s))
     (sym (c .before .before .before .before .header-wrong .ensures) ∙ c .before .before .before .if2 .left)
-
-refused-requires-3 : tie.Need-refused-requires-3
-refused-requires-3 c κs = search needs
-
-nothing-added-requires-4 : tie.Need-nothing-added-requires-4
-nothing-added-requires-4 c κs = search needs
 
 returns-4 : tie.Need-returns-4
 returns-4 c =
@@ -172,20 +142,20 @@ pub more-sun-spec : {M : Type 1} → statement M
 more-sun-spec =
     tie.close
     (tie.spec
-    user-requires
-    look-requires
-    nothing-added-requires
+    (search needs)
+    (search needs)
+    (search needs)
     returns
-    header-wrong-requires
-    refused-requires
-    nothing-added-requires-2
+    (search needs)
+    (search needs)
+    (search needs)
     returns-2
-    refused-requires-2
-    nothing-added-requires-3
+    (search needs)
+    (search needs)
     returns-3
     field-objection-requires
-    refused-requires-3
-    nothing-added-requires-4
+    (search needs)
+    (search needs)
     returns-4
     account-at-requires
     sub-more-sun

@@ -6,15 +6,9 @@ use borrow.Author.Needs.{needs}
 use Rattle.call_refusals.proofs.charge_objection.Statement.{statement}
 use Rattle.call_refusals.proofs.charge_objection.Tie as tie
 
-charge-open-requires : tie.Need-charge-open-requires
-charge-open-requires c κs = search needs
-
-refuse-requires : tie.Need-refuse-requires
-refuse-requires c κs = search needs
-
 returns : tie.Need-returns
 unfolding refusedBy rulesOf
 returns c = λ number user room some. rw (ne-eqb user 0 some) cc
 
 pub charge-objection-spec : {M : Type 1} → statement M
-charge-objection-spec = tie.close (tie.spec charge-open-requires refuse-requires returns)
+charge-objection-spec = tie.close (tie.spec (search needs) (search needs) returns)

@@ -51,15 +51,6 @@ module _ (a : Account) (room : Bool) (s : List ℕ) where
       past-fault true e user there = let past = told-past s o f none in rw (ne-eqb user 0 there, is-open, past .0, past .1, e) refl
       past-fault false e user there = let past = told-past s o f none in rw (ne-eqb user 0 there, is-open, past .0, past .1, e) refl
 
-year-requires : tie.Need-year-requires
-year-requires c κs = search needs
-
-year-open-requires : tie.Need-year-open-requires
-year-open-requires c κs = search needs
-
-unplaced-requires : tie.Need-unplaced-requires
-unplaced-requires c κs = search needs
-
 returns : tie.Need-returns
 returns c =
     let y = c .before .before in
@@ -85,9 +76,6 @@ domestic-excess-requires c κs =
     let fault = c .before .before .sheet-fault in
     told-past (now (c .before .before .before .before .before .before .before .args .s)) (fault .result) (fault .ensures) (c .if2 .left)
 
-unplaced-requires-2 : tie.Need-unplaced-requires-2
-unplaced-requires-2 c κs = search needs
-
 returns-3 : tie.Need-returns-3
 returns-3 c =
     let d = c .before .before in
@@ -99,12 +87,6 @@ returns-3 c =
     plain (a .a) (a .room) s 14 (untold s 14 refl)
     (past-fault (a .a) (a .room) s is-open (fault .result) (fault .ensures) (d .before .if2 .left) true (sym (d .domestic-excess .ensures) ∙ c .before .if3 .taken)) (c .unplaced2 .result)
     (c .unplaced2 .ensures)
-
-refuse-requires : tie.Need-refuse-requires
-refuse-requires c κs = search needs
-
-unplaced-requires-3 : tie.Need-unplaced-requires-3
-unplaced-requires-3 c κs = search needs
 
 returns-4 : tie.Need-returns-4
 returns-4 c =
@@ -123,15 +105,15 @@ pub close-objection-spec : {M : Type 1} → statement M
 close-objection-spec =
     tie.close
     (tie.spec
-    year-requires
-    year-open-requires
-    unplaced-requires
+    (search needs)
+    (search needs)
+    (search needs)
     returns
     sheet-fault-requires
     returns-2
     domestic-excess-requires
-    unplaced-requires-2
+    (search needs)
     returns-3
-    refuse-requires
-    unplaced-requires-3
+    (search needs)
+    (search needs)
     returns-4)

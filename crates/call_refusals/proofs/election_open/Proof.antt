@@ -4,12 +4,9 @@ use borrow.Author.Needs.{needs}
 use Rattle.call_refusals.proofs.election_open.Statement.{statement}
 use Rattle.call_refusals.proofs.election_open.Tie as tie
 
-in-window-requires : tie.Need-in-window-requires
-in-window-requires c κs = search needs
-
 returns : tie.Need-returns
 unfolding electionOpen
 returns c = cc
 
 pub election-open-spec : {M : Type 1} → statement M
-election-open-spec = tie.close (tie.spec in-window-requires returns)
+election-open-spec = tie.close (tie.spec (search needs) returns)

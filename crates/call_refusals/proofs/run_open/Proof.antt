@@ -5,9 +5,6 @@ use borrow.Author.Needs.{needs}
 use Rattle.call_refusals.proofs.run_open.Statement.{statement}
 use Rattle.call_refusals.proofs.run_open.Tie as tie
 
-run-named-requires : tie.Need-run-named-requires
-run-named-requires c κs = search needs
-
 run-due-requires : tie.Need-run-due-requires
 run-due-requires c κs =
     let named = sym (c .before .run-named .ensures) ∙ c .if1 .taken in
@@ -27,4 +24,4 @@ returns-2 c =
     run-shut (a .a) (a .year) (a .run) named
 
 pub run-open-spec : {M : Type 1} → statement M
-run-open-spec = tie.close (tie.spec run-named-requires run-due-requires returns returns-2)
+run-open-spec = tie.close (tie.spec (search needs) run-due-requires returns returns-2)

@@ -5,9 +5,6 @@ use borrow.Author.Needs.{needs}
 use Rattle.call_refusals.proofs.runs_in.Statement.{statement}
 use Rattle.call_refusals.proofs.runs_in.Tie as tie
 
-cast-if1 : tie.Need-cast-if1
-cast-if1 c = search needs
-
 returns : tie.Need-returns
 returns c = sym (runs-open _ _ (c .if1 .taken))
 
@@ -15,4 +12,4 @@ returns-2 : tie.Need-returns-2
 returns-2 c = sym (runs-later _ _ (c .if1 .left))
 
 pub runs-in-spec : {M : Type 1} → statement M
-runs-in-spec = tie.close (tie.spec cast-if1 returns returns-2)
+runs-in-spec = tie.close (tie.spec (search needs) returns returns-2)

@@ -7,14 +7,8 @@ use borrow.Author.Needs.{needs}
 use Rattle.call_refusals.proofs.sheet_fault.Statement.{statement}
 use Rattle.call_refusals.proofs.sheet_fault.Tie as tie
 
-whole-requires : tie.Need-whole-requires
-whole-requires c κs = search needs
-
-first-fault-requires : tie.Need-first-fault-requires
-first-fault-requires c κs = search needs
-
 returns : tie.Need-returns
 returns c = subst (λ (s : List ℕ). FaultTold s (c .first-fault .result)) (c .before .whole .ensures) (c .first-fault .ensures)
 
 pub sheet-fault-spec : {M : Type 1} → statement M
-sheet-fault-spec = tie.close (tie.spec whole-requires first-fault-requires returns)
+sheet-fault-spec = tie.close (tie.spec (search needs) (search needs) returns)

@@ -8,24 +8,12 @@ use borrow.Author.Needs.{needs}
 use Rattle.call_statement.proofs.statement.Statement.{statement}
 use Rattle.call_statement.proofs.statement.Tie as tie
 
-look-requires : tie.Need-look-requires
-look-requires c κs = search needs
-
-no-sums-requires : tie.Need-no-sums-requires
-no-sums-requires c κs = search needs
-
 returns : tie.Need-returns
 returns c =
     let a = c .before .before .before .before .before .before .args in
     let some = c .before .if1 .taken in
     leaves (now (a .book)) (a .number .0) (c .before .before .before .before .look .result .reply) some
-    (damaged (now (a .book)) (calls.statement (a .number .0)) 0 (c .before .before .before .before .look .ensures) some) (c .no-sums .result) (c .no-sums .ensures)
-
-refused-requires : tie.Need-refused-requires
-refused-requires c κs = search needs
-
-no-sums-requires-2 : tie.Need-no-sums-requires-2
-no-sums-requires-2 c κs = search needs
+    (damaged (now (a .book)) (calls.statement (a .number .0)) 0 (c .before .before .before .before .look .ensures) some) (c .no-statement .result) (c .no-statement .ensures)
 
 returns-2 : tie.Need-returns-2
 returns-2 c =
@@ -34,8 +22,8 @@ returns-2 c =
     let none = c .before .before .before .before .before .if1 .left in
     let reply = c .before .refused in
     leaves (now (a .book)) (a .number .0) (reply .result) (refuses 6 (reply .result) (reply .ensures) (omega arith))
-    (unknown (now (a .book)) (a .number .0) (looked .is-sound none) _ (looked .found none) (c .before .before .if2 .taken) (reply .result) (reply .ensures)) (c .no-sums2 .result)
-    (c .no-sums2 .ensures)
+    (unknown (now (a .book)) (a .number .0) (looked .is-sound none) _ (looked .found none) (c .before .before .if2 .taken) (reply .result) (reply .ensures)) (c .no-statement2 .result)
+    (c .no-statement2 .ensures)
 
 statement-of-requires : tie.Need-statement-of-requires
 statement-of-requires c κs =
@@ -58,11 +46,11 @@ pub statement-spec : {M : Type 1} → statement M
 statement-spec =
     tie.close
     (tie.spec
-    look-requires
-    no-sums-requires
+    (search needs)
+    (search needs)
     returns
-    refused-requires
-    no-sums-requires-2
+    (search needs)
+    (search needs)
     returns-2
     statement-of-requires
     returns-3)

@@ -4,21 +4,6 @@ use borrow.Author.Needs.{needs}
 use Rattle.call_writes.proofs.write_account.Statement.{statement}
 use Rattle.call_writes.proofs.write_account.Tie as tie
 
-next-of-requires : tie.Need-next-of-requires
-next-of-requires c κs = search needs
-
-first-entry-of-requires : tie.Need-first-entry-of-requires
-first-entry-of-requires c κs = search needs
-
-user-image-requires : tie.Need-user-image-requires
-user-image-requires c κs = search needs
-
-store-requires : tie.Need-store-requires
-store-requires c κs = search needs
-
-same-length : tie.Need-same-length
-same-length c = search needs
-
 returns : tie.Need-returns
 unfolding withAccount
 returns c = cc
@@ -27,9 +12,9 @@ pub write-account-spec : {M : Type 1} → statement M
 write-account-spec =
     tie.close
     (tie.spec
-    next-of-requires
-    first-entry-of-requires
-    user-image-requires
-    store-requires
-    same-length
+    (search needs)
+    (search needs)
+    (search needs)
+    (search needs)
+    (λ c. search needs)
     returns)

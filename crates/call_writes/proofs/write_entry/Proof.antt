@@ -5,36 +5,6 @@ use borrow.Author.Needs.{needs}
 use Rattle.call_writes.proofs.write_entry.Statement.{statement}
 use Rattle.call_writes.proofs.write_entry.Tie as tie
 
-used-requires : tie.Need-used-requires
-used-requires c κs = search needs
-
-first-user-requires : tie.Need-first-user-requires
-first-user-requires c κs = search needs
-
-next-of-requires : tie.Need-next-of-requires
-next-of-requires c κs = search needs
-
-store-requires : tie.Need-store-requires
-store-requires c κs = search needs
-
-user-image-requires : tie.Need-user-image-requires
-user-image-requires c κs = search needs
-
-store-requires-2 : tie.Need-store-requires-2
-store-requires-2 c κs = search needs
-
-add-head-image : tie.Need-add-head-image
-add-head-image c = search needs
-
-head-image-requires : tie.Need-head-image-requires
-head-image-requires c κs = search needs
-
-store-requires-3 : tie.Need-store-requires-3
-store-requires-3 c κs = search needs
-
-same-length : tie.Need-same-length
-same-length c = search needs
-
 returns : tie.Need-returns
 returns c =
     let a = c .before .before .before .before .before .before .before .before .before .before .before .before .before .before .before .before .before .before .before .before .before .args in
@@ -55,14 +25,14 @@ pub write-entry-spec : {M : Type 1} → statement M
 write-entry-spec =
     tie.close
     (tie.spec
-    used-requires
-    first-user-requires
-    next-of-requires
-    store-requires
-    user-image-requires
-    store-requires-2
-    add-head-image
-    head-image-requires
-    store-requires-3
-    same-length
+    (search needs)
+    (search needs)
+    (search needs)
+    (search needs)
+    (search needs)
+    (search needs)
+    (search needs)
+    (search needs)
+    (search needs)
+    (λ c. search needs)
     returns)

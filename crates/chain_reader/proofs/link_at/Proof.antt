@@ -17,25 +17,10 @@ in-the-book : (b : List ℕ) (e : ℕ) → linkIn (recordAt b e) ≡ linkAt b e
 unfolding linkIn linkAt nextOf kindAt
 in-the-book b e = refl
 
-has-whole-requires : tie.Need-has-whole-requires
-has-whole-requires c κs = search needs
-
-cast-whole-record : tie.Need-cast-whole-record
-cast-whole-record c = search needs
-
 whole-record-requires : tie.Need-whole-record-requires
 whole-record-requires c κs =
     let a = c .before .before .before .before .args in
     leb-true (recordLength * a .at .0 + recordLength) (length (now (a .book))) (sym (c .before .before .has-whole .ensures) ∙ c .before .if1 .taken)
-
-link-in-requires : tie.Need-link-in-requires
-link-in-requires c κs = search needs
-
-record-requires : tie.Need-record-requires
-record-requires c κs = search needs
-
-link-in-requires-2 : tie.Need-link-in-requires-2
-link-in-requires-2 c κs = search needs
 
 returns : tie.Need-returns
 returns c =
@@ -51,11 +36,11 @@ pub link-at-spec : {M : Type 1} → statement M
 link-at-spec =
     tie.close
     (tie.spec
-    has-whole-requires
-    cast-whole-record
+    (search needs)
+    (search needs)
     whole-record-requires
-    link-in-requires
-    record-requires
-    link-in-requires-2
+    (search needs)
+    (search needs)
+    (search needs)
     returns
     returns-2)

@@ -4,15 +4,9 @@ use borrow.Author.Needs.{needs}
 use Rattle.chain_reader.proofs.link_in.Statement.{statement}
 use Rattle.chain_reader.proofs.link_in.Tie as tie
 
-next-of-requires : tie.Need-next-of-requires
-next-of-requires c κs = search needs
-
-kind-of-requires : tie.Need-kind-of-requires
-kind-of-requires c κs = search needs
-
 returns : tie.Need-returns
 unfolding linkIn
 returns c = λ i. record { next = c .before .next-of .ensures i; kind = c .kind-of .ensures i }
 
 pub link-in-spec : {M : Type 1} → statement M
-link-in-spec = tie.close (tie.spec next-of-requires kind-of-requires returns)
+link-in-spec = tie.close (tie.spec (search needs) (search needs) returns)

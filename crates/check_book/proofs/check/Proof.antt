@@ -3,11 +3,8 @@ use borrow.Author.Needs.{needs}
 use Rattle.check_book.proofs.check.Statement.{statement}
 use Rattle.check_book.proofs.check.Tie as tie
 
-find-requires : tie.Need-find-requires
-find-requires c κs = search needs
-
 returns : tie.Need-returns
 returns c = c .find .ensures
 
 pub check-spec : {M : Type 1} → statement M
-check-spec = tie.close (tie.spec find-requires returns)
+check-spec = tie.close (tie.spec (search needs) returns)

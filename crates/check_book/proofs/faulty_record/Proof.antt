@@ -9,14 +9,14 @@ use denote.Ref.{now}
 use native.Mathlib.Omega.{arith}
 use borrow.Author.Tests.{not-true, not-false, ltb-true, eqb-false}
 use lib.Dec.{eqb, ltb}
-use lib.ListN.{length, getD}
+use lib.ListN.{length}
 use Rattle.units.proofs.Bools.{and-left, and-right}
 use Rattle.units.specs.declared.UserNumber.{UserNumber}
 use Rattle.units.specs.Limits.{mostRecords}
 use Rattle.book_rules.specs.Book.{used}
 use Rattle.book_rules.proofs.Faults.{used-counted}
 use Rattle.book_rules.proofs.RecordKinds.{entry-no-user}
-use Rattle.check_owners.specs.InnerOwners.{NextOwned}
+use Rattle.check_owners.specs.InnerOwners.{NextOwned, indexAt}
 use Rattle.check_numbers.specs.InnerHeld.{places}
 use Rattle.check_book.proofs.Homes.{home-user, home-other, Homes, homes-sooner, homes-next, Bad, bad-first, bad-here, EntriesMet, entries-none, entry-here, entry-place, entries-next}
 use Rattle.check_book.proofs.Homes.{entries-left, entries-ended, entry-after, ahead, ahead-less, stray-bad, judged}
@@ -25,10 +25,10 @@ use Rattle.check_book.proofs.faulty_record.Statement.{statement}
 use Rattle.check_book.proofs.faulty_record.Tie as tie
 
 abbrev Inv-entries : tie.InvT-entries
-Inv-entries book broken counts entries records seen all-seen bad₀ i new e₀ bad e = (bad ≡ bad₀) × EntriesMet book bad₀ i e
+Inv-entries book counts entries records seen all-seen bad₀ i new e₀ bad e = (bad ≡ bad₀) × EntriesMet book bad₀ i e
 
 abbrev μ-entries : tie.MeasureT-entries
-μ-entries book broken counts entries records seen all-seen bad₀ i new e₀ bad e = ahead records e
+μ-entries book counts entries records seen all-seen bad₀ i new e₀ bad e = ahead records e
 
 -- the users before i have had their turn
 record UsersMet (book : List ℕ) (broken : ℕ) (table : List ℕ) (all-seen : Bool) (bad i : ℕ) : Type 0 where
@@ -41,10 +41,10 @@ record UsersMet (book : List ℕ) (broken : ℕ) (table : List ℕ) (all-seen : 
   pub homes : Homes book bad i
 
 abbrev Inv-users : tie.InvT-users
-Inv-users book broken counts entries records seen₀ all-seen₀ bad₀ i₀ seen all-seen bad i = UsersMet book broken seen all-seen bad i
+Inv-users book counts entries records seen₀ all-seen₀ bad₀ i₀ seen all-seen bad i = UsersMet book bad₀ seen all-seen bad i
 
 abbrev μ-users : tie.MeasureT-users
-μ-users book broken counts entries records seen₀ all-seen₀ bad₀ i₀ seen all-seen bad i = records - i
+μ-users book counts entries records seen₀ all-seen₀ bad₀ i₀ seen all-seen bad i = records - i
 
 counts-requires : tie.Need-counts-requires Inv-entries μ-entries Inv-users μ-users
 counts-requires c κs =
@@ -56,9 +56,6 @@ by-owner-requires c κs =
     let s = c .before .before in
     (used-counted (now (s .args .book)) (s .pre .1 .0) (s .pre .0), s .pre .1 .0)
 
-used-requires : tie.Need-used-requires Inv-entries μ-entries Inv-users μ-users
-used-requires c κs = search needs
-
 users-holds : tie.Need-users-holds Inv-entries μ-entries Inv-users μ-users
 users-holds c =
     let s = c .before .before .before .before in
@@ -68,7 +65,7 @@ users-holds c =
       from = search needs;
       before = p .from;
       most = omega arith;
-      is = bad-first b (s .args .broken) p;
+      is = bad-first b (s .args .broken .0) p;
       long = refl;
       seen = λ _. seen-none b _;
       homes = λ j q h. let z : ⊥ = omega arith in absurd z;
@@ -89,15 +86,6 @@ place c =
 under : (c : tie.Else1 Inv-entries μ-entries Inv-users μ-users) → c .before .before .users .i < c .before .before .users .bad
 under c = omega (arith, c .before .before .users .inv .before, c .if1 .left)
 
-is-user-requires : tie.Need-is-user-requires Inv-entries μ-entries Inv-users μ-users
-is-user-requires c κs = search needs
-
-number-of-requires : tie.Need-number-of-requires Inv-entries μ-entries Inv-users μ-users
-number-of-requires c κs = search needs
-
-slice-aggregate-insert : tie.Need-slice-aggregate-insert Inv-entries μ-entries Inv-users μ-users
-slice-aggregate-insert c = search needs
-
 insert-requires : tie.Need-insert-requires Inv-entries μ-entries Inv-users μ-users
 insert-requires c κs =
     let r = c .before .before .before in
@@ -117,12 +105,6 @@ is-new-requires c κs =
     let number = ap (λ (n : UserNumber). n .0) (c .before .before .before .number-of .ensures) in
     seen-new b (a .users .i) (a .users .all-seen) (c .before .insert .result) (a .users .inv .seen) number (c .before .insert .ensures .inserted)
 
-cast-good-record : tie.Need-cast-good-record Inv-entries μ-entries Inv-users μ-users
-cast-good-record c = search needs
-
-mul-good-record : tie.Need-mul-good-record Inv-entries μ-entries Inv-users μ-users
-mul-good-record c = search needs
-
 array-read-good-record : tie.Need-array-read-good-record Inv-entries μ-entries Inv-users μ-users
 array-read-good-record c = place (c .before .before .before .before .before .before .before .before) .1
 
@@ -135,16 +117,14 @@ good-record-requires c κs =
     let own = s .pre .1 .1 .own i (a .users .inv .from) (omega (arith, under n, a .users .inv .most)) in
     (a .before .before .before .counts .ensures i (a .users .inv .from) (place (n .before) .1), (λ _. c .is-new .ensures, (own, (s .pre .1 .0, place (n .before) .0))))
 
-cast-e : tie.Need-cast-e Inv-entries μ-entries Inv-users μ-users
-cast-e c = search needs
+mul-first : tie.Need-mul-first Inv-entries μ-entries Inv-users μ-users
+mul-first c = let p = place (c .before .before .before .before .before .before .before .before .before .before) in search needs
 
-mul-e : tie.Need-mul-e Inv-entries μ-entries Inv-users μ-users
-mul-e c = let p = place (c .before .before .before .before .before .before .before .before .before .before) in search needs
-
-element-copy-out-e : tie.Need-element-copy-out-e Inv-entries μ-entries Inv-users μ-users
-element-copy-out-e c = place (c .before .before .before .before .before .before .before .before .before .before) .1
+element-copy-out-first : tie.Need-element-copy-out-first Inv-entries μ-entries Inv-users μ-users
+element-copy-out-first c = place (c .before .before .before .before .before .before .before .before .before .before) .1
 
 entries-holds : tie.Need-entries-holds Inv-entries μ-entries Inv-users μ-users
+unfolding indexAt
 entries-holds c =
     let u = c .before .before .before .before .before .before .before .before .before .before .before in
     let a = u .before in
@@ -192,20 +172,20 @@ good-record-requires-2 c κs =
     let entry = entry-here b (a .users .bad) (a .users .i) e (l .entries .inv .1) (test .0) in
     (a .before .before .before .counts .ensures e (at .0 .0) (at .1), (λ user. absurd (entry-no-user b e entry user), (own, (s .pre .1 .0, at .0 .1))))
 
-cast-e-2 : tie.Need-cast-e-2 Inv-entries μ-entries Inv-users μ-users
-cast-e-2 c = let p = entry-there (c .before .before) in search needs
+cast-later : tie.Need-cast-later Inv-entries μ-entries Inv-users μ-users
+cast-later c = let p = entry-there (c .before .before) in search needs
 
-mul-e-2 : tie.Need-mul-e-2 Inv-entries μ-entries Inv-users μ-users
-mul-e-2 c = let p = entry-there (c .before .before) in search needs
+mul-later : tie.Need-mul-later Inv-entries μ-entries Inv-users μ-users
+mul-later c = let p = entry-there (c .before .before) in search needs
 
-element-copy-out-e-2 : tie.Need-element-copy-out-e-2 Inv-entries μ-entries Inv-users μ-users
-element-copy-out-e-2 c = entry-there (c .before .before) .1
+element-copy-out-later : tie.Need-element-copy-out-later Inv-entries μ-entries Inv-users μ-users
+element-copy-out-later c = entry-there (c .before .before) .1
 
 -- the next one is that after it of the same user
 entry-next : (c : tie.In-entries Inv-entries μ-entries Inv-users μ-users)
     → NextOwned (now (c .before .before .before .before .before .before .before .before .before .before .before .before .before .before .before .before .before .before .before .args .book))
     (c .before .before .before .before .before .before .before .before .before .before .before .before .before .before .users .i) (c .before .entries .e + 1)
-    (getD (c .before .before .before .before .before .before .before .before .before .before .before .before .before .before .before .before .by-owner .result .later) (c .before .entries .e) 0)
+    (indexAt (c .before .before .before .before .before .before .before .before .before .before .before .before .before .before .before .before .by-owner .result .later) (c .before .entries .e))
 entry-next c =
     let a = c .before .before .before .before .before .before .before .before .before .before .before .before .before .before in
     let l = c .before in
@@ -214,6 +194,7 @@ entry-next c =
     (l .entries .inv .1 .here some)
 
 entries-less : tie.Need-entries-less Inv-entries μ-entries Inv-users μ-users
+unfolding indexAt
 entries-less c =
     let t = c .before .before .before in
     let a = t .before .before .before .before .before .before .before .before .before .before .before .before .before .before in
@@ -222,6 +203,7 @@ entries-less c =
     ahead-less b (a .users .i) _ (t .before .entries .e) _ (a .before .used .ensures) (at .0 .1) (at .0 .0) (entry-next t)
 
 entries-again : tie.Need-entries-again Inv-entries μ-entries Inv-users μ-users
+unfolding indexAt
 entries-again c =
     let t = c .before .before .before in
     let l = t .before in
@@ -230,15 +212,6 @@ entries-again c =
     let some = e-some (l .entries .e) (l .entries .bad) (t .entries-test .taken) .0 in
     let good = sym (c .before .before .good-record2 .ensures) ∙ not-false _ (c .before .if4 .left) in
     (l .entries .inv .0, entries-next b (a .users .bad) (a .users .i) (l .entries .e) (l .entries .inv .1) some _ (entry-next t) good)
-
-owned-requires : tie.Need-owned-requires Inv-entries μ-entries Inv-users μ-users
-owned-requires c κs = search needs
-
-add-i : tie.Need-add-i Inv-entries μ-entries Inv-users μ-users
-add-i c = search needs
-
-users-less : tie.Need-users-less Inv-entries μ-entries Inv-users μ-users
-users-less c = search needs
 
 users-again : tie.Need-users-again Inv-entries μ-entries Inv-users μ-users
 users-again c =
@@ -346,33 +319,33 @@ faulty-record-spec =
     μ-users
     counts-requires
     by-owner-requires
-    used-requires
+    (search needs)
     users-holds
-    is-user-requires
-    number-of-requires
-    slice-aggregate-insert
+    (search needs)
+    (search needs)
+    (search needs)
     insert-requires
     is-new-requires
-    cast-good-record
-    mul-good-record
+    (search needs)
+    (search needs)
     array-read-good-record
     good-record-requires
-    cast-e
-    mul-e
-    element-copy-out-e
+    (search needs)
+    mul-first
+    element-copy-out-first
     entries-holds
     cast-good-record-2
     mul-good-record-2
     array-read-good-record-2
     good-record-requires-2
-    cast-e-2
-    mul-e-2
-    element-copy-out-e-2
+    cast-later
+    mul-later
+    element-copy-out-later
     entries-less
     entries-again
-    owned-requires
-    add-i
-    users-less
+    (search needs)
+    (search needs)
+    (search needs)
     users-again
     returns
     returns-2

@@ -20,23 +20,14 @@ holds {t} e h = sym e ∙ not-false t h
 head-faulty : (b : List ℕ) → lengthFits b ≡ true → faulty b 0 ≡ true → Objected b 0
 head-faulty b fits f = record { fits = fits; unsound = faulty-not-sound b fits 0 f; smallest = smallest-head b fits f }
 
-length-fits-requires : tie.Need-length-fits-requires
-length-fits-requires c κs = search needs
-
 returns : tie.Need-returns
 returns c = sym (c .before .length-fits .ensures) ∙ not-true _ (c .if1 .taken)
-
-used-fits-requires : tie.Need-used-fits-requires
-used-fits-requires c κs = search needs
 
 returns-2 : tie.Need-returns-2
 returns-2 c =
     let s = c .before .before .before in
     let b = now (s .before .before .args .book) in
     head-faulty b (holds (s .length-fits .ensures) (c .before .before .if1 .left)) (faulty-unfit b 0 (sym (c .before .used-fits .ensures) ∙ not-true _ (c .if2 .taken)))
-
-good-head-requires : tie.Need-good-head-requires
-good-head-requires c κs = search needs
 
 returns-3 : tie.Need-returns-3
 returns-3 c =
@@ -76,11 +67,11 @@ pub find-spec : {M : Type 1} → statement M
 find-spec =
     tie.close
     (tie.spec
-    length-fits-requires
+    (search needs)
     returns
-    used-fits-requires
+    (search needs)
     returns-2
-    good-head-requires
+    (search needs)
     returns-3
     find-requires
     returns-4

@@ -36,12 +36,6 @@ Inv-loop book₀ k₀ k-end book k = Written (length book₀) k book₀ book (re
 abbrev μ-loop : tie.MeasureT-loop
 μ-loop book₀ k₀ k-end book k = length book₀ - k
 
-length-fits-requires : tie.Need-length-fits-requires Inv-loop μ-loop
-length-fits-requires c κs = search needs
-
-same-length : tie.Need-same-length Inv-loop μ-loop
-same-length c = search needs
-
 returns : tie.Need-returns Inv-loop μ-loop
 unfolding freshAnswer freshAfter
 returns c =
@@ -51,15 +45,6 @@ returns c =
 
 loop-holds : tie.Need-loop-holds Inv-loop μ-loop
 loop-holds c = record { within = search needs; same = refl; written = fill-none (now (c .before .before .before .before .args .book)) 0 }
-
-slice-write-book : tie.Need-slice-write-book Inv-loop μ-loop
-slice-write-book c = search needs
-
-add-k : tie.Need-add-k Inv-loop μ-loop
-add-k c = search needs
-
-loop-less : tie.Need-loop-less Inv-loop μ-loop
-loop-less c = search needs
 
 loop-again : tie.Need-loop-again Inv-loop μ-loop
 loop-again c =
@@ -96,13 +81,13 @@ fresh-spec =
     (tie.spec
     Inv-loop
     μ-loop
-    length-fits-requires
-    same-length
+    (search needs)
+    (λ c. search needs)
     returns
     loop-holds
-    slice-write-book
-    add-k
-    loop-less
+    (search needs)
+    (search needs)
+    (search needs)
     loop-again
     slice-write-book-2
     same-length-2

@@ -28,17 +28,11 @@ module _ (b : List ℕ) (fits : lengthFits b ≡ true) (u : usedFits b ≡ true)
 faulty-record-requires : tie.Need-faulty-record-requires
 faulty-record-requires c κs = let p = c .before .pre in (p .0, (p .1 .0, p .1 .1 .1))
 
-used-requires : tie.Need-used-requires
-used-requires c κs = search needs
-
 returns : tie.Need-returns
 returns c =
     let f = c .before .before .before in
     let s = f .before .before in
     objected (now (s .args .book)) (s .pre .0) (s .pre .1 .0) (s .pre .1 .1 .0) _ (f .faulty-record .ensures) (omega (arith, c .if1 .taken, c .before .before .used .ensures))
-
-find-user-requires : tie.Need-find-user-requires
-find-user-requires c κs = search needs
 
 returns-2 : tie.Need-returns-2
 returns-2 c =
@@ -53,7 +47,7 @@ judge-spec =
     tie.close
     (tie.spec
     faulty-record-requires
-    used-requires
+    (search needs)
     returns
-    find-user-requires
+    (search needs)
     returns-2)

@@ -12,16 +12,10 @@ Inv-loop book number left₀ left = Searched book (number .0) left
 abbrev μ-loop : tie.MeasureT-loop
 μ-loop book number left₀ left = left
 
-used-requires : tie.Need-used-requires Inv-loop μ-loop
-used-requires c κs = search needs
-
 loop-holds : tie.Need-loop-holds Inv-loop μ-loop
 loop-holds c =
     let a = c .before .before .args in
     search-begins (now (a .book)) (a .number .0) (c .used .result) (c .used .ensures)
-
-sub-t6 : tie.Need-sub-t6 Inv-loop μ-loop
-sub-t6 c = search needs
 
 is-named-requires : tie.Need-is-named-requires Inv-loop μ-loop
 is-named-requires c κs =
@@ -33,12 +27,6 @@ returns c =
     let a = c .before .before .before .before .before .before .args in
     let l = c .before .before .before .loop in
     found-here (now (a .book)) (a .number .0) (l .left) (l .inv) (omega arith) (c .before .is-named .result) (c .before .is-named .ensures) (c .if1 .taken)
-
-sub-left : tie.Need-sub-left Inv-loop μ-loop
-sub-left c = search needs
-
-loop-less : tie.Need-loop-less Inv-loop μ-loop
-loop-less c = search needs
 
 loop-again : tie.Need-loop-again Inv-loop μ-loop
 loop-again c =
@@ -58,12 +46,12 @@ find-user-spec =
     (tie.spec
     Inv-loop
     μ-loop
-    used-requires
+    (search needs)
     loop-holds
-    sub-t6
+    (search needs)
     is-named-requires
     returns
-    sub-left
-    loop-less
+    (search needs)
+    (search needs)
     loop-again
     returns-2)

@@ -5,15 +5,6 @@ use borrow.Author.Needs.{needs}
 use Rattle.check_lookup.proofs.is_named.Statement.{statement}
 use Rattle.check_lookup.proofs.is_named.Tie as tie
 
-record-requires : tie.Need-record-requires
-record-requires c κs = search needs
-
-kind-of-requires : tie.Need-kind-of-requires
-kind-of-requires c κs = search needs
-
-number-of-requires : tie.Need-number-of-requires
-number-of-requires c κs = search needs
-
 returns : tie.Need-returns
 returns c =
     let s = c .before .before .before .before .before .before in
@@ -22,4 +13,4 @@ returns c =
     (c .before .before .before .kind-of .result) (c .before .before .before .kind-of .ensures) (c .before .before .number-of .result) (c .before .before .number-of .ensures)
 
 pub is-named-spec : {M : Type 1} → statement M
-is-named-spec = tie.close (tie.spec record-requires kind-of-requires number-of-requires returns)
+is-named-spec = tie.close (tie.spec (search needs) (search needs) (search needs) returns)

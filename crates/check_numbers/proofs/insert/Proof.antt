@@ -25,9 +25,6 @@ abbrev μ-loop : tie.MeasureT-loop
 loop-holds : tie.Need-loop-holds Inv-loop2 μ-loop2 Inv-loop μ-loop
 loop-holds c = first-run (c .before .args .table .now) (c .before .args .number .0)
 
-remix-requires : tie.Need-remix-requires Inv-loop2 μ-loop2 Inv-loop μ-loop
-remix-requires c κs = search needs
-
 start-of-requires : tie.Need-start-of-requires Inv-loop2 μ-loop2 Inv-loop μ-loop
 start-of-requires c κs = rw (c .before .before .loop .inv .same) (c .before .before .before .before .pre .0)
 
@@ -37,16 +34,10 @@ loop2-holds c = first-step (c .before .before .before .loop .inv) (c .before .re
 mul-there : tie.Need-mul-there Inv-loop2 μ-loop2 Inv-loop μ-loop
 mul-there c = omega (arith, length-kept (c .before .before .before .before .before .loop .inv) (c .before .loop2 .inv))
 
-slice-read-there : tie.Need-slice-read-there Inv-loop2 μ-loop2 Inv-loop μ-loop
-slice-read-there c = search needs
-
 mul-table : tie.Need-mul-table Inv-loop2 μ-loop2 Inv-loop μ-loop
 mul-table c =
     let l = c .before .before .before in
     omega (arith, length-kept (l .before .before .before .before .loop .inv) (l .loop2 .inv))
-
-slice-write-table : tie.Need-slice-write-table Inv-loop2 μ-loop2 Inv-loop μ-loop
-slice-write-table c = search needs
 
 same-length : tie.Need-same-length Inv-loop2 μ-loop2 Inv-loop μ-loop
 same-length c =
@@ -63,22 +54,10 @@ returns c =
       inserted = λ r. put-at-step b (l .loop2 .inv) (search needs) (start .pre .1) (c .if1 .taken);
     }
 
-same-length-2 : tie.Need-same-length-2 Inv-loop2 μ-loop2 Inv-loop μ-loop
-same-length-2 c = search needs
-
 returns-2 : tie.Need-returns-2 Inv-loop2 μ-loop2 Inv-loop μ-loop
 returns-2 c =
     let l = c .before .before .before .before .before in
     record { size = length-kept (l .before .before .before .before .loop .inv) (l .loop2 .inv); inserted = λ r. absurd (false≢true r) }
-
-place-after-requires : tie.Need-place-after-requires Inv-loop2 μ-loop2 Inv-loop μ-loop
-place-after-requires c κs = search needs
-
-add-step : tie.Need-add-step Inv-loop2 μ-loop2 Inv-loop μ-loop
-add-step c = search needs
-
-loop2-less : tie.Need-loop2-less Inv-loop2 μ-loop2 Inv-loop μ-loop
-loop2-less c = search needs
 
 loop2-again : tie.Need-loop2-again Inv-loop2 μ-loop2 Inv-loop μ-loop
 loop2-again c =
@@ -86,19 +65,10 @@ loop2-again c =
     let after = c .place-after .ensures in
     next-step (l .loop2 .inv) (search needs) (after .is) (after .within) (c .before .before .before .if1 .left) (c .before .if2 .left)
 
-add-run : tie.Need-add-run Inv-loop2 μ-loop2 Inv-loop μ-loop
-add-run c = search needs
-
-loop-less : tie.Need-loop-less Inv-loop2 μ-loop2 Inv-loop μ-loop
-loop-less c = search needs
-
 loop-again : tie.Need-loop-again Inv-loop2 μ-loop2 Inv-loop μ-loop
 loop-again c =
     let s = c .before .before .before in
     next-run (s .before .before .loop .inv) (c .before .loop2 .inv) (s .remix .ensures) (c .loop2-test .left)
-
-same-length-3 : tie.Need-same-length-3 Inv-loop2 μ-loop2 Inv-loop μ-loop
-same-length-3 c = search needs
 
 returns-3 : tie.Need-returns-3 Inv-loop2 μ-loop2 Inv-loop μ-loop
 returns-3 c = record { size = ap length (c .before .loop .inv .same); inserted = λ r. absurd (false≢true r) }
@@ -112,23 +82,23 @@ insert-spec =
     Inv-loop
     μ-loop
     loop-holds
-    remix-requires
+    (search needs)
     start-of-requires
     loop2-holds
     mul-there
-    slice-read-there
+    (search needs)
     mul-table
-    slice-write-table
+    (search needs)
     same-length
     returns
-    same-length-2
+    (λ c. search needs)
     returns-2
-    place-after-requires
-    add-step
-    loop2-less
+    (search needs)
+    (search needs)
+    (search needs)
     loop2-again
-    add-run
-    loop-less
+    (search needs)
+    (search needs)
     loop-again
-    same-length-3
+    (λ c. search needs)
     returns-3)

@@ -7,12 +7,6 @@ use borrow.Author.Needs.{needs}
 use Rattle.check_numbers.proofs.place_after.Statement.{statement}
 use Rattle.check_numbers.proofs.place_after.Tie as tie
 
-add-if1 : tie.Need-add-if1
-add-if1 c = search needs
-
-add-result : tie.Need-add-result
-add-result c = search needs
-
 returns : tie.Need-returns
 returns c = record { is = sym (mod-eq-of-lt (c .if1 .taken)); within = search needs }
 
@@ -22,4 +16,4 @@ returns-2 c =
     record { is = rw (all, mod-self); within = search needs }
 
 pub place-after-spec : {M : Type 1} → statement M
-place-after-spec = tie.close (tie.spec add-if1 add-result returns returns-2)
+place-after-spec = tie.close (tie.spec (search needs) (search needs) returns returns-2)

@@ -4,7 +4,7 @@ use mathlib.Core.Path.{_≡_, refl}
 use mathlib.Core.Logic.{⊎-elim}
 use native.Mathlib.Omega.{arith}
 use Rattle.units.proofs.Products.{product-fits}
-use Rattle.check_numbers.specs.InnerHeld.{word, startOf}
+use Rattle.check_numbers.specs.InnerHeld.{wordSize, startOf}
 use Rattle.check_numbers.proofs.Places.{start-inside}
 use borrow.Author.Needs.{needs}
 use Rattle.check_numbers.proofs.start_of.Statement.{statement}
@@ -18,7 +18,7 @@ returns : tie.Need-returns
 unfolding startOf
 returns c =
     let s = c .before .before .args in
-    let least : c .before .if1 .starts ≡ min (s .places) word = ⊎-elim (λ w. omega arith) (λ w. omega arith) (c .before .if1 .came) in
+    let least : c .before .if1 .starts ≡ min (s .places) wordSize = ⊎-elim (λ w. omega arith) (λ w. omega arith) (c .before .if1 .came) in
     rw least (record { is = refl; within = start-inside (s .places) (search needs) (search needs) })
 
 pub start-of-spec : {M : Type 1} → statement M

@@ -35,10 +35,10 @@ module _ (b : List ℕ) (n : ℕ) {r : List ℕ} (whole : r ≡ recordAt b n) wh
   owner-here w = ap (λ (i : RecordIndex). i .0) w ∙ ap (get ownerField) whole
 
 -- the record before `left`
-one-down : (b : List ℕ) (left : ℕ) (firsts laters : List ℕ) → 1 < left → LinkedFrom b left firsts laters → LinkedFrom b (left - 1 + 1) firsts laters
+one-down : (b : List ℕ) (left : ℕ) (firsts laters : List RecordIndex) → 1 < left → LinkedFrom b left firsts laters → LinkedFrom b (left - 1 + 1) firsts laters
 one-down b left firsts laters some linked = let same : left ≡ left - 1 + 1 = omega arith in subst (λ n. LinkedFrom b n firsts laters) same linked
 
-record Linking (book : List ℕ) (records : ℕ) (first later : List ℕ) (left : ℕ) : Type 0 where
+record Linking (book : List ℕ) (records : ℕ) (first later : List RecordIndex) (left : ℕ) : Type 0 where
   pub within : left ≤ records
   pub firsts : length first ≡ mostRecords
   pub laters : length later ≡ mostRecords
@@ -68,19 +68,10 @@ read-here c =
     let whole = w .whole-record .ensures in
     (entry-here b n whole (omega arith) (omega arith) (c .before .kind-of .ensures) (c .is-entry-kind .ensures), owner-here b n whole (c .before .before .owner-of .ensures))
 
-used-requires : tie.Need-used-requires Inv-loop μ-loop
-used-requires c κs = search needs
-
 loop-holds : tie.Need-loop-holds Inv-loop μ-loop
 loop-holds c =
     let s = c .before .before in
     record { within = search needs; firsts = refl; laters = refl; linked = linked-none (now (s .args .book)) _ _ (c .used .ensures) (s .pre .0) }
-
-sub-e : tie.Need-sub-e Inv-loop μ-loop
-sub-e c = search needs
-
-cast-whole-record : tie.Need-cast-whole-record Inv-loop μ-loop
-cast-whole-record c = search needs
 
 whole-record-requires : tie.Need-whole-record-requires Inv-loop μ-loop
 whole-record-requires c κs =
@@ -88,52 +79,28 @@ whole-record-requires c κs =
     let s = l .before .before .before in
     used-whole (now (s .args .book)) (s .pre .1) (l .loop .left - 1) (omega arith)
 
-owner-of-requires : tie.Need-owner-of-requires Inv-loop μ-loop
-owner-of-requires c κs = search needs
-
-kind-of-requires : tie.Need-kind-of-requires Inv-loop μ-loop
-kind-of-requires c κs = search needs
-
-is-entry-kind-requires : tie.Need-is-entry-kind-requires Inv-loop μ-loop
-is-entry-kind-requires c κs = search needs
-
-cast-later : tie.Need-cast-later Inv-loop μ-loop
-cast-later c = search needs
-
 mul-later : tie.Need-mul-later Inv-loop μ-loop
 mul-later c = let f = found-here c in omega arith
 
-array-read-later : tie.Need-array-read-later Inv-loop μ-loop
-array-read-later c = let f = found-here c in omega arith
+array-copy-out-later : tie.Need-array-copy-out-later Inv-loop μ-loop
+array-copy-out-later c = let f = found-here c in omega arith
 
-cast-later-2 : tie.Need-cast-later-2 Inv-loop μ-loop
-cast-later-2 c = search needs
-
-mul-later-2 : tie.Need-mul-later-2 Inv-loop μ-loop
-mul-later-2 c = search needs
-
-array-write-later : tie.Need-array-write-later Inv-loop μ-loop
-array-write-later c = omega arith
-
-cast-first : tie.Need-cast-first Inv-loop μ-loop
-cast-first c = search needs
+array-set-from-later : tie.Need-array-set-from-later Inv-loop μ-loop
+array-set-from-later c = omega arith
 
 mul-first : tie.Need-mul-first Inv-loop μ-loop
-mul-first c = let f = found-here c in omega arith
+mul-first c = let f = found-here (c .before) in omega arith
 
-array-write-first : tie.Need-array-write-first Inv-loop μ-loop
-array-write-first c = let f = found-here c in omega arith
-
-loop-less : tie.Need-loop-less Inv-loop μ-loop
-loop-less c = search needs
+array-set-from-first : tie.Need-array-set-from-first Inv-loop μ-loop
+array-set-from-first c = let f = found-here (c .before) in omega arith
 
 loop-again : tie.Need-loop-again Inv-loop μ-loop
 loop-again c =
-    let t = c .before .before .before .before .before in
+    let t = c .before .before .before .before .before .before in
     let l = t .before in
     let b = now (l .before .before .before .args .book) in
-    let f = found-here c in
-    let is = read-here (c .before) in
+    let f = found-here (c .before) in
+    let is = read-here (c .before .before) in
     let linked = one-down b (l .loop .left) _ _ (t .loop-test .taken) (l .loop .inv .linked) in
     record {
       within = search needs;
@@ -141,9 +108,6 @@ loop-again c =
       laters = simp length-set (l .loop .inv .laters);
       linked = linked-entry b (l .loop .left - 1) linked (sym (is .0) ∙ f .0) (is .1) (omega arith) (omega arith);
     }
-
-loop-less-2 : tie.Need-loop-less-2 Inv-loop μ-loop
-loop-less-2 c = search needs
 
 loop-again-2 : tie.Need-loop-again-2 Inv-loop μ-loop
 loop-again-2 c =
@@ -170,25 +134,25 @@ by-owner-spec =
     (tie.spec
     Inv-loop
     μ-loop
-    used-requires
+    (search needs)
     loop-holds
-    sub-e
-    cast-whole-record
+    (search needs)
+    (search needs)
     whole-record-requires
-    owner-of-requires
-    kind-of-requires
-    is-entry-kind-requires
-    cast-later
+    (search needs)
+    (search needs)
+    (search needs)
+    (search needs)
     mul-later
-    array-read-later
-    cast-later-2
-    mul-later-2
-    array-write-later
-    cast-first
+    array-copy-out-later
+    (search needs)
+    (search needs)
+    array-set-from-later
+    (search needs)
     mul-first
-    array-write-first
-    loop-less
+    array-set-from-first
+    (search needs)
     loop-again
-    loop-less-2
+    (search needs)
     loop-again-2
     returns)

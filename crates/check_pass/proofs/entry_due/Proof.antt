@@ -5,9 +5,6 @@ use borrow.Author.Needs.{needs}
 use Rattle.check_pass.proofs.entry_due.Statement.{statement}
 use Rattle.check_pass.proofs.entry_due.Tie as tie
 
-first-entry-of-requires : tie.Need-first-entry-of-requires
-first-entry-of-requires c κs = search needs
-
 returns : tie.Need-returns
 unfolding entryDue
 returns c = rw (eq-eqb (c .before .before .before .before .args .state .0) 0 (c .before .if1 .taken)) (c .first-entry-of .ensures)
@@ -17,4 +14,4 @@ unfolding entryDue
 returns-2 c = rw (ne-eqb (c .before .before .before .before .args .state .0) 0 (c .before .if1 .left))
 
 pub entry-due-spec : {M : Type 1} → statement M
-entry-due-spec = tie.close (tie.spec first-entry-of-requires returns returns-2)
+entry-due-spec = tie.close (tie.spec (search needs) returns returns-2)

@@ -23,20 +23,11 @@ module _ (r : List ℕ) {kind : ℕ} (k : kind ≡ get kindField r) where
   unfolding yearsEnded
   other-ends o = rw (ne-eqb (get kindField r) closingKind (λ e. o (k ∙ e)))
 
-kind-of-requires : tie.Need-kind-of-requires
-kind-of-requires c κs = search needs
-
-year-of-requires : tie.Need-year-of-requires
-year-of-requires c κs = search needs
-
 level-leads-requires : tie.Need-level-leads-requires
 level-leads-requires c κs =
     let k = c .before .before in
     let r = now (k .before .before .before .args .r) in
     (closing-level r (k .kind-of .ensures) (c .before .if1 .taken) (c .year-of .ensures), closing-ends r (k .kind-of .ensures) (c .before .if1 .taken))
-
-level-of-requires : tie.Need-level-of-requires
-level-of-requires c κs = search needs
 
 level-leads-requires-2 : tie.Need-level-leads-requires-2
 level-leads-requires-2 c κs =
@@ -53,10 +44,10 @@ pub entry-leads-spec : {M : Type 1} → statement M
 entry-leads-spec =
     tie.close
     (tie.spec
-    kind-of-requires
-    year-of-requires
+    (search needs)
+    (search needs)
     level-leads-requires
-    level-of-requires
+    (search needs)
     level-leads-requires-2
     returns
     returns-2)

@@ -8,30 +8,12 @@ use borrow.Author.Needs.{needs}
 use Rattle.check_pass.proofs.find.Statement.{statement}
 use Rattle.check_pass.proofs.find.Tie as tie
 
-used-requires : tie.Need-used-requires
-used-requires c κs = search needs
-
-cast-if1 : tie.Need-cast-if1
-cast-if1 c = search needs
-
-slice-aggregate-pass-through : tie.Need-slice-aggregate-pass-through
-slice-aggregate-pass-through c = search needs
-
-slice-aggregate-pass-through-2 : tie.Need-slice-aggregate-pass-through-2
-slice-aggregate-pass-through-2 c = search needs
-
 pass-through-requires : tie.Need-pass-through-requires
 pass-through-requires c κs =
     let t = c .before .before in
     let p = t .before .before .before .pre in
     let few = t .before .used .ensures in
     (p .0, (p .1 .0, (p .1 .1, record { room = omega (arith, t .if1 .taken); unknown = λ _. zero-byte 32; places = omega arith })))
-
-slice-aggregate-pass-through-3 : tie.Need-slice-aggregate-pass-through-3
-slice-aggregate-pass-through-3 c = search needs
-
-slice-aggregate-pass-through-4 : tie.Need-slice-aggregate-pass-through-4
-slice-aggregate-pass-through-4 c = search needs
 
 pass-through-requires-2 : tie.Need-pass-through-requires-2
 pass-through-requires-2 c κs =
@@ -49,13 +31,13 @@ pub find-spec : {M : Type 1} → statement M
 find-spec =
     tie.close
     (tie.spec
-    used-requires
-    cast-if1
-    slice-aggregate-pass-through
-    slice-aggregate-pass-through-2
+    (search needs)
+    (search needs)
+    (search needs)
+    (search needs)
     pass-through-requires
-    slice-aggregate-pass-through-3
-    slice-aggregate-pass-through-4
+    (search needs)
+    (search needs)
     pass-through-requires-2
     returns
     returns-2)

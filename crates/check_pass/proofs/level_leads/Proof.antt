@@ -8,25 +8,10 @@ use borrow.Author.Needs.{needs}
 use Rattle.check_pass.proofs.level_leads.Statement.{statement}
 use Rattle.check_pass.proofs.level_leads.Tie as tie
 
-entry-due-requires : tie.Need-entry-due-requires
-entry-due-requires c κs = search needs
-
-next-of-requires : tie.Need-next-of-requires
-next-of-requires c κs = search needs
-
-kind-of-requires : tie.Need-kind-of-requires
-kind-of-requires c κs = search needs
-
 add-result : tie.Need-add-result
 add-result c =
     let s = c .before .before .before .before .before .before .before .before .before in
     omega (arith, ended-small (get kindField (now (s .args .r))), s .pre .1)
-
-year-due-requires : tie.Need-year-due-requires
-year-due-requires c κs = search needs
-
-cast-result : tie.Need-cast-result
-cast-result c = search needs
 
 returns : tie.Need-returns
 returns c t =
@@ -42,10 +27,10 @@ pub level-leads-spec : {M : Type 1} → statement M
 level-leads-spec =
     tie.close
     (tie.spec
-    entry-due-requires
-    next-of-requires
-    kind-of-requires
+    (search needs)
+    (search needs)
+    (search needs)
     add-result
-    year-due-requires
-    cast-result
+    (search needs)
+    (search needs)
     returns)

@@ -1,47 +1,31 @@
 -- `pass_over` is held to `PassedOver`: from the last record down.
-use Prim.Native.Nat.{ℕ, _+_, _-_, _≤_, _<_}
+use Prim.Native.Nat.{_+_, _-_, _≤_, _<_}
 use mathlib.Core.Path.{_≡_, sym, ap, _∙_}
-use mathlib.Core.Bool.{true, false, _||_, _&&_, false≢true}
+use mathlib.Core.Bool.{true, _&&_, false≢true}
 use mathlib.Core.Logic.{⊎-elim}
 use native.Mathlib.Omega.{arith}
-use borrow.Author.Tests.{eqb-false, leb-false, not-false}
+use borrow.Author.Tests.{not-false}
 use denote.Ref.{now}
-use lib.Dec.{eqb, leb}
 use lib.ListN.{length}
 use Rattle.units.specs.declared.RecordIndex.{RecordIndex}
 use Rattle.units.specs.declared.UserNumber.{UserNumber}
 use Rattle.units.specs.Limits.{mostRecords}
-use Rattle.units.proofs.Bools.{or-left, or-right}
 use Rattle.book_rules.specs.Book.{used, ownRulesFit}
 use Rattle.book_rules.proofs.Faults.{used-counted, own-bad}
+use Rattle.book_rules.proofs.Guards.{owner-below}
 use Rattle.check_pass.proofs.OwnRules.{number-some, user-own, entry-own, owner-bad}
 use Rattle.check_pass.proofs.Passing.{Passing, first, inside, place, whole, counted, broken-here, passed-by, user-passed, entry-passed, passed, parted}
 use borrow.Author.Needs.{needs}
 use Rattle.check_pass.proofs.pass_over.Statement.{statement}
 use Rattle.check_pass.proofs.pass_over.Tie as tie
 
--- an owner that is a record below the entry
-below : (home index : ℕ) → (eqb home 0 || leb index home) ≡ false → (1 ≤ home) × (home < index)
-below home index e =
-    let some = eqb-false home 0 (or-left (eqb home 0) (leb index home) e) in
-    (omega (arith, some), leb-false index home (or-right (eqb home 0) (leb index home) e))
-
 abbrev Inv-loop : tie.InvT-loop
 Inv-loop book wanted states₀ seen₀ chained below records broken₀ found₀ expected₀ left₀ states seen broken found expected left =
-    Passing book (wanted .0) (length states₀) (length seen₀) left expected found broken chained states seen
+    Passing book (wanted .0) (length states₀) (length seen₀) left expected (found .0) broken chained states seen
 
 abbrev μ-loop : tie.MeasureT-loop
 μ-loop book wanted states₀ seen₀ chained below records broken₀ found₀ expected₀ left₀ states seen broken found expected left =
     left
-
-used-requires : tie.Need-used-requires Inv-loop μ-loop
-used-requires c κs = search needs
-
-first-user-requires : tie.Need-first-user-requires Inv-loop μ-loop
-first-user-requires c κs = search needs
-
-top-requires : tie.Need-top-requires Inv-loop μ-loop
-top-requires c κs = search needs
 
 loop-holds : tie.Need-loop-holds Inv-loop μ-loop
 loop-holds c =
@@ -66,19 +50,10 @@ stated c =
     let s = c .before .before .before .before .before .before .before .before in
     counted (now (s .args .book)) (c .before .loop .inv) (c .before .loop .left - 1) (at c .0) (at c .1) (s .pre .1 .1 .1 .0 .room)
 
-sub-last : tie.Need-sub-last Inv-loop μ-loop
-sub-last c = search needs
-
-cast-whole-record : tie.Need-cast-whole-record Inv-loop μ-loop
-cast-whole-record c = search needs
-
 whole-record-requires : tie.Need-whole-record-requires Inv-loop μ-loop
 whole-record-requires c κs =
     let s = c .before .before .before .before .before .before .before .before in
     place (now (s .args .book)) (c .before .loop .inv) (c .before .loop .left - 1) (at c .0) (at c .1) (s .pre .1 .0)
-
-kind-of-requires : tie.Need-kind-of-requires Inv-loop μ-loop
-kind-of-requires c κs = search needs
 
 user-record-fits-requires : tie.Need-user-record-fits-requires Inv-loop μ-loop
 user-record-fits-requires c κs =
@@ -94,20 +69,11 @@ user-rules c =
     user-own (now (c .before .before .before .before .before .before .before .before .before .before .before .before .args .book)) (c .before .before .before .before .before .loop .left - 1)
     (c .before .before .before .whole-record .ensures) (c .before .before .kind-of .ensures) (c .before .if1 .taken) ∙ sym (c .user-record-fits .ensures)
 
-cast-state : tie.Need-cast-state Inv-loop μ-loop
-cast-state c = search needs
-
 mul-state : tie.Need-mul-state Inv-loop μ-loop
 mul-state c = omega (arith, small (c .before .before .before .before .before))
 
 slice-read-state : tie.Need-slice-read-state Inv-loop μ-loop
 slice-read-state c = stated (c .before .before .before .before .before .before)
-
-user-leads-requires : tie.Need-user-leads-requires Inv-loop μ-loop
-user-leads-requires c κs = search needs
-
-number-of-requires : tie.Need-number-of-requires Inv-loop μ-loop
-number-of-requires c κs = search needs
 
 insert-requires : tie.Need-insert-requires Inv-loop μ-loop
 insert-requires c κs =
@@ -117,9 +83,6 @@ insert-requires c κs =
     let size = c .before .before .before .before .before .before .before .before .before .before .loop .inv .seen-size in
     let room = c .before .before .before .before .before .before .before .before .before .before .before .before .before .before .before .before .before .pre .1 .1 .1 .0 .places in
     (omega arith, omega (arith, ap (λ (i : UserNumber). i .0) (c .before .number-of .ensures)))
-
-apart-requires : tie.Need-apart-requires Inv-loop μ-loop
-apart-requires c κs = search needs
 
 same-length : tie.Need-same-length Inv-loop μ-loop
 same-length c = c .before .before .before .before .before .before .before .before .before .before .before .before .before .before .before .before .loop .inv .states-size
@@ -138,15 +101,6 @@ returns c =
       seen-size = c .before .before .before .before .before .insert .ensures .size ∙ t .before .loop .inv .seen-size;
     }
 
-last-met-requires : tie.Need-last-met-requires Inv-loop μ-loop
-last-met-requires c κs = search needs
-
-next-of-requires : tie.Need-next-of-requires Inv-loop μ-loop
-next-of-requires c κs = search needs
-
-apart-requires-2 : tie.Need-apart-requires-2 Inv-loop μ-loop
-apart-requires-2 c κs = search needs
-
 same-length-3 : tie.Need-same-length-3 Inv-loop μ-loop
 same-length-3 c = c .before .before .before .before .before .before .before .before .loop .inv .states-size
 
@@ -161,12 +115,6 @@ returns-2 c =
       states-size = t .before .loop .inv .states-size;
       seen-size = t .before .loop .inv .seen-size;
     }
-
-owner-of-requires : tie.Need-owner-of-requires Inv-loop μ-loop
-owner-of-requires c κs = search needs
-
-apart-requires-3 : tie.Need-apart-requires-3 Inv-loop μ-loop
-apart-requires-3 c κs = search needs
 
 same-length-5 : tie.Need-same-length-5 Inv-loop μ-loop
 same-length-5 c = c .before .before .before .before .before .before .before .before .before .before .loop .inv .states-size
@@ -183,13 +131,10 @@ returns-3 c =
       seen-size = t .before .loop .inv .seen-size;
     }
 
-cast-whole-record-2 : tie.Need-cast-whole-record-2 Inv-loop μ-loop
-cast-whole-record-2 c = search needs
-
 -- the owner has its places too
 home-place : (c : tie.Else6 Inv-loop μ-loop)
     → (1 ≤ c .before .before .before .owner-of .result .0) × (c .before .before .before .owner-of .result .0 < c .before .before .before .before .before .before .before .before .loop .left - 1)
-home-place c = below (c .before .before .before .owner-of .result .0) (c .before .before .before .before .before .before .before .before .loop .left - 1) (c .if6 .left)
+home-place c = owner-below (c .before .before .before .owner-of .result .0) (c .before .before .before .before .before .before .before .before .loop .left - 1) (c .if6 .left)
 
 home-small : (c : tie.Else6 Inv-loop μ-loop) → c .before .before .before .owner-of .result .0 < mostRecords
 home-small c = let h = home-place c in omega (arith, small (c .before .before .before .before .before .before .before))
@@ -219,9 +164,6 @@ entry-rules c =
     (c .before .before .before .before .before .before .before .if1 .left)
     (ap (λ (k : RecordIndex). k .0) (c .before .before .before .before .before .before .owner-of .ensures)) (c .before .whole-record2 .ensures) ∙ sym (c .entry-record-fits .ensures)
 
-cast-state-2 : tie.Need-cast-state-2 Inv-loop μ-loop
-cast-state-2 c = search needs
-
 mul-state-2 : tie.Need-mul-state-2 Inv-loop μ-loop
 mul-state-2 c = omega (arith, home-small (c .before .before .before .before .before))
 
@@ -230,20 +172,11 @@ slice-read-state-2 c =
     let h = home-place (c .before .before .before .before .before .before) in omega
     (arith, stated (c .before .before .before .before .before .before .before .before .before .before .before .before .before))
 
-entry-leads-requires : tie.Need-entry-leads-requires Inv-loop μ-loop
-entry-leads-requires c κs = search needs
-
-level-of-requires : tie.Need-level-of-requires Inv-loop μ-loop
-level-of-requires c κs = search needs
-
 state-after-requires : tie.Need-state-after-requires Inv-loop μ-loop
 state-after-requires c κs =
     let t = c .before .before .before .before .before .before .before .before .before .before .before .before .before .before .before .before in
     let next = c .before .before .entry-leads .ensures (c .before .if9 .taken) .next in
     (omega (arith, small t), c .level-of .ensures)
-
-cast-states : tie.Need-cast-states Inv-loop μ-loop
-cast-states c = search needs
 
 mul-states : tie.Need-mul-states Inv-loop μ-loop
 mul-states c = omega (arith, home-small (c .before .before .before .before .before .before .before .before .before .before .before))
@@ -252,9 +185,6 @@ slice-write-states : tie.Need-slice-write-states Inv-loop μ-loop
 slice-write-states c =
     let h = home-place (c .before .before .before .before .before .before .before .before .before .before .before) in omega
     (arith, stated (c .before .before .before .before .before .before .before .before .before .before .before .before .before .before .before .before .before .before))
-
-apart-requires-4 : tie.Need-apart-requires-4 Inv-loop μ-loop
-apart-requires-4 c κs = search needs
 
 same-length-7 : tie.Need-same-length-7 Inv-loop μ-loop
 same-length-7 c = c .before .before .before .before .before .before .before .before .before .before .before .before .before .before .before .before .before .before .loop .inv .states-size
@@ -271,9 +201,6 @@ returns-4 c =
       seen-size = t .before .loop .inv .seen-size;
     }
 
-apart-requires-5 : tie.Need-apart-requires-5 Inv-loop μ-loop
-apart-requires-5 c κs = search needs
-
 same-length-9 : tie.Need-same-length-9 Inv-loop μ-loop
 same-length-9 c = c .before .before .before .before .before .before .before .before .before .before .before .before .before .before .loop .inv .states-size
 
@@ -288,9 +215,6 @@ returns-5 c =
       states-size = t .before .loop .inv .states-size;
       seen-size = t .before .loop .inv .seen-size;
     }
-
-loop-less : tie.Need-loop-less Inv-loop μ-loop
-loop-less c = search needs
 
 loop-again : tie.Need-loop-again Inv-loop μ-loop
 loop-again c =
@@ -313,18 +237,12 @@ loop-again c =
     (ap (λ (k : UserNumber). k .0) (c .before .before .before .before .before .before .before .number-of .ensures)) (ins .ensures .size ∙ t .before .loop .inv .seen-size) (ins .ensures .inserted)
     (leads .ensures) led (ap (λ (k : RecordIndex). k .0) (c .next-of .ensures)))
 
-loop-less-2 : tie.Need-loop-less-2 Inv-loop μ-loop
-loop-less-2 c = search needs
-
 loop-again-2 : tie.Need-loop-again-2 Inv-loop μ-loop
 loop-again-2 c =
     let t = c .before .before .before .before .before .before in
     let b = now (t .before .before .before .before .before .before .before .before .args .book) in
     let i = t .before .loop .left - 1 in
     broken-here b (t .before .loop .inv) i (at t .0) (at t .1) (c .if5 .left) (own-bad b i (user-rules (c .before .before) ∙ c .before .if2 .left))
-
-loop-less-3 : tie.Need-loop-less-3 Inv-loop μ-loop
-loop-less-3 c = search needs
 
 loop-again-3 : tie.Need-loop-again-3 Inv-loop μ-loop
 loop-again-3 c =
@@ -335,9 +253,6 @@ loop-again-3 c =
     broken-here b (t .before .loop .inv) i (at t .0) (at t .1) (c .if7 .left)
     (owner-bad b i (c .before .before .before .before .before .before .before .whole-record .ensures) (c .before .before .before .before .before .before .kind-of .ensures)
     (c .before .before .before .before .before .if1 .left) home (c .before .if6 .taken))
-
-loop-less-4 : tie.Need-loop-less-4 Inv-loop μ-loop
-loop-less-4 c = search needs
 
 loop-again-4 : tie.Need-loop-again-4 Inv-loop μ-loop
 loop-again-4 c =
@@ -354,17 +269,11 @@ loop-again-4 c =
     (now (owner .result)) (owner .ensures)
     (c .before .before .before .before .entry-leads .ensures (c .before .before .before .if9 .taken)) (c .before .state-after .ensures)
 
-loop-less-5 : tie.Need-loop-less-5 Inv-loop μ-loop
-loop-less-5 c = search needs
-
 loop-again-5 : tie.Need-loop-again-5 Inv-loop μ-loop
 loop-again-5 c =
     let t = c .before .before .before .before .before .before .before .before .before .before .before .before .before .before .before .before in
     let own = entry-rules (c .before .before .before .before .before .before) ∙ c .before .before .before .before .before .if8 .taken in
     passed-by (now (t .before .before .before .before .before .before .before .before .args .book)) (t .before .loop .inv) (t .before .loop .left - 1) (at t .0) (at t .1) own (c .if10 .left)
-
-loop-less-6 : tie.Need-loop-less-6 Inv-loop μ-loop
-loop-less-6 c = search needs
 
 loop-again-6 : tie.Need-loop-again-6 Inv-loop μ-loop
 loop-again-6 c =
@@ -394,67 +303,67 @@ pass-over-spec =
     (tie.spec
     Inv-loop
     μ-loop
-    used-requires
-    first-user-requires
-    top-requires
+    (search needs)
+    (search needs)
+    (search needs)
     loop-holds
-    sub-last
-    cast-whole-record
+    (search needs)
+    (search needs)
     whole-record-requires
-    kind-of-requires
+    (search needs)
     user-record-fits-requires
-    cast-state
+    (search needs)
     mul-state
     slice-read-state
-    user-leads-requires
-    number-of-requires
+    (search needs)
+    (search needs)
     insert-requires
-    apart-requires
+    (search needs)
     same-length
     same-length-2
     returns
-    last-met-requires
-    next-of-requires
-    apart-requires-2
+    (search needs)
+    (search needs)
+    (search needs)
     same-length-3
     same-length-4
     returns-2
-    owner-of-requires
-    apart-requires-3
+    (search needs)
+    (search needs)
     same-length-5
     same-length-6
     returns-3
-    cast-whole-record-2
+    (search needs)
     whole-record-requires-2
     entry-record-fits-requires
-    cast-state-2
+    (search needs)
     mul-state-2
     slice-read-state-2
-    entry-leads-requires
-    level-of-requires
+    (search needs)
+    (search needs)
     state-after-requires
-    cast-states
+    (search needs)
     mul-states
     slice-write-states
-    apart-requires-4
+    (search needs)
     same-length-7
     same-length-8
     returns-4
-    apart-requires-5
+    (search needs)
     same-length-9
     same-length-10
     returns-5
-    loop-less
+    (search needs)
     loop-again
-    loop-less-2
+    (search needs)
     loop-again-2
-    loop-less-3
+    (search needs)
     loop-again-3
-    loop-less-4
+    (search needs)
     loop-again-4
-    loop-less-5
+    (search needs)
     loop-again-5
-    loop-less-6
+    (search needs)
     loop-again-6
     same-length-11
     same-length-12

@@ -10,19 +10,10 @@ use borrow.Author.Needs.{needs}
 use Rattle.check_pass.proofs.pass_through.Statement.{statement}
 use Rattle.check_pass.proofs.pass_through.Tie as tie
 
-used-requires : tie.Need-used-requires
-used-requires c κs = search needs
-
 pass-over-requires : tie.Need-pass-over-requires
 pass-over-requires c κs =
     let p = c .before .before .before .before .before .before .pre in
     (p .0, (p .1 .0, (p .1 .1 .0, (p .1 .1 .1, λ off. absurd (false≢true (sym off))))))
-
-same-length : tie.Need-same-length
-same-length c = search needs
-
-same-length-2 : tie.Need-same-length-2
-same-length-2 c = search needs
 
 returns : tie.Need-returns
 returns c =
@@ -72,12 +63,6 @@ pass-over-requires-2 c κs =
       ),
     )
 
-same-length-3 : tie.Need-same-length-3
-same-length-3 c = search needs
-
-same-length-4 : tie.Need-same-length-4
-same-length-4 c = search needs
-
 returns-2 : tie.Need-returns-2
 returns-2 c =
     let said = c .before .before .before .before .pass-over2 .ensures .said in
@@ -87,13 +72,13 @@ pub pass-through-spec : {M : Type 1} → statement M
 pass-through-spec =
     tie.close
     (tie.spec
-    used-requires
+    (search needs)
     pass-over-requires
-    same-length
-    same-length-2
+    (λ c. search needs)
+    (λ c. search needs)
     returns
     add-pass-over
     pass-over-requires-2
-    same-length-3
-    same-length-4
+    (λ c. search needs)
+    (λ c. search needs)
     returns-2)

@@ -8,9 +8,6 @@ use borrow.Author.Needs.{needs}
 use Rattle.check_pass.proofs.state_after.Statement.{statement}
 use Rattle.check_pass.proofs.state_after.Tie as tie
 
-next-of-requires : tie.Need-next-of-requires
-next-of-requires c κs = search needs
-
 mul-both : tie.Need-mul-both
 mul-both c = omega (arith, ap (λ (i : RecordIndex). i .0) (c .before .next-of .ensures), c .before .before .before .pre)
 
@@ -26,4 +23,4 @@ returns c =
 pub state-after-spec : {M : Type 1} → statement M
 state-after-spec =
     tie.close
-    (tie.spec next-of-requires mul-both add-both returns)
+    (tie.spec (search needs) mul-both add-both returns)

@@ -5,15 +5,6 @@ use borrow.Author.Needs.{needs}
 use Rattle.check_pass.proofs.user_leads.Statement.{statement}
 use Rattle.check_pass.proofs.user_leads.Tie as tie
 
-year-due-requires : tie.Need-year-due-requires
-year-due-requires c κs = search needs
-
-activation-year-of-requires : tie.Need-activation-year-of-requires
-activation-year-of-requires c κs = search needs
-
-entry-due-requires : tie.Need-entry-due-requires
-entry-due-requires c κs = search needs
-
 returns : tie.Need-returns
 returns c t =
     let e = c .before .before .before in
@@ -22,4 +13,4 @@ returns c t =
     user-tests (now (a .r)) (a .index .0) (y .year-due .ensures) (e .before .activation-year-of .ensures) (e .entry-due .ensures) t
 
 pub user-leads-spec : {M : Type 1} → statement M
-user-leads-spec = tie.close (tie.spec year-due-requires activation-year-of-requires entry-due-requires returns)
+user-leads-spec = tie.close (tie.spec (search needs) (search needs) (search needs) returns)

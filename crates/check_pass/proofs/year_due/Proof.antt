@@ -5,12 +5,6 @@ use borrow.Author.Needs.{needs}
 use Rattle.check_pass.proofs.year_due.Statement.{statement}
 use Rattle.check_pass.proofs.year_due.Tie as tie
 
-open-year-of-requires : tie.Need-open-year-of-requires
-open-year-of-requires c κs = search needs
-
-cast-result : tie.Need-cast-result
-cast-result c = search needs
-
 returns : tie.Need-returns
 unfolding yearDue
 returns c = rw (eq-eqb (c .before .before .before .before .args .state .0) 0 (c .before .if1 .taken)) (c .open-year-of .ensures)
@@ -20,4 +14,4 @@ unfolding yearDue
 returns-2 c = rw (ne-eqb (c .before .before .before .before .args .state .0) 0 (c .before .if1 .left))
 
 pub year-due-spec : {M : Type 1} → statement M
-year-due-spec = tie.close (tie.spec open-year-of-requires cast-result returns returns-2)
+year-due-spec = tie.close (tie.spec (search needs) (search needs) returns returns-2)

@@ -25,25 +25,10 @@ counted xs p m l = by-target (ℕ-discrete p m)
 uncounted : (xs : List ℕ) (p m : ℕ) → m < p → getD xs m 0 ≡ getD xs m 0 + hits p m
 uncounted xs p m l = rw (hits-other p m (omega arith)) (omega arith)
 
-cast-to : tie.Need-cast-to
-cast-to c = search needs
-
-mul-counts : tie.Need-mul-counts
-mul-counts c = search needs
-
-element-copy-out-counts : tie.Need-element-copy-out-counts
-element-copy-out-counts c = search needs
-
 add-counts : tie.Need-add-counts
 add-counts c =
     let s = c .before .before .before in
     omega (arith, s .pre .1 (s .args .pointer .0) (omega arith))
-
-mul-counts-2 : tie.Need-mul-counts-2
-mul-counts-2 c = search needs
-
-element-write-counts : tie.Need-element-write-counts
-element-write-counts c = search needs
 
 returns : tie.Need-returns
 returns c =
@@ -62,11 +47,11 @@ pub count-spec : {M : Type 1} → statement M
 count-spec =
     tie.close
     (tie.spec
-    cast-to
-    mul-counts
-    element-copy-out-counts
+    (search needs)
+    (search needs)
+    (search needs)
     add-counts
-    mul-counts-2
-    element-write-counts
+    (search needs)
+    (search needs)
     returns
     returns-2)

@@ -28,12 +28,6 @@ Inv-loop book counts₀ records j₀ counts j = Counting book records counts j
 abbrev μ-loop : tie.MeasureT-loop
 μ-loop book counts₀ records j₀ counts j = records - j
 
-used-requires : tie.Need-used-requires Inv-loop μ-loop
-used-requires c κs = search needs
-
-first-user-requires : tie.Need-first-user-requires Inv-loop μ-loop
-first-user-requires c κs = search needs
-
 count-requires : tie.Need-count-requires Inv-loop μ-loop
 count-requires c κs = (refl, λ m h. omega (arith, getD-replicate {A = ℕ} mostRecords m 0 0 h))
 
@@ -48,21 +42,12 @@ loop-holds c =
       counted = λ m h. counted-head b m (c .before .first-user .ensures) (getD-replicate mostRecords m 0 0 h) (c .count .ensures .counted m h);
     }
 
-cast-whole-record : tie.Need-cast-whole-record Inv-loop μ-loop
-cast-whole-record c = search needs
-
 whole-record-requires : tie.Need-whole-record-requires Inv-loop μ-loop
 whole-record-requires c κs =
     let l = c .before in
     let u = l .before .before .before .before in
     let s = u .before .before in
     used-whole (now (s .args .book)) (s .pre .1) (l .loop .j) (omega arith)
-
-kind-of-requires : tie.Need-kind-of-requires Inv-loop μ-loop
-kind-of-requires c κs = search needs
-
-next-of-requires : tie.Need-next-of-requires Inv-loop μ-loop
-next-of-requires c κs = search needs
 
 -- there is room for two more in each count
 room : (c : tie.In-loop Inv-loop μ-loop) (m : ℕ) → m < mostRecords → getD (c .before .loop .counts) m 0 < 65534
@@ -76,9 +61,6 @@ count-requires-2 c κs =
     let t = c .before .before .before .before .before in
     (t .before .loop .inv .long, λ m h. omega (arith, room t m h))
 
-first-entry-of-requires : tie.Need-first-entry-of-requires Inv-loop μ-loop
-first-entry-of-requires c κs = search needs
-
 count-requires-3 : tie.Need-count-requires-3 Inv-loop μ-loop
 count-requires-3 c κs =
     let n = c .before .before in
@@ -86,22 +68,10 @@ count-requires-3 c κs =
     let e = n .count2 .ensures in
     (e .size, λ m h. omega (arith, e .counted m h, hits-at-most (n .before .next-of .result .0) m, room t m h))
 
-is-entry-kind-requires : tie.Need-is-entry-kind-requires Inv-loop μ-loop
-is-entry-kind-requires c κs = search needs
-
-next-of-requires-2 : tie.Need-next-of-requires-2 Inv-loop μ-loop
-next-of-requires-2 c κs = search needs
-
 count-requires-4 : tie.Need-count-requires-4 Inv-loop μ-loop
 count-requires-4 c κs =
     let t = c .before .before .before .before .before .before .before in
     (t .before .loop .inv .long, λ m h. omega (arith, room t m h))
-
-add-j : tie.Need-add-j Inv-loop μ-loop
-add-j c = search needs
-
-loop-less : tie.Need-loop-less Inv-loop μ-loop
-loop-less c = search needs
 
 loop-again : tie.Need-loop-again Inv-loop μ-loop
 loop-again c =
@@ -152,21 +122,21 @@ counts-spec =
     (tie.spec
     Inv-loop
     μ-loop
-    used-requires
-    first-user-requires
+    (search needs)
+    (search needs)
     count-requires
     loop-holds
-    cast-whole-record
+    (search needs)
     whole-record-requires
-    kind-of-requires
-    next-of-requires
+    (search needs)
+    (search needs)
     count-requires-2
-    first-entry-of-requires
+    (search needs)
     count-requires-3
-    is-entry-kind-requires
-    next-of-requires-2
+    (search needs)
+    (search needs)
     count-requires-4
-    add-j
-    loop-less
+    (search needs)
+    (search needs)
     loop-again
     returns)

@@ -5,19 +5,14 @@ use native.Mathlib.Omega.{arith}
 use denote.Ref.{now}
 use Rattle.units.specs.declared.RecordIndex.{RecordIndex}
 use Rattle.book_rules.proofs.Faults.{used-whole}
-use Rattle.check_rules.proofs.EntryLinks.{below, unowned, no-user, ended, ahead, behind}
+use Rattle.book_rules.proofs.Guards.{owner-below}
+use Rattle.check_rules.proofs.EntryLinks.{unowned, no-user, ended, ahead, behind}
 use borrow.Author.Needs.{needs}
 use Rattle.check_rules.proofs.entry_links_fit.Statement.{statement}
 use Rattle.check_rules.proofs.entry_links_fit.Tie as tie
 
-cast-whole-record : tie.Need-cast-whole-record
-cast-whole-record c = search needs
-
 whole-record-requires : tie.Need-whole-record-requires
 whole-record-requires c κs = used-whole (now (c .before .before .args .book)) (c .before .before .pre .0) (c .before .before .args .index .0) (c .before .before .pre .1)
-
-owner-of-requires : tie.Need-owner-of-requires
-owner-of-requires c κs = search needs
 
 returns : tie.Need-returns
 returns c =
@@ -29,10 +24,7 @@ returns c =
 lower : (c : tie.Else1)
     → (1 ≤ c .before .before .before .before .owner-of .result .0)
     × (c .before .before .before .before .owner-of .result .0 < c .before .before .before .before .before .before .before .before .args .index .0)
-lower c = below (c .before .before .before .before .owner-of .result .0) (c .before .before .before .before .before .before .before .before .args .index .0) (c .if1 .left)
-
-cast-whole-record-2 : tie.Need-cast-whole-record-2
-cast-whole-record-2 c = search needs
+lower c = owner-below (c .before .before .before .before .owner-of .result .0) (c .before .before .before .before .before .before .before .before .args .index .0) (c .if1 .left)
 
 whole-record-requires-2 : tie.Need-whole-record-requires-2
 whole-record-requires-2 c κs =
@@ -40,24 +32,12 @@ whole-record-requires-2 c κs =
     let l = lower (c .before) in
     used-whole (now (s .args .book)) (s .pre .0) (c .before .before .before .before .before .owner-of .result .0) (omega (arith, l .1, s .pre .1))
 
-kind-of-requires : tie.Need-kind-of-requires
-kind-of-requires c κs = search needs
-
 returns-2 : tie.Need-returns-2
 returns-2 c =
     let s = c .before .before .before .before .before .before .before .before .before .before .before .before in
     no-user (now (s .args .book)) (s .args .index .0) (c .before .before .before .before .before .before .before .before .before .whole-record .ensures)
     (ap (λ (k : RecordIndex). k .0) (c .before .before .before .before .before .before .before .before .owner-of .ensures)) (s .pre .1) (lower (c .before .before .before .before))
     (c .before .before .whole-record2 .ensures) (c .before .kind-of .ensures) (c .if2 .taken)
-
-level-of-requires : tie.Need-level-of-requires
-level-of-requires c κs = search needs
-
-next-of-requires : tie.Need-next-of-requires
-next-of-requires c κs = search needs
-
-activation-year-of-requires : tie.Need-activation-year-of-requires
-activation-year-of-requires c κs = search needs
 
 returns-3 : tie.Need-returns-3
 returns-3 c =
@@ -81,16 +61,10 @@ returns-4 c =
     (ap (λ (k : RecordIndex). k .0) (c .before .before .before .before .before .next-of .ensures))
     (c .before .before .before .if3 .left) (c .if4 .taken)
 
-cast-whole-record-3 : tie.Need-cast-whole-record-3
-cast-whole-record-3 c = search needs
-
 whole-record-requires-3 : tie.Need-whole-record-requires-3
 whole-record-requires-3 c κs =
     let s = c .before .before .before .before .before .before .before .before .before .before .before .before .before .before .before .before .before .before .before .before in
     used-whole (now (s .args .book)) (s .pre .0) (c .before .before .before .before .before .before .next-of .result .0) (omega (arith, c .before .if4 .left, s .pre .1))
-
-follows-requires : tie.Need-follows-requires
-follows-requires c κs = search needs
 
 returns-5 : tie.Need-returns-5
 returns-5 c =
@@ -110,20 +84,20 @@ pub entry-links-fit-spec : {M : Type 1} → statement M
 entry-links-fit-spec =
     tie.close
     (tie.spec
-    cast-whole-record
+    (search needs)
     whole-record-requires
-    owner-of-requires
+    (search needs)
     returns
-    cast-whole-record-2
+    (search needs)
     whole-record-requires-2
-    kind-of-requires
+    (search needs)
     returns-2
-    level-of-requires
-    next-of-requires
-    activation-year-of-requires
+    (search needs)
+    (search needs)
+    (search needs)
     returns-3
     returns-4
-    cast-whole-record-3
+    (search needs)
     whole-record-requires-3
-    follows-requires
+    (search needs)
     returns-5)

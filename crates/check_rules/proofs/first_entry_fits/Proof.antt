@@ -26,15 +26,6 @@ module _ (b : List ℕ) (i : ℕ) {first : RecordIndex} (f : first ≡ recordInd
   unfolding firstEntryFits
   leads some e o = rw (e, o, f, ne-eqb (firstEntryOf b i) 0 (λ z. some (number ∙ z)))
 
-first-entry-of-requires : tie.Need-first-entry-of-requires
-first-entry-of-requires c κs = search needs
-
-is-entry-requires : tie.Need-is-entry-requires
-is-entry-requires c κs = search needs
-
-owner-of-requires : tie.Need-owner-of-requires
-owner-of-requires c κs = search needs
-
 returns : tie.Need-returns
 returns c =
     let n = c .before .before in
@@ -49,4 +40,4 @@ returns-2 c =
     leads (now (a .book)) (a .index .0) (n .first-entry-of .ensures) (t .if1 .left) (c .before .before .before .is-entry .ensures) (c .before .before .owner-of .ensures)
 
 pub first-entry-fits-spec : {M : Type 1} → statement M
-first-entry-fits-spec = tie.close (tie.spec first-entry-of-requires is-entry-requires owner-of-requires returns returns-2)
+first-entry-fits-spec = tie.close (tie.spec (search needs) (search needs) (search needs) returns returns-2)

@@ -18,18 +18,6 @@ of-answers : (b : List ℕ) (i : ℕ) {activation year : ℕ} {first : RecordInd
 unfolding firstInOrder
 of-answers b i a y f o = rw (o, a, y, f)
 
-activation-of-requires : tie.Need-activation-of-requires
-activation-of-requires c κs = search needs
-
-open-year-of-requires : tie.Need-open-year-of-requires
-open-year-of-requires c κs = search needs
-
-first-entry-of-requires : tie.Need-first-entry-of-requires
-first-entry-of-requires c κs = search needs
-
-in-order-requires : tie.Need-in-order-requires
-in-order-requires c κs = search needs
-
 returns : tie.Need-returns
 returns c =
     let a = c .before .before .before .before .before .args in
@@ -39,8 +27,8 @@ pub first-in-order-spec : {M : Type 1} → statement M
 first-in-order-spec =
     tie.close
     (tie.spec
-    activation-of-requires
-    open-year-of-requires
-    first-entry-of-requires
-    in-order-requires
+    (search needs)
+    (search needs)
+    (search needs)
+    (search needs)
     returns)

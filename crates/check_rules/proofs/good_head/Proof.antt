@@ -20,18 +20,6 @@ of-tests : (b : List ℕ) {first : RecordIndex} {user rest : Bool} {bytes : List
 unfolding goodHead
 of-tests b f u r z = rw (z, r, u, f)
 
-first-user-requires : tie.Need-first-user-requires
-first-user-requires c κs = search needs
-
-is-user-requires : tie.Need-is-user-requires
-is-user-requires c κs = search needs
-
-record-requires : tie.Need-record-requires
-record-requires c κs = search needs
-
-head-rest-zero-requires : tie.Need-head-rest-zero-requires
-head-rest-zero-requires c κs = search needs
-
 returns : tie.Need-returns
 returns c =
     let b = now (c .before .before .before .before .before .before .args .book) in
@@ -40,4 +28,4 @@ returns c =
 pub good-head-spec : {M : Type 1} → statement M
 good-head-spec =
     tie.close
-    (tie.spec first-user-requires is-user-requires record-requires head-rest-zero-requires returns)
+    (tie.spec (search needs) (search needs) (search needs) (search needs) returns)

@@ -8,12 +8,6 @@ use borrow.Author.Needs.{needs}
 use Rattle.check_rules.proofs.has_number.Statement.{statement}
 use Rattle.check_rules.proofs.has_number.Tie as tie
 
-number-of-requires : tie.Need-number-of-requires
-number-of-requires c κs = search needs
-
-is-user-requires : tie.Need-is-user-requires
-is-user-requires c κs = search needs
-
 returns : tie.Need-returns
 returns c =
     let s = c .before .before .before .before in
@@ -29,4 +23,4 @@ returns-2 c =
     untested (numberOf (now (a .book)) (a .index .0)) (a .number .0) (isUser (now (a .book)) (a .index .0)) (λ e. c .if1 .left (told ∙ e))
 
 pub has-number-spec : {M : Type 1} → statement M
-has-number-spec = tie.close (tie.spec number-of-requires is-user-requires returns returns-2)
+has-number-spec = tie.close (tie.spec (search needs) (search needs) returns returns-2)

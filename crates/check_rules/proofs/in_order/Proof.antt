@@ -21,21 +21,6 @@ followed : (b : List ℕ) (activation y e : ℕ) {level : ℕ} {keeps closing : 
 unfolding inOrder
 followed b activation y e n r a l = rw (ne-eqb e 0 n, r, a, l)
 
-level-of-requires : tie.Need-level-of-requires
-level-of-requires c κs = search needs
-
-is-advance-requires : tie.Need-is-advance-requires
-is-advance-requires c κs = search needs
-
-is-closing-requires : tie.Need-is-closing-requires
-is-closing-requires c κs = search needs
-
-cast-closing : tie.Need-cast-closing
-cast-closing c = search needs
-
-add-closing : tie.Need-add-closing
-add-closing c = search needs
-
 returns : tie.Need-returns
 returns c =
     let a = c .before .before .before .args in
@@ -51,10 +36,10 @@ pub in-order-spec : {M : Type 1} → statement M
 in-order-spec =
     tie.close
     (tie.spec
-    level-of-requires
-    is-advance-requires
-    is-closing-requires
-    cast-closing
-    add-closing
+    (search needs)
+    (search needs)
+    (search needs)
+    (search needs)
+    (search needs)
     returns
     returns-2)

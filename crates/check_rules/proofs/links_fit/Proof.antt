@@ -27,23 +27,8 @@ whole-kind : (b : List ℕ) (i : ℕ) {r : List ℕ} → r ≡ recordAt b i → 
 unfolding kindAt
 whole-kind b i e k = k ∙ ap (get kindField) e
 
-cast-whole-record : tie.Need-cast-whole-record
-cast-whole-record c = search needs
-
 whole-record-requires : tie.Need-whole-record-requires
 whole-record-requires c κs = let s = c .before .before in used-whole (now (s .args .book)) (s .pre .1 .0) (s .args .index .0) (s .pre .1 .1)
-
-kind-of-requires : tie.Need-kind-of-requires
-kind-of-requires c κs = search needs
-
-user-next-fits-requires : tie.Need-user-next-fits-requires
-user-next-fits-requires c κs = search needs
-
-first-entry-fits-requires : tie.Need-first-entry-fits-requires
-first-entry-fits-requires c κs = search needs
-
-first-in-order-requires : tie.Need-first-in-order-requires
-first-in-order-requires c κs = search needs
 
 entry-links-fit-requires : tie.Need-entry-links-fit-requires
 entry-links-fit-requires c κs = let s = c .before .before .before .before .before in (s .pre .1 .0, s .pre .1 .1)
@@ -68,12 +53,12 @@ pub links-fit-spec : {M : Type 1} → statement M
 links-fit-spec =
     tie.close
     (tie.spec
-    cast-whole-record
+    (search needs)
     whole-record-requires
-    kind-of-requires
-    user-next-fits-requires
-    first-entry-fits-requires
-    first-in-order-requires
+    (search needs)
+    (search needs)
+    (search needs)
+    (search needs)
     entry-links-fit-requires
     returns
     returns-2)

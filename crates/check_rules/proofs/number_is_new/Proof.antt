@@ -30,20 +30,8 @@ Inv-loop book number below taken₀ j₀ taken j = (j ≤ below) × (taken ≡ a
 abbrev μ-loop : tie.MeasureT-loop
 μ-loop book number below taken₀ j₀ taken j = below - j
 
-number-of-requires : tie.Need-number-of-requires Inv-loop μ-loop
-number-of-requires c κs = search needs
-
 loop-holds : tie.Need-loop-holds Inv-loop μ-loop
 loop-holds c = (search needs, sym (any-zero (holder (now (c .before .before .args .book)) (c .number-of .result))))
-
-has-number-requires : tie.Need-has-number-requires Inv-loop μ-loop
-has-number-requires c κs = search needs
-
-add-j : tie.Need-add-j Inv-loop μ-loop
-add-j c = search needs
-
-loop-less : tie.Need-loop-less Inv-loop μ-loop
-loop-less c = search needs
 
 loop-again : tie.Need-loop-again Inv-loop μ-loop
 loop-again c =
@@ -64,10 +52,10 @@ number-is-new-spec =
     (tie.spec
     Inv-loop
     μ-loop
-    number-of-requires
+    (search needs)
     loop-holds
-    has-number-requires
-    add-j
-    loop-less
+    (search needs)
+    (search needs)
+    (search needs)
     loop-again
     returns)

@@ -18,16 +18,10 @@ of-tests : (b : List ℕ) (i : ℕ) {owner : RecordIndex} {user : Bool} → owne
 unfolding ownerFits
 of-tests b i o u = rw (u, o)
 
-owner-of-requires : tie.Need-owner-of-requires
-owner-of-requires c κs = search needs
-
-is-user-requires : tie.Need-is-user-requires
-is-user-requires c κs = search needs
-
 returns : tie.Need-returns
 returns c =
     let a = c .before .before .before .before .before .args in
     of-tests (now (a .book)) (a .index .0) (c .before .before .before .owner-of .ensures) (c .before .before .is-user .ensures)
 
 pub owner-fits-spec : {M : Type 1} → statement M
-owner-fits-spec = tie.close (tie.spec owner-of-requires is-user-requires returns)
+owner-fits-spec = tie.close (tie.spec (search needs) (search needs) returns)

@@ -25,12 +25,6 @@ module _ (b : List ℕ) (i : ℕ) {next : RecordIndex} (n : next ≡ recordIndex
   unfolding userNextFits
   leads some u = rw (u, n, ne-eqb (nextOf b i) 0 (λ z. some (number ∙ z)))
 
-next-of-requires : tie.Need-next-of-requires
-next-of-requires c κs = search needs
-
-is-user-requires : tie.Need-is-user-requires
-is-user-requires c κs = search needs
-
 returns : tie.Need-returns
 returns c =
     let n = c .before .before in
@@ -45,4 +39,4 @@ returns-2 c =
     leads (now (a .book)) (a .index .0) (n .next-of .ensures) (t .if1 .left) (c .before .before .is-user .ensures)
 
 pub user-next-fits-spec : {M : Type 1} → statement M
-user-next-fits-spec = tie.close (tie.spec next-of-requires is-user-requires returns returns-2)
+user-next-fits-spec = tie.close (tie.spec (search needs) (search needs) returns returns-2)

@@ -6,33 +6,6 @@ use borrow.Author.Needs.{needs}
 use Rattle.codec.proofs.read_u16.Statement.{statement}
 use Rattle.codec.proofs.read_u16.Tie as tie
 
-add-if1 : tie.Need-add-if1
-add-if1 c = search needs
-
-shared-slice-read-two : tie.Need-shared-slice-read-two
-shared-slice-read-two c = search needs
-
-add-two : tie.Need-add-two
-add-two c = search needs
-
-shared-slice-read-two-2 : tie.Need-shared-slice-read-two-2
-shared-slice-read-two-2 c = search needs
-
-two-requires : tie.Need-two-requires
-two-requires c κs = search needs
-
-byte-at-requires : tie.Need-byte-at-requires
-byte-at-requires c κs = search needs
-
-add-byte-at : tie.Need-add-byte-at
-add-byte-at c = search needs
-
-byte-at-requires-2 : tie.Need-byte-at-requires-2
-byte-at-requires-2 c κs = search needs
-
-two-requires-2 : tie.Need-two-requires-2
-two-requires-2 c κs = search needs
-
 returns : tie.Need-returns
 returns c =
     let a = c .before .before .before .before .before .args in
@@ -47,14 +20,14 @@ pub read-u16-spec : {M : Type 1} → statement M
 read-u16-spec =
     tie.close
     (tie.spec
-    add-if1
-    shared-slice-read-two
-    add-two
-    shared-slice-read-two-2
-    two-requires
-    byte-at-requires
-    add-byte-at
-    byte-at-requires-2
-    two-requires-2
+    (search needs)
+    (search needs)
+    (search needs)
+    (search needs)
+    (search needs)
+    (search needs)
+    (search needs)
+    (search needs)
+    (search needs)
     returns
     returns-2)

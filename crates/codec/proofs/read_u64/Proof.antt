@@ -6,33 +6,6 @@ use borrow.Author.Needs.{needs}
 use Rattle.codec.proofs.read_u64.Statement.{statement}
 use Rattle.codec.proofs.read_u64.Tie as tie
 
-add-if1 : tie.Need-add-if1
-add-if1 c = search needs
-
-load-u32-requires : tie.Need-load-u32-requires
-load-u32-requires c κs = search needs
-
-add-load-u32 : tie.Need-add-load-u32
-add-load-u32 c = search needs
-
-load-u32-requires-2 : tie.Need-load-u32-requires-2
-load-u32-requires-2 c κs = search needs
-
-eight-requires : tie.Need-eight-requires
-eight-requires c κs = search needs
-
-read-u32-requires : tie.Need-read-u32-requires
-read-u32-requires c κs = search needs
-
-add-read-u32 : tie.Need-add-read-u32
-add-read-u32 c = search needs
-
-read-u32-requires-2 : tie.Need-read-u32-requires-2
-read-u32-requires-2 c κs = search needs
-
-eight-requires-2 : tie.Need-eight-requires-2
-eight-requires-2 c κs = search needs
-
 returns : tie.Need-returns
 returns c =
     let a = c .before .before .before .before .before .args in
@@ -47,14 +20,14 @@ pub read-u64-spec : {M : Type 1} → statement M
 read-u64-spec =
     tie.close
     (tie.spec
-    add-if1
-    load-u32-requires
-    add-load-u32
-    load-u32-requires-2
-    eight-requires
-    read-u32-requires
-    add-read-u32
-    read-u32-requires-2
-    eight-requires-2
+    (search needs)
+    (search needs)
+    (search needs)
+    (search needs)
+    (search needs)
+    (search needs)
+    (search needs)
+    (search needs)
+    (search needs)
     returns
     returns-2)

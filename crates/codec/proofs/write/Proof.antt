@@ -46,21 +46,6 @@ abbrev μ-loop : tie.MeasureT-loop
 loop-holds : tie.Need-loop-holds Inv-loop μ-loop
 loop-holds c = record { within = search needs; long = search needs; whole = left-all (c .args .at) (c .args .width) (c .args .n) (c .args .image) }
 
-cast-filled : tie.Need-cast-filled Inv-loop μ-loop
-cast-filled c = search needs
-
-add-filled : tie.Need-add-filled Inv-loop μ-loop
-add-filled c = search needs
-
-array-write-filled : tie.Need-array-write-filled Inv-loop μ-loop
-array-write-filled c = search needs
-
-add-k : tie.Need-add-k Inv-loop μ-loop
-add-k c = search needs
-
-loop-less : tie.Need-loop-less Inv-loop μ-loop
-loop-less c = search needs
-
 loop-again : tie.Need-loop-again Inv-loop μ-loop
 loop-again c =
     let l = c .before .loop in
@@ -88,10 +73,10 @@ write-spec =
     Inv-loop
     μ-loop
     loop-holds
-    cast-filled
-    add-filled
-    array-write-filled
-    add-k
-    loop-less
+    (search needs)
+    (search needs)
+    (search needs)
+    (search needs)
+    (search needs)
     loop-again
     returns)

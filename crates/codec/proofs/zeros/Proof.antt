@@ -28,21 +28,6 @@ loop-holds : tie.Need-loop-holds Inv-loop μ-loop Inv-loop2 μ-loop2
 unfolding zeros
 loop-holds c = (search needs, sym (all-zero (λ j. eqb (getD (now (c .before .args .s)) (c .before .args .from + j) 0) 0)))
 
-add-loop : tie.Need-add-loop Inv-loop μ-loop Inv-loop2 μ-loop2
-add-loop c = search needs
-
-add-read-u32 : tie.Need-add-read-u32 Inv-loop μ-loop Inv-loop2 μ-loop2
-add-read-u32 c = search needs
-
-read-u32-requires : tie.Need-read-u32-requires Inv-loop μ-loop Inv-loop2 μ-loop2
-read-u32-requires c κs = search needs
-
-add-i : tie.Need-add-i Inv-loop μ-loop Inv-loop2 μ-loop2
-add-i c = search needs
-
-loop-less : tie.Need-loop-less Inv-loop μ-loop Inv-loop2 μ-loop2
-loop-less c = search needs
-
 loop-again : tie.Need-loop-again Inv-loop μ-loop Inv-loop2 μ-loop2
 loop-again c =
     let l = c .before .before .loop in
@@ -51,18 +36,6 @@ loop-again c =
 
 loop2-holds : tie.Need-loop2-holds Inv-loop μ-loop Inv-loop2 μ-loop2
 loop2-holds c = search needs
-
-add-byte-at : tie.Need-add-byte-at Inv-loop μ-loop Inv-loop2 μ-loop2
-add-byte-at c = search needs
-
-byte-at-requires : tie.Need-byte-at-requires Inv-loop μ-loop Inv-loop2 μ-loop2
-byte-at-requires c κs = search needs
-
-add-i-2 : tie.Need-add-i-2 Inv-loop μ-loop Inv-loop2 μ-loop2
-add-i-2 c = search needs
-
-loop2-less : tie.Need-loop2-less Inv-loop μ-loop Inv-loop2 μ-loop2
-loop2-less c = search needs
 
 loop2-again : tie.Need-loop2-again Inv-loop μ-loop Inv-loop2 μ-loop2
 unfolding zeros
@@ -87,16 +60,16 @@ zeros-spec =
     Inv-loop2
     μ-loop2
     loop-holds
-    add-loop
-    add-read-u32
-    read-u32-requires
-    add-i
-    loop-less
+    (search needs)
+    (search needs)
+    (search needs)
+    (search needs)
+    (search needs)
     loop-again
     loop2-holds
-    add-byte-at
-    byte-at-requires
-    add-i-2
-    loop2-less
+    (search needs)
+    (search needs)
+    (search needs)
+    (search needs)
     loop2-again
     returns)

@@ -10,21 +10,6 @@ use Rattle.decimals.proofs.Fields.{field-read, next-inside, next-end}
 use Rattle.decimals.proofs.read_field.Statement.{statement}
 use Rattle.decimals.proofs.read_field.Tie as tie
 
-read-run-requires : tie.Need-read-run-requires
-read-run-requires c κs = search needs
-
-sub-count : tie.Need-sub-count
-sub-count c = search needs
-
-byte-at-requires : tie.Need-byte-at-requires
-byte-at-requires c κs = search needs
-
-add-next : tie.Need-add-next
-add-next c = search needs
-
-byte-at-requires-2 : tie.Need-byte-at-requires-2
-byte-at-requires-2 c κs = search needs
-
 returns : tie.Need-returns
 returns c =
     let a = c .before .before .before .before .before .args in
@@ -41,4 +26,4 @@ returns c =
 pub read-field-spec : {M : Type 1} → statement M
 read-field-spec =
     tie.close
-    (tie.spec read-run-requires sub-count byte-at-requires add-next byte-at-requires-2 returns)
+    (tie.spec (search needs) (search needs) (search needs) (search needs) (search needs) returns)

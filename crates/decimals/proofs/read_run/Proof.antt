@@ -26,15 +26,6 @@ abbrev μ-loop : tie.MeasureT-loop
 loop-holds : tie.Need-loop-holds Inv-loop μ-loop
 loop-holds c = record { inside = λ l. omega arith; capped = omega arith; count = refl; number = refl }
 
-byte-at-requires : tie.Need-byte-at-requires Inv-loop μ-loop
-byte-at-requires c κs = search needs
-
-is-digit-requires : tie.Need-is-digit-requires Inv-loop μ-loop
-is-digit-requires c κs = search needs
-
-byte-at-requires-2 : tie.Need-byte-at-requires-2 Inv-loop μ-loop
-byte-at-requires-2 c κs = search needs
-
 sub-with-digit : tie.Need-sub-with-digit Inv-loop μ-loop
 sub-with-digit c =
     let t = c .before in
@@ -43,9 +34,6 @@ sub-with-digit c =
     let s = now (a .s) in
     let d = sym (ap isDigit (t .before .before .byte-at .ensures)) ∙ sym (t .before .is-digit .ensures) ∙ t .if1 .taken in
     omega (arith, digit-bounds (getD s (l .end) 0) d .0, c .byte-at2 .ensures)
-
-with-digit-requires : tie.Need-with-digit-requires Inv-loop μ-loop
-with-digit-requires c κs = search needs
 
 add-end : tie.Need-add-end Inv-loop μ-loop
 add-end c =
@@ -107,11 +95,11 @@ read-run-spec =
     Inv-loop
     μ-loop
     loop-holds
-    byte-at-requires
-    is-digit-requires
-    byte-at-requires-2
+    (search needs)
+    (search needs)
+    (search needs)
     sub-with-digit
-    with-digit-requires
+    (search needs)
     add-end
     loop-less
     loop-again

@@ -25,9 +25,6 @@ add-result c =
     let a = c .before .before .before .before .before .args in
     omega (arith, c .before .before .write-number .ensures .end, field-length (a .n) (a .stop))
 
-same-length : tie.Need-same-length
-same-length c = search needs
-
 returns : tie.Need-returns
 returns c =
     let a = c .before .before .before .before .before .args in
@@ -37,4 +34,4 @@ returns c =
 
 pub write-field-spec : {M : Type 1} → statement M
 write-field-spec =
-    tie.close (tie.spec write-number-requires slice-write-out add-result same-length returns)
+    tie.close (tie.spec write-number-requires slice-write-out add-result (λ c. search needs) returns)

@@ -4,12 +4,6 @@ use borrow.Author.Tests.{eq-eqb, ne-eqb}
 use Rattle.input.proofs.ended.Statement.{statement}
 use Rattle.input.proofs.ended.Tie as tie
 
-nothing-held-requires : tie.Need-nothing-held-requires
-nothing-held-requires c κs = search needs
-
-nothing-held-requires-2 : tie.Need-nothing-held-requires-2
-nothing-held-requires-2 c κs = search needs
-
 returns : tie.Need-returns
 returns c = rw (eq-eqb _ _ (c .before .if1 .taken)) (c .nothing-held .ensures)
 
@@ -17,4 +11,4 @@ returns-2 : tie.Need-returns-2
 returns-2 c = rw (ne-eqb _ _ (c .before .if1 .left)) (c .nothing-held2 .ensures)
 
 pub ended-spec : {M : Type 1} → statement M
-ended-spec = tie.close (tie.spec nothing-held-requires nothing-held-requires-2 returns returns-2)
+ended-spec = tie.close (tie.spec (search needs) (search needs) returns returns-2)

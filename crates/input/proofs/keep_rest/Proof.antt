@@ -23,26 +23,8 @@ Inv-loop held₀ from to count k₀ held k = Keeping held₀ from count held k
 abbrev μ-loop : tie.MeasureT-loop
 μ-loop held₀ from to count k₀ held k = count - k
 
-sub-count : tie.Need-sub-count Inv-loop μ-loop
-sub-count c = search needs
-
 loop-holds : tie.Need-loop-holds Inv-loop μ-loop
 loop-holds c = record { within = search needs; same = refl; front = λ i l. omega arith; rest = λ i l. refl }
-
-add-held : tie.Need-add-held Inv-loop μ-loop
-add-held c = search needs
-
-slice-read-held : tie.Need-slice-read-held Inv-loop μ-loop
-slice-read-held c = search needs
-
-slice-write-held : tie.Need-slice-write-held Inv-loop μ-loop
-slice-write-held c = search needs
-
-add-k : tie.Need-add-k Inv-loop μ-loop
-add-k c = search needs
-
-loop-less : tie.Need-loop-less Inv-loop μ-loop
-loop-less c = search needs
 
 loop-again : tie.Need-loop-again Inv-loop μ-loop
 loop-again c =
@@ -59,9 +41,6 @@ loop-again c =
       rest = λ i m. getD-set-other (l .held) (l .k) i v 0 (λ e. omega arith) ∙ l .inv .rest i (omega arith);
     }
 
-same-length : tie.Need-same-length Inv-loop μ-loop
-same-length c = search needs
-
 returns : tie.Need-returns Inv-loop μ-loop
 returns c =
     let l = c .before .loop in
@@ -74,13 +53,13 @@ keep-rest-spec =
     (tie.spec
     Inv-loop
     μ-loop
-    sub-count
+    (search needs)
     loop-holds
-    add-held
-    slice-read-held
-    slice-write-held
-    add-k
-    loop-less
+    (search needs)
+    (search needs)
+    (search needs)
+    (search needs)
+    (search needs)
     loop-again
-    same-length
+    (λ c. search needs)
     returns)

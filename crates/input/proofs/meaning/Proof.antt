@@ -19,9 +19,6 @@ returns-2 c =
     let start = c .before .before .before in
     (below-failed (start .args .got) (start .fits .got) (c .before .if1 .taken), λ e. c .if2 .left (ap (ofZ w32) e))
 
-count-requires : tie.Need-count-requires
-count-requires c κs = search needs
-
 returns-3 : tie.Need-returns-3
 returns-3 c =
     let start = c .before .before .before .before in
@@ -35,4 +32,4 @@ returns-4 c =
     (all-counted (start .args .got) (length (now (start .args .rest))) (count .result) (start .fits .got) (start .pre) (c .before .before .if1 .left) (count .ensures .1), search needs)
 
 pub meaning-spec : {M : Type 1} → statement M
-meaning-spec = tie.close (tie.spec returns returns-2 count-requires returns-3 returns-4)
+meaning-spec = tie.close (tie.spec returns returns-2 (search needs) returns-3 returns-4)

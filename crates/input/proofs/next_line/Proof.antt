@@ -7,30 +7,15 @@ use borrow.Author.Needs.{needs}
 use Rattle.input.proofs.next_line.Statement.{statement}
 use Rattle.input.proofs.next_line.Tie as tie
 
-slice-reshare-prefix-line-end : tie.Need-slice-reshare-prefix-line-end
-slice-reshare-prefix-line-end c = search needs
-
 slice-aggregate-line-end : tie.Need-slice-aggregate-line-end
 slice-aggregate-line-end c =
     let s = c .before .before in
     sym (length-take-le (s .args .line .filled) (now (s .args .held)) (s .pre .filled))
 
-line-end-requires : tie.Need-line-end-requires
-line-end-requires c κs = search needs
-
-line-at-requires : tie.Need-line-at-requires
-line-at-requires c κs = search needs
-
-same-length : tie.Need-same-length
-same-length c = search needs
-
 returns : tie.Need-returns
 returns c =
     let s = c .before .before .before .before .before in
     after-held (now (s .args .held)) (s .args .line) _ (c .before .before .line-end .result) (s .pre) (c .before .before .line-end .ensures) (c .before .if1 .taken) (c .line-at .ensures)
-
-keep-rest-requires : tie.Need-keep-rest-requires
-keep-rest-requires c κs = search needs
 
 read-line-requires : tie.Need-read-line-requires
 read-line-requires c κs =
@@ -39,9 +24,6 @@ read-line-requires c κs =
     let end = c .before .before .before .before .before .before .line-end in
     let none = unfed (now (s .args .held)) (line .filled) (line .next) (end .result) (s .pre .filled) (end .ensures) (c .before .before .before .before .before .if1 .left) in
     (search needs, rw (c .before .before .before .keep-rest .ensures .count) (rest-unfed _ _ (line .next) (line .filled) (c .before .before .before .keep-rest .ensures .kept) none))
-
-same-length-2 : tie.Need-same-length-2
-same-length-2 c = search needs
 
 returns-2 : tie.Need-returns-2
 returns-2 c =
@@ -56,13 +38,13 @@ pub next-line-spec : {M : Type 1} → statement M
 next-line-spec =
     tie.close
     (tie.spec
-    slice-reshare-prefix-line-end
+    (search needs)
     slice-aggregate-line-end
-    line-end-requires
-    line-at-requires
-    same-length
+    (search needs)
+    (search needs)
+    (λ c. search needs)
     returns
-    keep-rest-requires
+    (search needs)
     read-line-requires
-    same-length-2
+    (λ c. search needs)
     returns-2)

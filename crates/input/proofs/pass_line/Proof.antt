@@ -19,12 +19,6 @@ abbrev μ-loop : tie.MeasureT-loop
 loop-holds : tie.Need-loop-holds Inv-loop μ-loop
 loop-holds c = search needs
 
-read-on-requires : tie.Need-read-on-requires Inv-loop μ-loop
-read-on-requires c κs = search needs
-
-enum-known-more : tie.Need-enum-known-more Inv-loop μ-loop
-enum-known-more c = search needs
-
 slice-reshare-prefix-line-end : tie.Need-slice-reshare-prefix-line-end Inv-loop μ-loop
 slice-reshare-prefix-line-end c =
     let within = rw (c .before .more .given .1) at (c .before .before .before .before .before .read-on .ensures .within) in
@@ -36,15 +30,6 @@ slice-aggregate-line-end c =
     let within = rw (c .before .before .more .given .1) at (r .ensures .within) in
     sym (length-take-le (c .before .before .more .given .0 .0) (r .last .0) (within .1))
 
-line-end-requires : tie.Need-line-end-requires Inv-loop μ-loop
-line-end-requires c κs = search needs
-
-line-at-requires : tie.Need-line-at-requires Inv-loop μ-loop
-line-at-requires c κs = search needs
-
-same-length : tie.Need-same-length Inv-loop μ-loop
-same-length c = search needs
-
 returns : tie.Need-returns Inv-loop μ-loop
 returns c =
     let l = c .before .before .before .before .before .before .before .before .before .before .before .before .loop in
@@ -54,48 +39,18 @@ returns c =
     let f = fed (r .last .0) (more .0 .0) 0 (c .before .before .line-end .result) (within .1) (omega arith) (c .before .before .line-end .ensures) (c .before .if1 .taken) in
     passed-fed _ (r .last .0) _ (more .0 .0) _ (c .line-at .ensures) (r .ensures .same ∙ l .inv) (c .before .if1 .taken) (within .1) f
 
-enum-told : tie.Need-enum-told Inv-loop μ-loop
-enum-told c = search needs
-
-nothing-held-requires : tie.Need-nothing-held-requires Inv-loop μ-loop
-nothing-held-requires c κs = search needs
-
-same-length-2 : tie.Need-same-length-2 Inv-loop μ-loop
-same-length-2 c = search needs
-
 returns-2 : tie.Need-returns-2 Inv-loop μ-loop
 returns-2 c =
     let l = c .before .before .before .before .before .before .before .before .loop in
     passed-nothing _ _ found.Half _ (c .nothing-held .ensures) (c .before .before .before .before .before .read-on .ensures .same ∙ l .inv) refl
-
-enum-told-2 : tie.Need-enum-told-2 Inv-loop μ-loop
-enum-told-2 c = search needs
-
-nothing-held-requires-2 : tie.Need-nothing-held-requires-2 Inv-loop μ-loop
-nothing-held-requires-2 c κs = search needs
-
-same-length-3 : tie.Need-same-length-3 Inv-loop μ-loop
-same-length-3 c = search needs
 
 returns-3 : tie.Need-returns-3 Inv-loop μ-loop
 returns-3 c =
     let l = c .before .before .before .before .before .before .before .before .loop in
     passed-nothing _ _ found.Failed _ (c .nothing-held2 .ensures) (c .before .before .before .before .before .read-on .ensures .same ∙ l .inv) refl
 
-add-turn : tie.Need-add-turn Inv-loop μ-loop
-add-turn c = search needs
-
-loop-less : tie.Need-loop-less Inv-loop μ-loop
-loop-less c = search needs
-
 loop-again : tie.Need-loop-again Inv-loop μ-loop
 loop-again c = search needs
-
-nothing-held-requires-3 : tie.Need-nothing-held-requires-3 Inv-loop μ-loop
-nothing-held-requires-3 c κs = search needs
-
-same-length-4 : tie.Need-same-length-4 Inv-loop μ-loop
-same-length-4 c = search needs
 
 returns-4 : tie.Need-returns-4 Inv-loop μ-loop
 returns-4 c =
@@ -108,25 +63,25 @@ pass-line-spec =
     Inv-loop
     μ-loop
     loop-holds
-    read-on-requires
-    enum-known-more
+    (search needs)
+    (search needs)
     slice-reshare-prefix-line-end
     slice-aggregate-line-end
-    line-end-requires
-    line-at-requires
-    same-length
+    (search needs)
+    (search needs)
+    (λ c. search needs)
     returns
-    enum-told
-    nothing-held-requires
-    same-length-2
+    (search needs)
+    (search needs)
+    (λ c. search needs)
     returns-2
-    enum-told-2
-    nothing-held-requires-2
-    same-length-3
+    (search needs)
+    (search needs)
+    (λ c. search needs)
     returns-3
-    add-turn
-    loop-less
+    (search needs)
+    (search needs)
     loop-again
-    nothing-held-requires-3
-    same-length-4
+    (search needs)
+    (λ c. search needs)
     returns-4)

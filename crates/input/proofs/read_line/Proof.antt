@@ -21,21 +21,9 @@ loop-holds c =
     let s = c .before in
     reading-starts (now (s .args .held)) (s .args .kept) (s .pre .0) (s .pre .1)
 
-pass-line-requires : tie.Need-pass-line-requires Inv-loop μ-loop
-pass-line-requires c κs = search needs
-
-same-length : tie.Need-same-length Inv-loop μ-loop
-same-length c = search needs
-
 returns : tie.Need-returns Inv-loop μ-loop
 returns c =
     read-passed _ _ _ _ _ (c .before .before .before .before .before .before .loop .inv .longer .same) (c .before .before .pass-line .ensures)
-
-read-on-requires : tie.Need-read-on-requires Inv-loop μ-loop
-read-on-requires c κs = search needs
-
-enum-known-more : tie.Need-enum-known-more Inv-loop μ-loop
-enum-known-more c = search needs
 
 slice-reshare-prefix-line-end : tie.Need-slice-reshare-prefix-line-end Inv-loop μ-loop
 slice-reshare-prefix-line-end c =
@@ -48,15 +36,6 @@ slice-aggregate-line-end c =
     let within = rw (c .before .before .more .given .1) at (r .ensures .within) in
     sym (length-take-le (c .before .before .more .given .0 .0) (r .last .0) (within .1))
 
-line-end-requires : tie.Need-line-end-requires Inv-loop μ-loop
-line-end-requires c κs = search needs
-
-line-at-requires : tie.Need-line-at-requires Inv-loop μ-loop
-line-at-requires c κs = search needs
-
-same-length-2 : tie.Need-same-length-2 Inv-loop μ-loop
-same-length-2 c = search needs
-
 returns-2 : tie.Need-returns-2 Inv-loop μ-loop
 returns-2 c =
     let l = c .before .before .before .before .before .before .before .before .before .before .before .before .before .loop in
@@ -67,39 +46,15 @@ returns-2 c =
     let f = fed (r .last .0) (more .0 .0) (l .filled) (c .before .before .line-end .result) (within .1) low (c .before .before .line-end .ensures) (c .before .if2 .taken) in
     read-fed _ _ _ _ _ _ (more .0 .0) _ _ (l .inv) (r .ensures) f (c .before .if2 .taken) (within .1) (c .line-at .ensures)
 
-enum-told : tie.Need-enum-told Inv-loop μ-loop
-enum-told c = search needs
-
-ended-requires : tie.Need-ended-requires Inv-loop μ-loop
-ended-requires c κs = search needs
-
-same-length-3 : tie.Need-same-length-3 Inv-loop μ-loop
-same-length-3 c = search needs
-
 returns-3 : tie.Need-returns-3 Inv-loop μ-loop
 returns-3 c =
     let l = c .before .before .before .before .before .before .before .before .before .loop in
     read-nothing _ _ _ _ _ (c .ended .ensures) (c .before .before .before .before .before .read-on .ensures .same ∙ l .inv .longer .same) (end-found _ _ _ (l .filled) (l .inv .longer .least))
 
-enum-told-2 : tie.Need-enum-told-2 Inv-loop μ-loop
-enum-told-2 c = search needs
-
-nothing-held-requires : tie.Need-nothing-held-requires Inv-loop μ-loop
-nothing-held-requires c κs = search needs
-
-same-length-4 : tie.Need-same-length-4 Inv-loop μ-loop
-same-length-4 c = search needs
-
 returns-4 : tie.Need-returns-4 Inv-loop μ-loop
 returns-4 c =
     let l = c .before .before .before .before .before .before .before .before .before .loop in
     read-nothing _ _ _ found.Failed _ (c .nothing-held .ensures) (c .before .before .before .before .before .read-on .ensures .same ∙ l .inv .longer .same) refl
-
-add-turn : tie.Need-add-turn Inv-loop μ-loop
-add-turn c = search needs
-
-loop-less : tie.Need-loop-less Inv-loop μ-loop
-loop-less c = search needs
 
 loop-again : tie.Need-loop-again Inv-loop μ-loop
 loop-again c =
@@ -110,12 +65,6 @@ loop-again c =
     let low : l .filled ≤ more .0 .0 = omega (arith, within) in
     reading-goes-on _ _ _ _ _ (more .0 .0) _ (l .inv) (r .ensures) low (within .1)
     (unfed (r .last .0) (more .0 .0) (l .filled) (c .before .line-end .result) (within .1) (c .before .line-end .ensures) (c .if2 .left))
-
-nothing-held-requires-2 : tie.Need-nothing-held-requires-2 Inv-loop μ-loop
-nothing-held-requires-2 c κs = search needs
-
-same-length-5 : tie.Need-same-length-5 Inv-loop μ-loop
-same-length-5 c = search needs
 
 returns-5 : tie.Need-returns-5 Inv-loop μ-loop
 returns-5 c =
@@ -128,28 +77,28 @@ read-line-spec =
     Inv-loop
     μ-loop
     loop-holds
-    pass-line-requires
-    same-length
+    (search needs)
+    (λ c. search needs)
     returns
-    read-on-requires
-    enum-known-more
+    (search needs)
+    (search needs)
     slice-reshare-prefix-line-end
     slice-aggregate-line-end
-    line-end-requires
-    line-at-requires
-    same-length-2
+    (search needs)
+    (search needs)
+    (λ c. search needs)
     returns-2
-    enum-told
-    ended-requires
-    same-length-3
+    (search needs)
+    (search needs)
+    (λ c. search needs)
     returns-3
-    enum-told-2
-    nothing-held-requires
-    same-length-4
+    (search needs)
+    (search needs)
+    (λ c. search needs)
     returns-4
-    add-turn
-    loop-less
+    (search needs)
+    (search needs)
     loop-again
-    nothing-held-requires-2
-    same-length-5
+    (search needs)
+    (λ c. search needs)
     returns-5)

@@ -16,20 +16,11 @@ abbrev μ-loop : tie.MeasureT-loop
 loop-holds : tie.Need-loop-holds Inv-loop μ-loop
 loop-holds c = (refl, refl)
 
-read-once-requires : tie.Need-read-once-requires Inv-loop μ-loop
-read-once-requires c κs = search needs
-
-enum-known-count : tie.Need-enum-known-count Inv-loop μ-loop
-enum-known-count c = search needs
-
 add-t10 : tie.Need-add-t10 Inv-loop μ-loop
 add-t10 c =
     let r = c .before .before .before .before .before .read-once in
     let within = rw (c .before .count .given .1) at (r .ensures .within) in
     record { fits = omega (arith, within) }
-
-same-length : tie.Need-same-length Inv-loop μ-loop
-same-length c = search needs
 
 returns : tie.Need-returns Inv-loop μ-loop
 returns c =
@@ -38,23 +29,11 @@ returns c =
     let within = rw (c .before .count .given .1) at (r .ensures .within) in
     read-ends _ _ _ _ _ _ (l .inv) (r .ensures) (omega (arith, within), within .1)
 
-enum-told : tie.Need-enum-told Inv-loop μ-loop
-enum-told c = search needs
-
-same-length-2 : tie.Need-same-length-2 Inv-loop μ-loop
-same-length-2 c = search needs
-
 returns-2 : tie.Need-returns-2 Inv-loop μ-loop
 returns-2 c =
     let l = c .before .before .before .before .before .before .before .loop in
     let r = c .before .before .before .before .read-once in
     read-ends _ _ _ _ _ _ (l .inv) (r .ensures) tt
-
-enum-told-2 : tie.Need-enum-told-2 Inv-loop μ-loop
-enum-told-2 c = search needs
-
-same-length-3 : tie.Need-same-length-3 Inv-loop μ-loop
-same-length-3 c = search needs
 
 returns-3 : tie.Need-returns-3 Inv-loop μ-loop
 returns-3 c =
@@ -62,23 +41,11 @@ returns-3 c =
     let r = c .before .before .before .before .read-once in
     read-ends _ _ _ _ _ _ (l .inv) (r .ensures) tt
 
-enum-told-3 : tie.Need-enum-told-3 Inv-loop μ-loop
-enum-told-3 c = search needs
-
-add-turn : tie.Need-add-turn Inv-loop μ-loop
-add-turn c = search needs
-
-loop-less : tie.Need-loop-less Inv-loop μ-loop
-loop-less c = search needs
-
 loop-again : tie.Need-loop-again Inv-loop μ-loop
 loop-again c =
     let l = c .before .before .before .before .before .before .before .loop in
     let r = c .before .before .before .before .read-once in
     read-goes-on _ _ _ _ _ (l .inv) (r .ensures)
-
-same-length-4 : tie.Need-same-length-4 Inv-loop μ-loop
-same-length-4 c = search needs
 
 returns-4 : tie.Need-returns-4 Inv-loop μ-loop
 returns-4 c = search needs
@@ -90,20 +57,20 @@ read-on-spec =
     Inv-loop
     μ-loop
     loop-holds
-    read-once-requires
-    enum-known-count
+    (search needs)
+    (search needs)
     add-t10
-    same-length
+    (λ c. search needs)
     returns
-    enum-told
-    same-length-2
+    (search needs)
+    (λ c. search needs)
     returns-2
-    enum-told-2
-    same-length-3
+    (search needs)
+    (λ c. search needs)
     returns-3
-    enum-told-3
-    add-turn
-    loop-less
+    (search needs)
+    (search needs)
+    (search needs)
     loop-again
-    same-length-4
+    (λ c. search needs)
     returns-4)

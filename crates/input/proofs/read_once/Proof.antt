@@ -10,28 +10,10 @@ use Rattle.input.proofs.Answers.{moved-back, got-within, part-length}
 use Rattle.input.proofs.read_once.Statement.{statement}
 use Rattle.input.proofs.read_once.Tie as tie
 
-sub-rest : tie.Need-sub-rest
-sub-rest c = search needs
-
-part-rest-start : tie.Need-part-rest-start
-part-rest-start c = search needs
-
-part-rest-end : tie.Need-part-rest-end
-part-rest-end c = search needs
-
-read-requires : tie.Need-read-requires
-read-requires c κs = search needs
-
-errno-requires : tie.Need-errno-requires
-errno-requires c κs = search needs
-
 meaning-requires : tie.Need-meaning-requires
 meaning-requires c κs =
     let read = c .before .before .before .before .read in
     moved-back (read .result) _ _ (sfits-of (read .ok)) (sym (read .kept .1 .0)) (read .ensures)
-
-same-length : tie.Need-same-length
-same-length c = search needs
 
 returns : tie.Need-returns
 returns c =
@@ -54,11 +36,11 @@ pub read-once-spec : {M : Type 1} → statement M
 read-once-spec =
     tie.close
     (tie.spec
-    sub-rest
-    part-rest-start
-    part-rest-end
-    read-requires
-    errno-requires
+    (search needs)
+    (search needs)
+    (search needs)
+    (search needs)
+    (search needs)
     meaning-requires
-    same-length
+    (λ c. search needs)
     returns)

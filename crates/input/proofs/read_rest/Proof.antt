@@ -18,9 +18,6 @@ loop-holds c =
     let s = c .before in
     nothing-read (now (s .args .held)) (s .args .kept) (s .pre)
 
-same-length : tie.Need-same-length Inv-loop μ-loop
-same-length c = search needs
-
 returns : tie.Need-returns Inv-loop μ-loop
 returns c =
     let l = c .before .before .loop in
@@ -29,38 +26,17 @@ returns c =
 read-on-requires : tie.Need-read-on-requires Inv-loop μ-loop
 read-on-requires c κs = c .before .before .before .loop .inv .most
 
-enum-known-more : tie.Need-enum-known-more Inv-loop μ-loop
-enum-known-more c = search needs
-
-enum-told : tie.Need-enum-told Inv-loop μ-loop
-enum-told c = search needs
-
-same-length-2 : tie.Need-same-length-2 Inv-loop μ-loop
-same-length-2 c = search needs
-
 returns-2 : tie.Need-returns-2 Inv-loop μ-loop
 returns-2 c =
     let l = c .before .before .before .before .before .before .before .before .loop in
     let r = c .before .before .before .before .read-on in
     rest-ended _ _ _ _ _ _ _ (l .inv) (r .ensures) (l .inv .least, omega (arith, l .inv .most, r .ensures .same))
 
-enum-told-2 : tie.Need-enum-told-2 Inv-loop μ-loop
-enum-told-2 c = search needs
-
-same-length-3 : tie.Need-same-length-3 Inv-loop μ-loop
-same-length-3 c = search needs
-
 returns-3 : tie.Need-returns-3 Inv-loop μ-loop
 returns-3 c =
     let l = c .before .before .before .before .before .before .before .before .loop in
     let r = c .before .before .before .before .read-on in
     rest-ended _ _ _ _ _ _ _ (l .inv) (r .ensures) tt
-
-add-turn : tie.Need-add-turn Inv-loop μ-loop
-add-turn c = search needs
-
-loop-less : tie.Need-loop-less Inv-loop μ-loop
-loop-less c = search needs
 
 loop-again : tie.Need-loop-again Inv-loop μ-loop
 loop-again c =
@@ -69,9 +45,6 @@ loop-again c =
     let more = c .before .more .given in
     let within = rw (more .1) at (r .ensures .within) in
     more-read _ _ _ _ _ (more .0 .0) _ (l .inv) (r .ensures) (omega (arith, within)) (within .1)
-
-same-length-4 : tie.Need-same-length-4 Inv-loop μ-loop
-same-length-4 c = search needs
 
 returns-4 : tie.Need-returns-4 Inv-loop μ-loop
 returns-4 c = rest-read _ _ _ _ _ (c .before .loop .inv) tt
@@ -83,18 +56,18 @@ read-rest-spec =
     Inv-loop
     μ-loop
     loop-holds
-    same-length
+    (λ c. search needs)
     returns
     read-on-requires
-    enum-known-more
-    enum-told
-    same-length-2
+    (search needs)
+    (search needs)
+    (λ c. search needs)
     returns-2
-    enum-told-2
-    same-length-3
+    (search needs)
+    (λ c. search needs)
     returns-3
-    add-turn
-    loop-less
+    (search needs)
+    (search needs)
     loop-again
-    same-length-4
+    (λ c. search needs)
     returns-4)

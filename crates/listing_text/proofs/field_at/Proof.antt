@@ -16,9 +16,6 @@ write-field-requires c κs =
     let a = c .before .before .args in
     omega (arith, ap length (field-whole (a .n) (a .after) (omega arith)), field-short (a .n) (a .after))
 
-same-length : tie.Need-same-length
-same-length c = search needs
-
 returns : tie.Need-returns
 returns c =
     let a = c .before .before .before .before .before .args in
@@ -30,4 +27,4 @@ returns c =
     }
 
 pub field-at-spec : {M : Type 1} → statement M
-field-at-spec = tie.close (tie.spec write-field-requires same-length returns)
+field-at-spec = tie.close (tie.spec write-field-requires (λ c. search needs) returns)

@@ -5,24 +5,6 @@ use borrow.Author.Needs.{needs}
 use Rattle.listing_text.proofs.line_at.Statement.{statement}
 use Rattle.listing_text.proofs.line_at.Tie as tie
 
-cast-number : tie.Need-cast-number
-cast-number c = search needs
-
-cast-open-year : tie.Need-cast-open-year
-cast-open-year c = search needs
-
-field-at-requires : tie.Need-field-at-requires
-field-at-requires c κs = search needs
-
-field-at-requires-2 : tie.Need-field-at-requires-2
-field-at-requires-2 c κs = search needs
-
-field-at-requires-3 : tie.Need-field-at-requires-3
-field-at-requires-3 c κs = search needs
-
-same-length : tie.Need-same-length
-same-length c = search needs
-
 returns : tie.Need-returns
 returns c =
     let h = c .before .before .field-at3 in
@@ -37,10 +19,10 @@ pub line-at-spec : {M : Type 1} → statement M
 line-at-spec =
     tie.close
     (tie.spec
-    cast-number
-    cast-open-year
-    field-at-requires
-    field-at-requires-2
-    field-at-requires-3
-    same-length
+    (search needs)
+    (search needs)
+    (search needs)
+    (search needs)
+    (search needs)
+    (λ c. search needs)
     returns)

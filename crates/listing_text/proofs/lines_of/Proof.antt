@@ -14,18 +14,12 @@ Inv-loop book out₀ end₀ user₀ out end user = Walking book out₀ out end (
 abbrev μ-loop : tie.MeasureT-loop
 μ-loop book out₀ end₀ user₀ out end user = user .0
 
-first-user-requires : tie.Need-first-user-requires Inv-loop μ-loop
-first-user-requires c κs = search needs
-
 loop-holds : tie.Need-loop-holds Inv-loop μ-loop
 loop-holds c =
     let start = c .before .before .before in
     subst (λ k. Walking (now (start .args .book)) (now (start .args .out)) (now (start .args .out)) 0 k)
     (sym (ap (λ k. k .0) (c .first-user .ensures)))
     (begins (now (start .args .book)) (start .pre .0) (start .pre .1 .0) (now (start .args .out)) (start .pre .1 .1))
-
-follow-requires : tie.Need-follow-requires Inv-loop μ-loop
-follow-requires c κs = search needs
 
 account-at-requires : tie.Need-account-at-requires Inv-loop μ-loop
 account-at-requires c κs =
@@ -75,9 +69,9 @@ lines-of-spec =
     (tie.spec
     Inv-loop
     μ-loop
-    first-user-requires
+    (search needs)
     loop-holds
-    follow-requires
+    (search needs)
     account-at-requires
     line-at-requires
     loop-less

@@ -9,12 +9,6 @@ use Rattle.listing_text.proofs.listing_of.Tie as tie
 returns : tie.Need-returns
 returns c = search needs
 
-text-of-requires : tie.Need-text-of-requires
-text-of-requires c κs = search needs
-
-same-length : tie.Need-same-length
-same-length c = search needs
-
 returns-2 : tie.Need-returns-2
 returns-2 c =
     let a = c .before .before .before .before .before .before .before .args in
@@ -22,4 +16,4 @@ returns-2 c =
     all-written (now (a .book)) (now (a .out)) (t .last .1 .0) (t .result) (omega arith) (t .ensures .end) (t .ensures .stands)
 
 pub listing-of-spec : {M : Type 1} → statement M
-listing-of-spec = tie.close (tie.spec returns text-of-requires same-length returns-2)
+listing-of-spec = tie.close (tie.spec returns (search needs) (λ c. search needs) returns-2)

@@ -9,9 +9,6 @@ use borrow.Author.Needs.{needs}
 use Rattle.listing_text.proofs.refusal_of.Statement.{statement}
 use Rattle.listing_text.proofs.refusal_of.Tie as tie
 
-slice-write-out : tie.Need-slice-write-out
-slice-write-out c = search needs
-
 slice-write-out-2 : tie.Need-slice-write-out-2
 slice-write-out-2 c = simp length-set (omega arith)
 
@@ -33,9 +30,6 @@ slice-write-out-7 c = simp length-set (omega arith)
 slice-write-out-8 : tie.Need-slice-write-out-8
 slice-write-out-8 c = simp length-set (omega arith)
 
-field-at-requires : tie.Need-field-at-requires
-field-at-requires c κs = search needs
-
 same-length : tie.Need-same-length
 same-length c = c .before .before .field-at .kept .0 ∙ length-sets (now (c .before .before .before .before .before .args .out)) 0 word
 
@@ -49,7 +43,7 @@ pub refusal-of-spec : {M : Type 1} → statement M
 refusal-of-spec =
     tie.close
     (tie.spec
-    slice-write-out
+    (search needs)
     slice-write-out-2
     slice-write-out-3
     slice-write-out-4
@@ -57,6 +51,6 @@ refusal-of-spec =
     slice-write-out-6
     slice-write-out-7
     slice-write-out-8
-    field-at-requires
+    (λ c κs. search needs)
     same-length
     returns)

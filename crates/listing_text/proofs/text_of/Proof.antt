@@ -1,23 +1,11 @@
 -- By what the check says of the book: one of three texts.
 use denote.Ref.{now}
 use Rattle.book_rules.specs.Chains.{usersOf}
-use Rattle.listing_text.specs.Listing.{lines, refused}
+use Rattle.listing_text.specs.Listing.{userLines, refused}
 use Rattle.listing_text.proofs.Texts.{refused-length, accepted, listed, refused-faulty, answered}
 use borrow.Author.Needs.{needs}
 use Rattle.listing_text.proofs.text_of.Statement.{statement}
 use Rattle.listing_text.proofs.text_of.Tie as tie
-
-check-requires : tie.Need-check-requires
-check-requires c κs = search needs
-
-enum-told : tie.Need-enum-told
-enum-told c = search needs
-
-refusal-of-requires : tie.Need-refusal-of-requires
-refusal-of-requires c κs = search needs
-
-enum-told-2 : tie.Need-enum-told-2
-enum-told-2 c = search needs
 
 lines-of-requires : tie.Need-lines-of-requires
 lines-of-requires c κs =
@@ -25,15 +13,6 @@ lines-of-requires c κs =
     let k = c .before .before .before .check in
     let a = accepted (now (start .args .book)) (k .result) (k .ensures) (c .before .enum-told2 .given .1) in
     (a .fits, (a .isSound, start .pre))
-
-enum-told-3 : tie.Need-enum-told-3
-enum-told-3 c = search needs
-
-refusal-of-requires-2 : tie.Need-refusal-of-requires-2
-refusal-of-requires-2 c κs = search needs
-
-same-length : tie.Need-same-length
-same-length c = search needs
 
 returns : tie.Need-returns
 returns c =
@@ -43,19 +22,14 @@ returns c =
     let w = c .before .before .refusal-of in
     answered b (refused 1) (now (a .out)) (w .last .0) (w .result) (refused-length b (k .result) (k .ensures) (c .before .before .before .before .enum-told .given .1)) (w .ensures)
 
-same-length-2 : tie.Need-same-length-2
-same-length-2 c = search needs
-
 returns-2 : tie.Need-returns-2
 returns-2 c =
     let a = c .before .before .before .before .before .before .before .before .before .args in
     let k = c .before .before .before .before .before .before .check in
     let b = now (a .book) in
     let w = c .before .before .lines-of in
-    answered b (lines b (usersOf b)) (now (a .out)) (w .last .1 .0) (w .result) (listed b (accepted b (k .result) (k .ensures) (c .before .before .before .before .enum-told2 .given .1))) (w .ensures)
-
-same-length-3 : tie.Need-same-length-3
-same-length-3 c = search needs
+    answered b (userLines b (usersOf b)) (now (a .out)) (w .last .1 .0) (w .result) (listed b (accepted b (k .result) (k .ensures) (c .before .before .before .before .enum-told2 .given .1)))
+    (w .ensures)
 
 returns-3 : tie.Need-returns-3
 returns-3 c =
@@ -69,16 +43,16 @@ pub text-of-spec : {M : Type 1} → statement M
 text-of-spec =
     tie.close
     (tie.spec
-    check-requires
-    enum-told
-    refusal-of-requires
-    enum-told-2
+    (search needs)
+    (search needs)
+    (search needs)
+    (search needs)
     lines-of-requires
-    enum-told-3
-    refusal-of-requires-2
-    same-length
+    (search needs)
+    (search needs)
+    (λ c. search needs)
     returns
-    same-length-2
+    (λ c. search needs)
     returns-2
-    same-length-3
+    (λ c. search needs)
     returns-3)

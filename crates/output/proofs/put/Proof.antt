@@ -13,12 +13,6 @@ returns c =
     let size : length (a .row .bytes) ≡ rowRoom = search needs in
     full (a .row .bytes) (a .row .count) (a .b) size (c .if1 .taken)
 
-array-write-bytes : tie.Need-array-write-bytes
-array-write-bytes c = search needs
-
-add-t9 : tie.Need-add-t9
-add-t9 c = search needs
-
 returns-2 : tie.Need-returns-2
 returns-2 c =
     let a = c .before .before .args in
@@ -26,4 +20,4 @@ returns-2 c =
     added (a .row .bytes) (a .row .count) (a .b) size (c .before .if1 .left)
 
 pub put-spec : {M : Type 1} → statement M
-put-spec = tie.close (tie.spec returns array-write-bytes add-t9 returns-2)
+put-spec = tie.close (tie.spec returns (search needs) (search needs) returns-2)

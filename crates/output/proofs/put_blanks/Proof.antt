@@ -23,15 +23,6 @@ loop-holds c =
     let size : length (row .bytes) ≡ rowRoom = search needs in
     (search needs, nothing-joined (textOf row) (simp length-take (omega arith)))
 
-put-requires : tie.Need-put-requires Inv-loop μ-loop
-put-requires c κs = search needs
-
-add-k : tie.Need-add-k Inv-loop μ-loop
-add-k c = search needs
-
-loop-less : tie.Need-loop-less Inv-loop μ-loop
-loop-less c = search needs
-
 loop-again : tie.Need-loop-again Inv-loop μ-loop
 loop-again c =
     let l = c .before .before .loop in
@@ -45,4 +36,4 @@ returns c =
 
 pub put-blanks-spec : {M : Type 1} → statement M
 put-blanks-spec =
-    tie.close (tie.spec Inv-loop μ-loop loop-holds put-requires add-k loop-less loop-again returns)
+    tie.close (tie.spec Inv-loop μ-loop loop-holds (search needs) (search needs) (search needs) loop-again returns)

@@ -8,9 +8,6 @@ use Rattle.output.specs.InnerRows.{joined}
 use Rattle.output.proofs.put_number.Statement.{statement}
 use Rattle.output.proofs.put_number.Tie as tie
 
-slice-aggregate-write-number : tie.Need-slice-aggregate-write-number
-slice-aggregate-write-number c = search needs
-
 write-number-requires : tie.Need-write-number-requires
 write-number-requires c κs = omega (arith, decimal-short 19 (c .before .args .n) (omega arith))
 
@@ -25,9 +22,6 @@ slice-aggregate-put-text c =
     let n = c .before .before .before .before .args .n in
     sym (length-take-le (w .result) (w .last .0) (omega (arith, w .ensures .end, w .kept .0, decimal-short 19 n (omega arith))))
 
-put-text-requires : tie.Need-put-text-requires
-put-text-requires c κs = search needs
-
 returns : tie.Need-returns
 returns c =
     let w = c .before .before .before .write-number in
@@ -37,9 +31,9 @@ pub put-number-spec : {M : Type 1} → statement M
 put-number-spec =
     tie.close
     (tie.spec
-    slice-aggregate-write-number
+    (search needs)
     write-number-requires
     array-share-prefix-digits
     slice-aggregate-put-text
-    put-text-requires
+    (search needs)
     returns)

@@ -22,12 +22,6 @@ slice-aggregate-write c =
     let most : c .before .if1 .count ≤ length (row .bytes) = ⊎-elim (λ w. omega arith) (λ w. omega arith) (c .before .if1 .came) in
     sym (length-take-le (c .before .if1 .count) (row .bytes) most)
 
-write-requires : tie.Need-write-requires
-write-requires c κs = search needs
-
-returns : tie.Need-returns
-returns c = search needs
-
 pub write-row-spec : {M : Type 1} → statement M
 write-row-spec =
-    tie.close (tie.spec array-share-prefix-bytes slice-aggregate-write write-requires returns)
+    tie.close (tie.spec array-share-prefix-bytes slice-aggregate-write (search needs) (search needs))

@@ -12,33 +12,12 @@ use Rattle.replay_script.proofs.Within.{new-fits}
 use Rattle.replay.proofs.answer.Statement.{statement}
 use Rattle.replay.proofs.answer.Tie as tie
 
-order-of-requires : tie.Need-order-of-requires
-order-of-requires c κs = search needs
-
-enum-known-order : tie.Need-enum-known-order
-enum-known-order c = search needs
-
 new-book-requires : tie.Need-new-book-requires
 new-book-requires c κs =
     let a = c .before .before .before .before .before .before .before .before .args in
-    let order = sym (c .before .before .before .before .order-of .ensures) ∙ c .before .before .order .given .1 in
-    let fits = rw order at (new-fits (now (a .line))) in
+    let request = sym (c .before .before .before .before .request-of .ensures) ∙ c .before .before .request .given .1 in
+    let fits = rw request at (new-fits (now (a .line))) in
     omega arith
-
-enum-known-order-2 : tie.Need-enum-known-order-2
-enum-known-order-2 c = search needs
-
-load-book-requires : tie.Need-load-book-requires
-load-book-requires c κs = search needs
-
-enum-told : tie.Need-enum-told
-enum-told c = search needs
-
-say-error-requires : tie.Need-say-error-requires
-say-error-requires c κs = search needs
-
-slice-relend-prefix-call : tie.Need-slice-relend-prefix-call
-slice-relend-prefix-call c = search needs
 
 slice-aggregate-call : tie.Need-slice-aggregate-call
 slice-aggregate-call c =
@@ -52,25 +31,19 @@ call-requires c κs =
     let within : a .len ≤ length (now (a .buffer)) = omega arith in
     rw (length-take-le (a .len) (now (a .buffer)) within) (omega arith, omega arith)
 
-same-length : tie.Need-same-length
-same-length c = search needs
-
 returns : tie.Need-returns
 returns c =
     let asked = c .before .before .before .before .before .before in
-    let read = asked .before .order-of .ensures in
+    let read = asked .before .request-of .ensures in
     record {
       within = search needs;
       wrong = λ e. let other = rw (read ∙ e) at (asked .match .keys1) in absurd (miss (0 ∷ []) 17 tt other);
     }
 
-same-length-2 : tie.Need-same-length-2
-same-length-2 c = search needs
-
 returns-2 : tie.Need-returns-2
 returns-2 c =
     let asked = c .before .before .before .before .before .before in
-    let read = asked .before .order-of .ensures in
+    let read = asked .before .request-of .ensures in
     record {
       within = search needs;
       wrong = λ e. let other = rw (read ∙ e) at (asked .match .keys2) in absurd (miss (1 ∷ []) 17 tt other);
@@ -79,16 +52,10 @@ returns-2 c =
 returns-3 : tie.Need-returns-3
 returns-3 c = search needs
 
-same-length-3 : tie.Need-same-length-3
-same-length-3 c = search needs
-
-same-length-4 : tie.Need-same-length-4
-same-length-4 c = search needs
-
 returns-4 : tie.Need-returns-4
 returns-4 c =
     let asked = c .before .before .before .before .before .before .before in
-    let read = asked .before .order-of .ensures in
+    let read = asked .before .request-of .ensures in
     record {
       within = search needs;
       wrong = λ e. let other = rw (read ∙ e) at (asked .match .keys4) in absurd (miss (2 ∷ 3 ∷ 4 ∷ 5 ∷ 6 ∷ 7 ∷ 8 ∷ 9 ∷ 10 ∷ 11 ∷ 12 ∷ 13 ∷ 14 ∷ 15 ∷ 16 ∷ []) 17 tt other);
@@ -98,21 +65,21 @@ pub answer-spec : {M : Type 1} → statement M
 answer-spec =
     tie.close
     (tie.spec
-    order-of-requires
-    enum-known-order
+    (search needs)
+    (search needs)
     new-book-requires
-    enum-known-order-2
-    load-book-requires
-    enum-told
-    say-error-requires
-    slice-relend-prefix-call
+    (search needs)
+    (search needs)
+    (search needs)
+    (search needs)
+    (search needs)
     slice-aggregate-call
     call-requires
-    same-length
+    (λ c. search needs)
     returns
-    same-length-2
+    (λ c. search needs)
     returns-2
     returns-3
-    same-length-3
-    same-length-4
+    (λ c. search needs)
+    (λ c. search needs)
     returns-4)

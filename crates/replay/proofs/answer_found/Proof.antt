@@ -5,42 +5,6 @@ use borrow.Author.Needs.{needs}
 use Rattle.replay.proofs.answer_found.Statement.{statement}
 use Rattle.replay.proofs.answer_found.Tie as tie
 
-enum-told : tie.Need-enum-told
-enum-told c = search needs
-
-answer-requires : tie.Need-answer-requires
-answer-requires c κs = search needs
-
-enum-told-2 : tie.Need-enum-told-2
-enum-told-2 c = search needs
-
-say-error-requires : tie.Need-say-error-requires
-say-error-requires c κs = search needs
-
-enum-told-3 : tie.Need-enum-told-3
-enum-told-3 c = search needs
-
-say-error-requires-2 : tie.Need-say-error-requires-2
-say-error-requires-2 c κs = search needs
-
-enum-told-4 : tie.Need-enum-told-4
-enum-told-4 c = search needs
-
-enum-told-5 : tie.Need-enum-told-5
-enum-told-5 c = search needs
-
-slice-aggregate-fail : tie.Need-slice-aggregate-fail
-slice-aggregate-fail c = search needs
-
-fail-requires : tie.Need-fail-requires
-fail-requires c κs = search needs
-
-same-length : tie.Need-same-length
-same-length c = search needs
-
-same-length-2 : tie.Need-same-length-2
-same-length-2 c = search needs
-
 returns : tie.Need-returns
 returns c =
     let whole = c .before .before .before .before .before .before .before .enum-told .given .1 in
@@ -75,18 +39,18 @@ pub answer-found-spec : {M : Type 1} → statement M
 answer-found-spec =
     tie.close
     (tie.spec
-    enum-told
-    answer-requires
-    enum-told-2
-    say-error-requires
-    enum-told-3
-    say-error-requires-2
-    enum-told-4
-    enum-told-5
-    slice-aggregate-fail
-    fail-requires
-    same-length
-    same-length-2
+    (search needs)
+    (search needs)
+    (search needs)
+    (search needs)
+    (search needs)
+    (search needs)
+    (search needs)
+    (search needs)
+    (search needs)
+    (search needs)
+    (λ c. search needs)
+    (λ c. search needs)
     returns
     returns-2
     returns-3

@@ -12,29 +12,11 @@ Inv-loop out₀ bytes count k₀ out k = (k ≤ count) × (length out ≡ length
 abbrev μ-loop : tie.MeasureT-loop
 μ-loop out₀ bytes count k₀ out k = count - k
 
-row-length-requires : tie.Need-row-length-requires Inv-loop μ-loop
-row-length-requires c κs = search needs
-
 loop-holds : tie.Need-loop-holds Inv-loop μ-loop
 loop-holds c = search needs
 
-array-read-out : tie.Need-array-read-out Inv-loop μ-loop
-array-read-out c = search needs
-
-slice-write-out : tie.Need-slice-write-out Inv-loop μ-loop
-slice-write-out c = search needs
-
-add-k : tie.Need-add-k Inv-loop μ-loop
-add-k c = search needs
-
-loop-less : tie.Need-loop-less Inv-loop μ-loop
-loop-less c = search needs
-
 loop-again : tie.Need-loop-again Inv-loop μ-loop
 loop-again c = search needs
-
-same-length : tie.Need-same-length Inv-loop μ-loop
-same-length c = search needs
 
 returns : tie.Need-returns Inv-loop μ-loop
 returns c = search needs
@@ -45,12 +27,12 @@ put-front-spec =
     (tie.spec
     Inv-loop
     μ-loop
-    row-length-requires
+    (search needs)
     loop-holds
-    array-read-out
-    slice-write-out
-    add-k
-    loop-less
+    (search needs)
+    (search needs)
+    (search needs)
+    (search needs)
     loop-again
-    same-length
+    (λ c. search needs)
     returns)

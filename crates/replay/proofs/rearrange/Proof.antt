@@ -6,54 +6,6 @@ use borrow.Author.Needs.{needs}
 use Rattle.replay.proofs.rearrange.Statement.{statement}
 use Rattle.replay.proofs.rearrange.Tie as tie
 
-large-buffer-requires : tie.Need-large-buffer-requires
-large-buffer-requires c κs = search needs
-
-front-requires : tie.Need-front-requires
-front-requires c κs = search needs
-
-slice-aggregate-hex-from : tie.Need-slice-aggregate-hex-from
-slice-aggregate-hex-from c = search needs
-
-hex-from-requires : tie.Need-hex-from-requires
-hex-from-requires c κs = search needs
-
-enum-known-read : tie.Need-enum-known-read
-enum-known-read c = search needs
-
-enum-told : tie.Need-enum-told
-enum-told c = search needs
-
-say-error-requires : tie.Need-say-error-requires
-say-error-requires c κs = search needs
-
-returns : tie.Need-returns
-returns c = search needs
-
-large-buffer-requires-2 : tie.Need-large-buffer-requires-2
-large-buffer-requires-2 c κs = search needs
-
-front-requires-2 : tie.Need-front-requires-2
-front-requires-2 c κs = search needs
-
-slice-aggregate-hex-from-2 : tie.Need-slice-aggregate-hex-from-2
-slice-aggregate-hex-from-2 c = search needs
-
-hex-from-requires-2 : tie.Need-hex-from-requires-2
-hex-from-requires-2 c κs = search needs
-
-enum-known-room : tie.Need-enum-known-room
-enum-known-room c = search needs
-
-enum-told-2 : tie.Need-enum-told-2
-enum-told-2 c = search needs
-
-say-error-requires-2 : tie.Need-say-error-requires-2
-say-error-requires-2 c κs = search needs
-
-returns-2 : tie.Need-returns-2
-returns-2 c = search needs
-
 array-share-prefix-from : tie.Need-array-share-prefix-from
 array-share-prefix-from c =
     let filled = rw (c .before .before .before .before .before .before .before .before .before .read .given .1) at
@@ -92,36 +44,30 @@ work-on-requires c κs =
       c .before .before .before .before .before .before .before .before .before .before .before .before .before .before .before .before .before .before .before .before .before .pre,
     )
 
-same-length : tie.Need-same-length
-same-length c = search needs
-
-returns-3 : tie.Need-returns-3
-returns-3 c = search needs
-
 pub rearrange-spec : {M : Type 1} → statement M
 rearrange-spec =
     tie.close
     (tie.spec
-    large-buffer-requires
-    front-requires
-    slice-aggregate-hex-from
-    hex-from-requires
-    enum-known-read
-    enum-told
-    say-error-requires
-    returns
-    large-buffer-requires-2
-    front-requires-2
-    slice-aggregate-hex-from-2
-    hex-from-requires-2
-    enum-known-room
-    enum-told-2
-    say-error-requires-2
-    returns-2
+    (search needs)
+    (search needs)
+    (search needs)
+    (search needs)
+    (search needs)
+    (search needs)
+    (search needs)
+    (search needs)
+    (search needs)
+    (search needs)
+    (search needs)
+    (search needs)
+    (search needs)
+    (search needs)
+    (search needs)
+    (search needs)
     array-share-prefix-from
     slice-aggregate-work-on
     array-borrow-prefix-to
     slice-aggregate-work-on-2
     work-on-requires
-    same-length
-    returns-3)
+    (λ c. search needs)
+    (search needs))

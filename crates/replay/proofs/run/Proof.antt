@@ -23,44 +23,8 @@ Inv-loop held₀ buffer₀ out₀ line₀ len₀ turn₀ held buffer out line le
 abbrev μ-loop : tie.MeasureT-loop
 μ-loop held₀ buffer₀ out₀ line₀ len₀ turn₀ held buffer out line len turn = 2 ^ 64 - turn
 
-start-requires : tie.Need-start-requires Inv-loop μ-loop
-start-requires c κs = search needs
-
 loop-holds : tie.Need-loop-holds Inv-loop μ-loop
 loop-holds c = record { line = rw (c .start .ensures) (nothing-is-held _ _); held = refl; book = search needs; buffer = refl; out = refl }
-
-next-line-requires : tie.Need-next-line-requires Inv-loop μ-loop
-next-line-requires c κs = search needs
-
-sub-answer-found : tie.Need-sub-answer-found Inv-loop μ-loop
-sub-answer-found c = search needs
-
-part-answer-found-start : tie.Need-part-answer-found-start Inv-loop μ-loop
-part-answer-found-start c = search needs
-
-part-answer-found-end : tie.Need-part-answer-found-end Inv-loop μ-loop
-part-answer-found-end c = search needs
-
-answer-found-requires : tie.Need-answer-found-requires Inv-loop μ-loop
-answer-found-requires c κs = search needs
-
-same-length : tie.Need-same-length Inv-loop μ-loop
-same-length c = search needs
-
-same-length-2 : tie.Need-same-length-2 Inv-loop μ-loop
-same-length-2 c = search needs
-
-same-length-3 : tie.Need-same-length-3 Inv-loop μ-loop
-same-length-3 c = search needs
-
-returns : tie.Need-returns Inv-loop μ-loop
-returns c = search needs
-
-add-turn : tie.Need-add-turn Inv-loop μ-loop
-add-turn c = search needs
-
-loop-less : tie.Need-loop-less Inv-loop μ-loop
-loop-less c = search needs
 
 loop-again : tie.Need-loop-again Inv-loop μ-loop
 loop-again c =
@@ -73,39 +37,27 @@ loop-again c =
       out = search needs;
     }
 
-same-length-4 : tie.Need-same-length-4 Inv-loop μ-loop
-same-length-4 c = search needs
-
-same-length-5 : tie.Need-same-length-5 Inv-loop μ-loop
-same-length-5 c = search needs
-
-same-length-6 : tie.Need-same-length-6 Inv-loop μ-loop
-same-length-6 c = search needs
-
-returns-2 : tie.Need-returns-2 Inv-loop μ-loop
-returns-2 c = search needs
-
 pub run-spec : {M : Type 1} → statement M
 run-spec =
     tie.close
     (tie.spec
     Inv-loop
     μ-loop
-    start-requires
+    (search needs)
     loop-holds
-    next-line-requires
-    sub-answer-found
-    part-answer-found-start
-    part-answer-found-end
-    answer-found-requires
-    same-length
-    same-length-2
-    same-length-3
-    returns
-    add-turn
-    loop-less
+    (search needs)
+    (search needs)
+    (search needs)
+    (search needs)
+    (search needs)
+    (λ c. search needs)
+    (λ c. search needs)
+    (λ c. search needs)
+    (search needs)
+    (search needs)
+    (search needs)
     loop-again
-    same-length-4
-    same-length-5
-    same-length-6
-    returns-2)
+    (λ c. search needs)
+    (λ c. search needs)
+    (λ c. search needs)
+    (search needs))

@@ -8,7 +8,7 @@ use lib.Dec.{eqb}
 use lib.ListN.{length, getD}
 use Rattle.units.specs.Folds.{allBelow}
 use Rattle.units.proofs.Folds.{all-zero, all-next}
-use Rattle.replay_script.specs.Orders.{begins}
+use Rattle.replay_script.specs.Requests.{begins}
 use Rattle.replay_script.proofs.begins.Statement.{statement}
 use Rattle.replay_script.proofs.begins.Tie as tie
 
@@ -23,18 +23,6 @@ loop-holds : tie.Need-loop-holds Inv-loop μ-loop
 loop-holds c =
     let a = c .before .before .args in
     (search needs, sym (all-zero (λ j. eqb (getD (now (a .line)) j 0) (getD (now (a .word)) j 0))))
-
-byte-at-requires : tie.Need-byte-at-requires Inv-loop μ-loop
-byte-at-requires c κs = search needs
-
-shared-slice-read-same : tie.Need-shared-slice-read-same Inv-loop μ-loop
-shared-slice-read-same c = search needs
-
-add-i : tie.Need-add-i Inv-loop μ-loop
-add-i c = search needs
-
-loop-less : tie.Need-loop-less Inv-loop μ-loop
-loop-less c = search needs
 
 loop-again : tie.Need-loop-again Inv-loop μ-loop
 loop-again c =
@@ -57,9 +45,9 @@ begins-spec =
     Inv-loop
     μ-loop
     loop-holds
-    byte-at-requires
-    shared-slice-read-same
-    add-i
-    loop-less
+    (search needs)
+    (search needs)
+    (search needs)
+    (search needs)
     loop-again
     returns)

@@ -19,29 +19,8 @@ Inv-loop line at most read values within₀ k₀ k-end within k =
 abbrev μ-loop : tie.MeasureT-loop
 μ-loop line at most read values within₀ k₀ k-end within k = length most - k
 
-fields-from-requires : tie.Need-fields-from-requires Inv-loop μ-loop
-fields-from-requires c κs = search needs
-
 loop-holds : tie.Need-loop-holds Inv-loop μ-loop
 loop-holds c = (search needs, sym (all-zero (λ j. leb (getD (c .before .fields-from .result .values) j 0) (getD (now (c .before .before .before .before .args .most)) j 0))))
-
-mul-within : tie.Need-mul-within Inv-loop μ-loop
-mul-within c = search needs
-
-array-read-within : tie.Need-array-read-within Inv-loop μ-loop
-array-read-within c = search needs
-
-mul-within-2 : tie.Need-mul-within-2 Inv-loop μ-loop
-mul-within-2 c = search needs
-
-shared-slice-read-within : tie.Need-shared-slice-read-within Inv-loop μ-loop
-shared-slice-read-within c = search needs
-
-add-k : tie.Need-add-k Inv-loop μ-loop
-add-k c = search needs
-
-loop-less : tie.Need-loop-less Inv-loop μ-loop
-loop-less c = search needs
 
 loop-again : tie.Need-loop-again Inv-loop μ-loop
 loop-again c =
@@ -65,13 +44,13 @@ numbers-at-spec =
     (tie.spec
     Inv-loop
     μ-loop
-    fields-from-requires
+    (search needs)
     loop-holds
-    mul-within
-    array-read-within
-    mul-within-2
-    shared-slice-read-within
-    add-k
-    loop-less
+    (search needs)
+    (search needs)
+    (search needs)
+    (search needs)
+    (search needs)
+    (search needs)
     loop-again
     returns)

@@ -9,7 +9,7 @@ use lib.Dec.{eqb}
 use lib.ListN.{getD}
 use Rattle.text.specs.InnerText.{afterBlank, wordEnd}
 use Rattle.replay_script.specs.declared.Word.{Word}
-use Rattle.replay_script.specs.Orders.{isNoBytes, isSomeBytes, wordAt}
+use Rattle.replay_script.specs.Requests.{isNoBytes, isSomeBytes, wordAt}
 use Rattle.replay_script.proofs.word_at.Statement.{statement}
 use Rattle.replay_script.proofs.word_at.Tie as tie
 
@@ -21,24 +21,6 @@ word-stands : (line : List ℕ) (at : ℕ) {byte from to start : ℕ} {none some
 unfolding wordAt
 word-stands line at b f t n s m = rw (m, s, n, t, f, b)
 
-byte-at-requires : tie.Need-byte-at-requires
-byte-at-requires c κs = search needs
-
-after-blank-requires : tie.Need-after-blank-requires
-after-blank-requires c κs = search needs
-
-word-end-requires : tie.Need-word-end-requires
-word-end-requires c κs = search needs
-
-is-no-bytes-requires : tie.Need-is-no-bytes-requires
-is-no-bytes-requires c κs = search needs
-
-choose-requires : tie.Need-choose-requires
-choose-requires c κs = search needs
-
-is-some-bytes-requires : tie.Need-is-some-bytes-requires
-is-some-bytes-requires c κs = search needs
-
 returns : tie.Need-returns
 returns c =
     let a = c .before .before .before .before .before .before .before .args in
@@ -49,10 +31,10 @@ pub word-at-spec : {M : Type 1} → statement M
 word-at-spec =
     tie.close
     (tie.spec
-    byte-at-requires
-    after-blank-requires
-    word-end-requires
-    is-no-bytes-requires
-    choose-requires
-    is-some-bytes-requires
+    (search needs)
+    (search needs)
+    (search needs)
+    (search needs)
+    (search needs)
+    (search needs)
     returns)

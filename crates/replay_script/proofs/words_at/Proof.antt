@@ -9,7 +9,7 @@ use lib.Dec.{eqb}
 use lib.ListN.{length}
 use Rattle.replay_script.specs.declared.Word.{Word}
 use Rattle.replay_script.specs.declared.Words.{Words}
-use Rattle.replay_script.specs.Orders.{wordAt, wordsAt}
+use Rattle.replay_script.specs.Requests.{wordAt, wordsAt}
 use Rattle.replay_script.proofs.words_at.Statement.{statement}
 use Rattle.replay_script.proofs.words_at.Tie as tie
 
@@ -21,16 +21,10 @@ words-stand : (line : List ℕ) (at : ℕ) {one two : Word} → one ≡ wordAt l
 unfolding wordsAt
 words-stand line at e f = rw (f, e)
 
-word-at-requires : tie.Need-word-at-requires
-word-at-requires c κs = search needs
-
-word-at-requires-2 : tie.Need-word-at-requires-2
-word-at-requires-2 c κs = search needs
-
 returns : tie.Need-returns
 returns c =
     let a = c .before .before .before .before .before .before .before .before .args in
     words-stand (now (a .line)) (a .at) (c .before .before .before .before .before .before .word-at .ensures) (c .before .before .before .before .word-at2 .ensures)
 
 pub words-at-spec : {M : Type 1} → statement M
-words-at-spec = tie.close (tie.spec word-at-requires word-at-requires-2 returns)
+words-at-spec = tie.close (tie.spec (search needs) (search needs) returns)

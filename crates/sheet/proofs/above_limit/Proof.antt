@@ -3,11 +3,8 @@ use borrow.Author.Needs.{needs}
 use Rattle.sheet.proofs.above_limit.Statement.{statement}
 use Rattle.sheet.proofs.above_limit.Tie as tie
 
-limit-at-requires : tie.Need-limit-at-requires
-limit-at-requires c κs = search needs
-
 returns : tie.Need-returns
 returns c = cc
 
 pub above-limit-spec : {M : Type 1} → statement M
-above-limit-spec = tie.close (tie.spec limit-at-requires returns)
+above-limit-spec = tie.close (tie.spec (search needs) returns)

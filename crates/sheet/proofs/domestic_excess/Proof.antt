@@ -25,20 +25,11 @@ loop-holds c = (search needs, sym (any-zero (λ m. ltb monthlyThreshold (monthWi
 month-withdrawn-requires : tie.Need-month-withdrawn-requires Inv-loop μ-loop
 month-withdrawn-requires c κs = (c .before .before .before .pre, search needs)
 
-add-month : tie.Need-add-month Inv-loop μ-loop
-add-month c = search needs
-
-loop-less : tie.Need-loop-less Inv-loop μ-loop
-loop-less c = search needs
-
 loop-again : tie.Need-loop-again Inv-loop μ-loop
 loop-again c =
     let l = c .before .before .before .loop in
     let s = now (c .before .before .before .before .before .args .s) in
     (search needs, any-next (l .month) (λ m. ltb monthlyThreshold (monthWithdrawn s m)) (l .inv .1) (ap (λ (e : Kwh). ltb monthlyThreshold (e .0)) (c .before .month-withdrawn .ensures)))
-
-is-domestic-requires : tie.Need-is-domestic-requires Inv-loop μ-loop
-is-domestic-requires c κs = search needs
 
 returns : tie.Need-returns Inv-loop μ-loop
 unfolding refused14
@@ -54,8 +45,8 @@ domestic-excess-spec =
     μ-loop
     loop-holds
     month-withdrawn-requires
-    add-month
-    loop-less
+    (search needs)
+    (search needs)
     loop-again
-    is-domestic-requires
+    (search needs)
     returns)

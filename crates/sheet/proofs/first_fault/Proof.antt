@@ -21,23 +21,11 @@ Inv-loop s month place₀ place = (place ≤ 23) × ((p : ℕ) → p < place →
 abbrev μ-loop : tie.MeasureT-loop
 μ-loop s month place₀ place = 23 - place
 
-some-wrong-requires : tie.Need-some-wrong-requires Inv-loop μ-loop
-some-wrong-requires c κs = search needs
-
-unplaced-requires : tie.Need-unplaced-requires Inv-loop μ-loop
-unplaced-requires c κs = search needs
-
 returns : tie.Need-returns Inv-loop μ-loop
 returns c =
     let s = now (c .before .before .before .before .args .s) in
     let none = sym (c .before .before .some-wrong .ensures) ∙ not-true _ (c .before .if1 .taken) in
     told-none s (λ m l. none-at 23 (atFault s m) (none-at 12 (λ n. anyBelow 23 (λ p. atFault s n p)) none m l)) _ (c .unplaced .ensures)
-
-wrong-month-requires : tie.Need-wrong-month-requires Inv-loop μ-loop
-wrong-month-requires c κs = search needs
-
-unplaced-requires-2 : tie.Need-unplaced-requires-2 Inv-loop μ-loop
-unplaced-requires-2 c κs = search needs
 
 returns-2 : tie.Need-returns-2 Inv-loop μ-loop
 returns-2 c =
@@ -54,26 +42,11 @@ loop-holds c = (search needs, λ p l. absurd (not-suc-le-zero l))
 word-at-requires : tie.Need-word-at-requires Inv-loop μ-loop
 word-at-requires c κs = (month-to (c .before .before), search needs)
 
-above-limit-requires : tie.Need-above-limit-requires Inv-loop μ-loop
-above-limit-requires c κs = search needs
-
-stray-band-requires : tie.Need-stray-band-requires Inv-loop μ-loop
-stray-band-requires c κs = search needs
-
-fault-number-requires : tie.Need-fault-number-requires Inv-loop μ-loop
-fault-number-requires c κs = search needs
-
 cast-t12 : tie.Need-cast-t12 Inv-loop μ-loop
 cast-t12 c = let m = month-to (c .before .before .before .before .before .before .before) in omega arith
 
 add-t13 : tie.Need-add-t13 Inv-loop μ-loop
 add-t13 c = let m = month-to (c .before .before .before .before .before .before .before) in omega arith
-
-cast-t14 : tie.Need-cast-t14 Inv-loop μ-loop
-cast-t14 c = search needs
-
-add-t15 : tie.Need-add-t15 Inv-loop μ-loop
-add-t15 c = search needs
 
 returns-3 : tie.Need-returns-3 Inv-loop μ-loop
 returns-3 c =
@@ -93,12 +66,6 @@ returns-3 c =
     } in
     told s found _ is refl refl
 
-add-place : tie.Need-add-place Inv-loop μ-loop
-add-place c = search needs
-
-loop-less : tie.Need-loop-less Inv-loop μ-loop
-loop-less c = search needs
-
 loop-again : tie.Need-loop-again Inv-loop μ-loop
 loop-again c =
     let number = c .before in
@@ -108,9 +75,6 @@ loop-again c =
     let s = now (read .before .before .before .before .before .before .before .before .args .s) in
     let is = as-tested s (month .result) (place .place) (read .word-at .ensures) (number .before .before .above-limit .ensures) (number .before .stray-band .ensures) (number .fault-number .ensures) in
     (search needs, below-more _ _ (place .inv .1) (no-fault s (month .result) (place .place) is (c .if3 .left)))
-
-unplaced-requires-3 : tie.Need-unplaced-requires-3 Inv-loop μ-loop
-unplaced-requires-3 c κs = search needs
 
 -- a month at fault is not searched to its end
 returns-4 : tie.Need-returns-4 Inv-loop μ-loop
@@ -128,24 +92,24 @@ first-fault-spec =
     (tie.spec
     Inv-loop
     μ-loop
-    some-wrong-requires
-    unplaced-requires
+    (search needs)
+    (search needs)
     returns
-    wrong-month-requires
-    unplaced-requires-2
+    (search needs)
+    (search needs)
     returns-2
     loop-holds
     word-at-requires
-    above-limit-requires
-    stray-band-requires
-    fault-number-requires
+    (search needs)
+    (search needs)
+    (search needs)
     cast-t12
     add-t13
-    cast-t14
-    add-t15
+    (search needs)
+    (search needs)
     returns-3
-    add-place
-    loop-less
+    (search needs)
+    (search needs)
     loop-again
-    unplaced-requires-3
+    (search needs)
     returns-4)

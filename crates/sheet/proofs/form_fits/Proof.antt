@@ -20,15 +20,6 @@ of-another : (s : List ℕ) → (length s ≡ sheetLength → ⊥) → false ≡
 unfolding formFits
 of-another s n = rw (ne-eqb (length s) sheetLength n)
 
-whole-requires : tie.Need-whole-requires
-whole-requires c κs = search needs
-
-header-fits-requires : tie.Need-header-fits-requires
-header-fits-requires c κs = search needs
-
-last-words-fit-requires : tie.Need-last-words-fit-requires
-last-words-fit-requires c κs = search needs
-
 returns : tie.Need-returns
 returns c = of-length (c .before .before .before .if1 .taken) (c .before .before .whole .ensures) (c .before .header-fits .ensures) (c .last-words-fit .ensures)
 
@@ -38,4 +29,4 @@ returns-2 c = of-another (now (c .before .before .args .s)) (c .if1 .left)
 pub form-fits-spec : {M : Type 1} → statement M
 form-fits-spec =
     tie.close
-    (tie.spec whole-requires header-fits-requires last-words-fit-requires returns returns-2)
+    (tie.spec (search needs) (search needs) (search needs) returns returns-2)

@@ -7,12 +7,9 @@ use borrow.Author.Needs.{needs}
 use Rattle.sheet.proofs.injected_reading.Statement.{statement}
 use Rattle.sheet.proofs.injected_reading.Tie as tie
 
-byte-at-requires : tie.Need-byte-at-requires
-byte-at-requires c κs = search needs
-
 returns : tie.Need-returns
 unfolding injectedReading
 returns c = c .byte-at .ensures ∙ sym (number-one 7 (now (c .before .before .args .s)))
 
 pub injected-reading-spec : {M : Type 1} → statement M
-injected-reading-spec = tie.close (tie.spec byte-at-requires returns)
+injected-reading-spec = tie.close (tie.spec (search needs) returns)

@@ -20,15 +20,6 @@ abbrev μ-loop : tie.MeasureT-loop
 loop-holds : tie.Need-loop-holds Inv-loop μ-loop
 loop-holds c = (search needs, sym (all-zero (λ m. eqb (lastWord (now (c .before .args .s)) m) 0)))
 
-word-at-requires : tie.Need-word-at-requires Inv-loop μ-loop
-word-at-requires c κs = search needs
-
-add-month : tie.Need-add-month Inv-loop μ-loop
-add-month c = search needs
-
-loop-less : tie.Need-loop-less Inv-loop μ-loop
-loop-less c = search needs
-
 loop-again : tie.Need-loop-again Inv-loop μ-loop
 loop-again c =
     let l = c .before .before .loop in
@@ -45,4 +36,4 @@ returns c =
 pub last-words-fit-spec : {M : Type 1} → statement M
 last-words-fit-spec =
     tie.close
-    (tie.spec Inv-loop μ-loop loop-holds word-at-requires add-month loop-less loop-again returns)
+    (tie.spec Inv-loop μ-loop loop-holds (search needs) (search needs) (search needs) loop-again returns)

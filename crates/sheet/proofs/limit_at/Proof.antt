@@ -5,9 +5,6 @@ use borrow.Author.Needs.{needs}
 use Rattle.sheet.proofs.limit_at.Statement.{statement}
 use Rattle.sheet.proofs.limit_at.Tie as tie
 
-cast-result : tie.Need-cast-result
-cast-result c = search needs
-
 returns : tie.Need-returns
 unfolding limitAt
 returns c = rw (lt-ltb _ _ (c .if1 .taken))
@@ -17,4 +14,4 @@ unfolding limitAt
 returns-2 c = rw (le-ltb _ _ (c .if1 .left))
 
 pub limit-at-spec : {M : Type 1} → statement M
-limit-at-spec = tie.close (tie.spec cast-result returns returns-2)
+limit-at-spec = tie.close (tie.spec (search needs) returns returns-2)

@@ -7,20 +7,11 @@ use borrow.Author.Needs.{needs}
 use Rattle.sheet.proofs.month_withdrawn.Statement.{statement}
 use Rattle.sheet.proofs.month_withdrawn.Tie as tie
 
-word-at-requires : tie.Need-word-at-requires
-word-at-requires c κs = search needs
-
-word-at-requires-2 : tie.Need-word-at-requires-2
-word-at-requires-2 c κs = search needs
-
 add-bands : tie.Need-add-bands
 unfolding monthWithdrawn
 add-bands c =
     let s = c .before .before .before in
     omega (arith, c .before .word-at .ensures, c .word-at2 .ensures, month-withdrawn-capped (now (s .args .s)) (s .pre .0) (s .args .month) (s .pre .1))
-
-word-at-requires-3 : tie.Need-word-at-requires-3
-word-at-requires-3 c κs = search needs
 
 add-bands-2 : tie.Need-add-bands-2
 unfolding monthWithdrawn
@@ -35,4 +26,4 @@ returns c = cc
 pub month-withdrawn-spec : {M : Type 1} → statement M
 month-withdrawn-spec =
     tie.close
-    (tie.spec word-at-requires word-at-requires-2 add-bands word-at-requires-3 add-bands-2 returns)
+    (tie.spec (search needs) (search needs) add-bands (search needs) add-bands-2 returns)

@@ -19,15 +19,6 @@ abbrev μ-loop : tie.MeasureT-loop
 loop-holds : tie.Need-loop-holds Inv-loop μ-loop
 loop-holds c = (search needs, sym (any-zero (λ p. atFault (now (c .before .args .s)) (c .before .args .month) p)))
 
-at-fault-requires : tie.Need-at-fault-requires Inv-loop μ-loop
-at-fault-requires c κs = search needs
-
-add-place : tie.Need-add-place Inv-loop μ-loop
-add-place c = search needs
-
-loop-less : tie.Need-loop-less Inv-loop μ-loop
-loop-less c = search needs
-
 loop-again : tie.Need-loop-again Inv-loop μ-loop
 loop-again c =
     let l = c .before .before .loop in
@@ -47,8 +38,8 @@ month-wrong-spec =
     Inv-loop
     μ-loop
     loop-holds
-    at-fault-requires
-    add-place
-    loop-less
+    (search needs)
+    (search needs)
+    (search needs)
     loop-again
     returns)

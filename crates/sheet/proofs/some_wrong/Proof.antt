@@ -19,15 +19,6 @@ abbrev μ-loop : tie.MeasureT-loop
 loop-holds : tie.Need-loop-holds Inv-loop μ-loop
 loop-holds c = (search needs, sym (any-zero (λ m. anyBelow 23 (λ p. atFault (now (c .before .args .s)) m p))))
 
-month-wrong-requires : tie.Need-month-wrong-requires Inv-loop μ-loop
-month-wrong-requires c κs = search needs
-
-add-month : tie.Need-add-month Inv-loop μ-loop
-add-month c = search needs
-
-loop-less : tie.Need-loop-less Inv-loop μ-loop
-loop-less c = search needs
-
 loop-again : tie.Need-loop-again Inv-loop μ-loop
 loop-again c =
     let l = c .before .before .loop in
@@ -47,8 +38,8 @@ some-wrong-spec =
     Inv-loop
     μ-loop
     loop-holds
-    month-wrong-requires
-    add-month
-    loop-less
+    (search needs)
+    (search needs)
+    (search needs)
     loop-again
     returns)

@@ -3,11 +3,8 @@ use borrow.Author.Needs.{needs}
 use Rattle.sheet.proofs.stray_band.Statement.{statement}
 use Rattle.sheet.proofs.stray_band.Tie as tie
 
-unused-band-requires : tie.Need-unused-band-requires
-unused-band-requires c κs = search needs
-
 returns : tie.Need-returns
 returns c = cc
 
 pub stray-band-spec : {M : Type 1} → statement M
-stray-band-spec = tie.close (tie.spec unused-band-requires returns)
+stray-band-spec = tie.close (tie.spec (search needs) returns)

@@ -5,11 +5,8 @@ use borrow.Author.Needs.{needs}
 use Rattle.sheet.proofs.user.Statement.{statement}
 use Rattle.sheet.proofs.user.Tie as tie
 
-read-u32-requires : tie.Need-read-u32-requires
-read-u32-requires c κs = search needs
-
 returns : tie.Need-returns
 returns c = ap userNumber (c .read-u32 .ensures)
 
 pub user-spec : {M : Type 1} → statement M
-user-spec = tie.close (tie.spec read-u32-requires returns)
+user-spec = tie.close (tie.spec (search needs) returns)

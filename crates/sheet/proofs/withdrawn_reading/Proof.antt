@@ -7,12 +7,9 @@ use borrow.Author.Needs.{needs}
 use Rattle.sheet.proofs.withdrawn_reading.Statement.{statement}
 use Rattle.sheet.proofs.withdrawn_reading.Tie as tie
 
-byte-at-requires : tie.Need-byte-at-requires
-byte-at-requires c κs = search needs
-
 returns : tie.Need-returns
 unfolding withdrawnReading
 returns c = c .byte-at .ensures ∙ sym (number-one 6 (now (c .before .before .args .s)))
 
 pub withdrawn-reading-spec : {M : Type 1} → statement M
-withdrawn-reading-spec = tie.close (tie.spec byte-at-requires returns)
+withdrawn-reading-spec = tie.close (tie.spec (search needs) returns)

@@ -21,19 +21,10 @@ abbrev μ-loop : tie.MeasureT-loop
 loop-holds : tie.Need-loop-holds Inv-loop μ-loop
 loop-holds c = (search needs, λ m l. absurd (not-suc-le-zero l))
 
-month-wrong-requires : tie.Need-month-wrong-requires Inv-loop μ-loop
-month-wrong-requires c κs = search needs
-
 returns : tie.Need-returns Inv-loop μ-loop
 returns c =
     let l = c .before .before .before in
     record { to12 = l .loop .inv .0; none-before = l .loop .inv .1; some = λ _. sym (c .before .month-wrong .ensures) ∙ c .if1 .taken }
-
-add-month : tie.Need-add-month Inv-loop μ-loop
-add-month c = search needs
-
-loop-less : tie.Need-loop-less Inv-loop μ-loop
-loop-less c = search needs
 
 loop-again : tie.Need-loop-again Inv-loop μ-loop
 loop-again c =
@@ -55,9 +46,9 @@ wrong-month-spec =
     Inv-loop
     μ-loop
     loop-holds
-    month-wrong-requires
+    (search needs)
     returns
-    add-month
-    loop-less
+    (search needs)
+    (search needs)
     loop-again
     returns-2)

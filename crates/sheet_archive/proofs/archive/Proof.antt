@@ -6,7 +6,7 @@ use borrow.Author.Needs.{needs}
 use borrow.Author.Tests.{not-true, not-false}
 use denote.Ref.{now}
 use lib.ListN.{length}
-use Rattle.sheet_archive.specs.Tables.{line}
+use Rattle.sheet_archive.specs.Tables.{tableLine}
 use Rattle.sheet_archive.specs.Archive.{archiveOf, sheetColumns, sheetMonths}
 use Rattle.sheet_archive.proofs.Calls.{source-fits, destination-fits, refused-archive, accepted-archive, Filling, begins, goes-on, ends, archiveLines}
 use Rattle.sheet_archive.proofs.archive.Statement.{statement}
@@ -17,9 +17,6 @@ Inv-loop sheet archive₀ column₀ archive column = Filling sheetColumns sheetM
 
 abbrev μ-loop : tie.MeasureT-loop
 μ-loop sheet archive₀ column₀ archive column = sheetColumns - column
-
-sizes-fit-requires : tie.Need-sizes-fit-requires Inv-loop μ-loop
-sizes-fit-requires c κs = search needs
 
 returns : tie.Need-returns Inv-loop μ-loop
 returns c =
@@ -41,15 +38,6 @@ loop-holds c =
     (source-fits (length (now (a .sheet))) (length (now (a .archive))) fit)
     (destination-fits (length (now (a .sheet))) (length (now (a .archive))) fit) (h .kept .1 .0) (h .ensures)
 
-archive-column-requires : tie.Need-archive-column-requires Inv-loop μ-loop
-archive-column-requires c κs = search needs
-
-add-column : tie.Need-add-column Inv-loop μ-loop
-add-column c = search needs
-
-loop-less : tie.Need-loop-less Inv-loop μ-loop
-loop-less c = search needs
-
 loop-again : tie.Need-loop-again Inv-loop μ-loop
 loop-again c =
     let l = c .before .before .before .before .before .loop in
@@ -57,7 +45,7 @@ loop-again c =
     let w = c .before .before .archive-column in
     let t₀ = c .before .before .before .before .before .before .before .before .copy-header .last .1 .0 in
     goes-on sheetColumns sheetMonths (now (a .sheet)) (archiveLines (now (a .sheet))) t₀ refl (l .inv) (w .last .1 .0)
-    (line sheetMonths (archiveLines (now (a .sheet)) (l .column))) (search needs) refl (w .ensures) (w .kept .1 .0)
+    (tableLine sheetMonths (archiveLines (now (a .sheet)) (l .column))) (search needs) refl (w .ensures) (w .kept .1 .0)
 
 same-length : tie.Need-same-length Inv-loop μ-loop
 same-length c = c .before .loop .inv .same ∙ c .before .before .before .before .copy-header .kept .1 .0
@@ -78,13 +66,13 @@ archive-spec =
     (tie.spec
     Inv-loop
     μ-loop
-    sizes-fit-requires
+    (search needs)
     returns
     copy-header-requires
     loop-holds
-    archive-column-requires
-    add-column
-    loop-less
+    (search needs)
+    (search needs)
+    (search needs)
     loop-again
     same-length
     returns-2)

@@ -7,7 +7,7 @@ use borrow.Author.Needs.{needs}
 use denote.Ref.{now}
 use lib.ListN.{length}
 use Rattle.codec.specs.Bytes.{bytesOf, stored}
-use Rattle.sheet_archive.specs.Tables.{headerLength, line}
+use Rattle.sheet_archive.specs.Tables.{headerLength, tableLine}
 use Rattle.sheet_archive.specs.Archive.{differences, inSheet, sheetColumns, sheetMonths}
 use Rattle.sheet_archive.specs.InnerSteps.{columnPlace, before}
 use Rattle.sheet_archive.proofs.Columns.{before-next, difference-worked}
@@ -20,7 +20,7 @@ abbrev less : List ℕ → ℕ → ℕ → ℕ
 less s column = differences (inSheet sheetColumns s column)
 
 first-stored : (s a a₀ : List ℕ) (column place n : ℕ) → columnPlace column + 4 ≤ length a → a₀ ≡ stored place (bytesOf 4 n) a
-    → place ≡ headerLength + 4 * (sheetMonths * column + 0) → n ≡ inSheet sheetColumns s column 0 → a₀ ≡ stored (columnPlace column) (line 1 (less s column)) a
+    → place ≡ headerLength + 4 * (sheetMonths * column + 0) → n ≡ inSheet sheetColumns s column 0 → a₀ ≡ stored (columnPlace column) (tableLine 1 (less s column)) a
 unfolding differences
 first-stored s a a₀ column place n room e p v =
     e ∙ line-next (columnPlace column) (less s column) a 0 a place n (omega arith) (line-begun (columnPlace column) (less s column) a) (omega arith) v
@@ -30,22 +30,13 @@ record Archiving (sheet before₀ : List ℕ) (column : ℕ) (archive : List ℕ
   pub within : month ≤ sheetMonths
   pub carried : last ≡ before (inSheet sheetColumns sheet column) month
   pub same : length archive ≡ length before₀
-  pub written : archive ≡ stored (columnPlace column) (line month (less sheet column)) before₀
+  pub written : archive ≡ stored (columnPlace column) (tableLine month (less sheet column)) before₀
 
 abbrev Inv-loop : tie.InvT-loop
 Inv-loop sheet archive₀ column last₀ month₀ archive last month = Archiving sheet archive₀ column archive last month
 
 abbrev μ-loop : tie.MeasureT-loop
 μ-loop sheet archive₀ column last₀ month₀ archive last month = sheetMonths - month
-
-in-sheet-requires : tie.Need-in-sheet-requires Inv-loop μ-loop
-in-sheet-requires c κs = search needs
-
-archive-place-requires : tie.Need-archive-place-requires Inv-loop μ-loop
-archive-place-requires c κs = search needs
-
-store-u32-requires : tie.Need-store-u32-requires Inv-loop μ-loop
-store-u32-requires c κs = search needs
 
 loop-holds : tie.Need-loop-holds Inv-loop μ-loop
 loop-holds c =
@@ -60,24 +51,6 @@ loop-holds c =
       same = search needs;
       written = first ∙ sym (line-again (columnPlace (a .column)) (less (now (a .sheet)) (a .column)) (w .last .0) 1 1 (now (a .archive)) (omega arith) (omega arith) first);
     }
-
-in-sheet-requires-2 : tie.Need-in-sheet-requires-2 Inv-loop μ-loop
-in-sheet-requires-2 c κs = search needs
-
-archive-place-requires-2 : tie.Need-archive-place-requires-2 Inv-loop μ-loop
-archive-place-requires-2 c κs = search needs
-
-difference-requires : tie.Need-difference-requires Inv-loop μ-loop
-difference-requires c κs = search needs
-
-store-u32-requires-2 : tie.Need-store-u32-requires-2 Inv-loop μ-loop
-store-u32-requires-2 c κs = search needs
-
-add-month : tie.Need-add-month Inv-loop μ-loop
-add-month c = search needs
-
-loop-less : tie.Need-loop-less Inv-loop μ-loop
-loop-less c = search needs
 
 loop-again : tie.Need-loop-again Inv-loop μ-loop
 loop-again c =
@@ -100,9 +73,6 @@ loop-again c =
           (difference-worked column (l .month) (search needs) (number .ensures) (l .inv .carried) (worked .ensures));
     }
 
-same-length : tie.Need-same-length Inv-loop μ-loop
-same-length c = search needs
-
 returns : tie.Need-returns Inv-loop μ-loop
 returns c =
     let l = c .before .loop in
@@ -121,16 +91,16 @@ archive-column-spec =
     (tie.spec
     Inv-loop
     μ-loop
-    in-sheet-requires
-    archive-place-requires
-    store-u32-requires
+    (search needs)
+    (search needs)
+    (search needs)
     loop-holds
-    in-sheet-requires-2
-    archive-place-requires-2
-    difference-requires
-    store-u32-requires-2
-    add-month
-    loop-less
+    (search needs)
+    (search needs)
+    (search needs)
+    (search needs)
+    (search needs)
+    (search needs)
     loop-again
-    same-length
+    (λ c. search needs)
     returns)

@@ -4,11 +4,8 @@ use borrow.Author.Needs.{needs}
 use Rattle.sheet_archive.proofs.difference.Statement.{statement}
 use Rattle.sheet_archive.proofs.difference.Tie as tie
 
-wrapping-sub-u32-requires : tie.Need-wrapping-sub-u32-requires
-wrapping-sub-u32-requires c κs = search needs
-
 returns : tie.Need-returns
 returns c = omega arith
 
 pub difference-spec : {M : Type 1} → statement M
-difference-spec = tie.close (tie.spec wrapping-sub-u32-requires returns)
+difference-spec = tie.close (tie.spec (search needs) returns)

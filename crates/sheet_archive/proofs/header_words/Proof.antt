@@ -20,24 +20,6 @@ abbrev μ-loop : tie.MeasureT-loop
 loop-holds : tie.Need-loop-holds Inv-loop μ-loop
 loop-holds c = record { within = search needs; long = refl; filled = λ m l. absurd (not-suc-le-zero l) }
 
-mul-load-u32 : tie.Need-mul-load-u32 Inv-loop μ-loop
-mul-load-u32 c = search needs
-
-load-u32-requires : tie.Need-load-u32-requires Inv-loop μ-loop
-load-u32-requires c κs = search needs
-
-mul-words : tie.Need-mul-words Inv-loop μ-loop
-mul-words c = search needs
-
-array-write-words : tie.Need-array-write-words Inv-loop μ-loop
-array-write-words c = search needs
-
-add-k : tie.Need-add-k Inv-loop μ-loop
-add-k c = search needs
-
-loop-less : tie.Need-loop-less Inv-loop μ-loop
-loop-less c = search needs
-
 loop-again : tie.Need-loop-again Inv-loop μ-loop
 loop-again c =
     let l = c .before .before .loop in
@@ -62,11 +44,11 @@ header-words-spec =
     Inv-loop
     μ-loop
     loop-holds
-    mul-load-u32
-    load-u32-requires
-    mul-words
-    array-write-words
-    add-k
-    loop-less
+    (search needs)
+    (search needs)
+    (search needs)
+    (search needs)
+    (search needs)
+    (search needs)
     loop-again
     returns)

@@ -8,12 +8,6 @@ use Rattle.sheet_archive.specs.Tables.{numberIn}
 use Rattle.sheet_archive.proofs.in_archive.Statement.{statement}
 use Rattle.sheet_archive.proofs.in_archive.Tie as tie
 
-archive-place-requires : tie.Need-archive-place-requires
-archive-place-requires c κs = search needs
-
-load-u32-requires : tie.Need-load-u32-requires
-load-u32-requires c κs = search needs
-
 returns : tie.Need-returns
 unfolding numberIn
 returns c =
@@ -21,4 +15,4 @@ returns c =
     c .load-u32 .ensures ∙ ap (λ (at : ℕ). number 4 at (now s)) (c .before .archive-place .ensures)
 
 pub in-archive-spec : {M : Type 1} → statement M
-in-archive-spec = tie.close (tie.spec archive-place-requires load-u32-requires returns)
+in-archive-spec = tie.close (tie.spec (search needs) (search needs) returns)

@@ -27,9 +27,6 @@ Inv-loop archive sheet₀ four₀ sheet four = FoursRestored archive sheet₀ sh
 abbrev μ-loop : tie.MeasureT-loop
 μ-loop archive sheet₀ four₀ sheet four = 6 - four
 
-sizes-fit-requires : tie.Need-sizes-fit-requires Inv-loop μ-loop
-sizes-fit-requires c κs = search needs
-
 returns : tie.Need-returns Inv-loop μ-loop
 returns c =
     let a = c .before .before .before .before .args in
@@ -54,18 +51,6 @@ loop-holds c =
       same = refl;
       restored = restored-none (now (a .archive)) (h .last .1 .0) (now (a .sheet)) long (h .kept .1 .0 ∙ long₀) (h .ensures);
     }
-
-mul-restore-four : tie.Need-mul-restore-four Inv-loop μ-loop
-mul-restore-four c = search needs
-
-restore-four-requires : tie.Need-restore-four-requires Inv-loop μ-loop
-restore-four-requires c κs = search needs
-
-add-four : tie.Need-add-four Inv-loop μ-loop
-add-four c = search needs
-
-loop-less : tie.Need-loop-less Inv-loop μ-loop
-loop-less c = search needs
 
 loop-again : tie.Need-loop-again Inv-loop μ-loop
 loop-again c =
@@ -93,14 +78,14 @@ restore-spec =
     (tie.spec
     Inv-loop
     μ-loop
-    sizes-fit-requires
+    (search needs)
     returns
     copy-header-requires
     loop-holds
-    mul-restore-four
-    restore-four-requires
-    add-four
-    loop-less
+    (search needs)
+    (λ c κs. search needs)
+    (search needs)
+    (search needs)
     loop-again
     same-length
     returns-2)

@@ -33,18 +33,6 @@ loop-holds c =
     let begun = c .before .before .pre .1 in
     record { within = search needs; same = refl; long = begun .long; held = carried-none _ _; restored = begun }
 
-next-four-requires : tie.Need-next-four-requires Inv-loop μ-loop
-next-four-requires c κs = search needs
-
-store-four-requires : tie.Need-store-four-requires Inv-loop μ-loop
-store-four-requires c κs = search needs
-
-add-month : tie.Need-add-month Inv-loop μ-loop
-add-month c = search needs
-
-loop-less : tie.Need-loop-less Inv-loop μ-loop
-loop-less c = search needs
-
 loop-again : tie.Need-loop-again Inv-loop μ-loop
 loop-again c =
     let w = c .before .before .store-four in
@@ -61,9 +49,6 @@ loop-again c =
           (month-stored (now (a .archive)) (l .sheet) (a .column) (l .month) (n .result) (search needs) (search needs) worked (l .inv .restored));
     }
 
-same-length : tie.Need-same-length Inv-loop μ-loop
-same-length c = search needs
-
 returns : tie.Need-returns Inv-loop μ-loop
 returns c =
     let l = c .before .loop in
@@ -78,10 +63,10 @@ restore-four-spec =
     Inv-loop
     μ-loop
     loop-holds
-    next-four-requires
-    store-four-requires
-    add-month
-    loop-less
+    (search needs)
+    (search needs)
+    (search needs)
+    (search needs)
     loop-again
-    same-length
+    (λ c. search needs)
     returns)

@@ -7,9 +7,6 @@ use Rattle.units.proofs.Products.{product-fits}
 use Rattle.sheet_losses.proofs.divide.Statement.{statement}
 use Rattle.sheet_losses.proofs.divide.Tie as tie
 
-add-thousandths : tie.Need-add-thousandths
-add-thousandths c = search needs
-
 mul-thousandths : tie.Need-mul-thousandths
 mul-thousandths c = record { fits = product-fits 64 4294967295 1200 (omega arith) (omega arith) tt }
 
@@ -19,12 +16,9 @@ add-thousandths-2 c =
     let capped : a .reading * (1000 + a .factor) ≤ 4294967295 * 1200 = mul-le-mul {n₂ = 4294967295} {m₂ = 1200} (omega arith) (omega arith) in
     record { fits = omega arith }
 
-cast-passed : tie.Need-cast-passed
-cast-passed c = search needs
-
 returns : tie.Need-returns
 returns c = search needs
 
 pub divide-spec : {M : Type 1} → statement M
 divide-spec =
-    tie.close (tie.spec add-thousandths mul-thousandths add-thousandths-2 cast-passed returns)
+    tie.close (tie.spec (search needs) mul-thousandths add-thousandths-2 (search needs) returns)

@@ -9,17 +9,11 @@ use Rattle.sheet_losses.proofs.Months.{first-is-first, first-is-second,
 use Rattle.sheet_losses.proofs.first_above.Statement.{statement}
 use Rattle.sheet_losses.proofs.first_above.Tie as tie
 
-above-requires : tie.Need-above-requires
-above-requires c κs = search needs
-
 returns : tie.Need-returns
 unfolding byBand
 returns c =
     let b = c .before .before .args .b in
     record { within = omega arith; first = first-is-first (λ band. ltb maxKwh (inWide b band)) (sym (c .before .above .ensures) ∙ c .if1 .taken) }
-
-above-requires-2 : tie.Need-above-requires-2
-above-requires-2 c κs = search needs
 
 returns-2 : tie.Need-returns-2
 unfolding byBand
@@ -40,4 +34,4 @@ returns-3 c =
     }
 
 pub first-above-spec : {M : Type 1} → statement M
-first-above-spec = tie.close (tie.spec above-requires returns above-requires-2 returns-2 returns-3)
+first-above-spec = tie.close (tie.spec (search needs) returns (search needs) returns-2 returns-3)

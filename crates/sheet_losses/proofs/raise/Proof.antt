@@ -7,12 +7,6 @@ use Rattle.sheet_losses.proofs.Calls.{refused-call, long-enough, accept
 use Rattle.sheet_losses.proofs.raise.Statement.{statement}
 use Rattle.sheet_losses.proofs.raise.Tie as tie
 
-work-requires : tie.Need-work-requires
-work-requires c κs = search needs
-
-same-length : tie.Need-same-length
-same-length c = search needs
-
 returns : tie.Need-returns
 returns c =
     let worked = c .before .before .before in
@@ -37,10 +31,7 @@ write-year-requires c κs =
     let accepted : worked .work .result .answer .refusal ≡ 0 = omega (arith, else .if1 .left) in
     long-enough (a .factor) (now (a .sheet)) (worked .work .ensures) accepted
 
-same-length-2 : tie.Need-same-length-2
-same-length-2 c = search needs
-
 pub raise-spec : {M : Type 1} → statement M
 raise-spec =
     tie.close
-    (tie.spec work-requires same-length returns write-year-requires same-length-2 returns-2)
+    (tie.spec (search needs) (λ c. search needs) returns write-year-requires (λ c. search needs) returns-2)

@@ -9,21 +9,6 @@ use Rattle.sheet_losses.proofs.Months.{rest-below, band-raised, band-pa
 use Rattle.sheet_losses.proofs.raised_month.Statement.{statement}
 use Rattle.sheet_losses.proofs.raised_month.Tie as tie
 
-number-at-requires : tie.Need-number-at-requires
-number-at-requires c κs = search needs
-
-add-number-at : tie.Need-add-number-at
-add-number-at c = search needs
-
-number-at-requires-2 : tie.Need-number-at-requires-2
-number-at-requires-2 c κs = search needs
-
-add-number-at-2 : tie.Need-add-number-at-2
-add-number-at-2 c = search needs
-
-number-at-requires-3 : tie.Need-number-at-requires-3
-number-at-requires-3 c κs = search needs
-
 divide-requires : tie.Need-divide-requires
 divide-requires c κs =
     let start = c .before .before .before .before in
@@ -44,15 +29,6 @@ divide-requires-3 c κs =
     let a = start .args in
     let rest = ap (λ (r : Rests). r .third) (start .pre .1 .1) in
     (search needs, omega (arith, rest, rest-below (a .factor) (bandOf (now (a .sheet)) 2) (a .month)))
-
-above-requires : tie.Need-above-requires
-above-requires c κs = search needs
-
-above-requires-2 : tie.Need-above-requires-2
-above-requires-2 c κs = search needs
-
-above-requires-3 : tie.Need-above-requires-3
-above-requires-3 c κs = search needs
 
 returns : tie.Need-returns
 returns c =
@@ -84,15 +60,15 @@ pub raised-month-spec : {M : Type 1} → statement M
 raised-month-spec =
     tie.close
     (tie.spec
-    number-at-requires
-    add-number-at
-    number-at-requires-2
-    add-number-at-2
-    number-at-requires-3
+    (search needs)
+    (search needs)
+    (search needs)
+    (search needs)
+    (search needs)
     divide-requires
     divide-requires-2
     divide-requires-3
-    above-requires
-    above-requires-2
-    above-requires-3
+    (search needs)
+    (search needs)
+    (search needs)
     returns)

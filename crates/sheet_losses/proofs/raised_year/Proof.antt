@@ -17,18 +17,6 @@ abbrev μ-loop : tie.MeasureT-loop
 loop-holds : tie.Need-loop-holds Inv-loop μ-loop
 loop-holds c = let a = c .before .args in begins (a .factor) (now (a .sheet))
 
-raised-month-requires : tie.Need-raised-month-requires Inv-loop μ-loop
-raised-month-requires c κs = search needs
-
-first-above-requires : tie.Need-first-above-requires Inv-loop μ-loop
-first-above-requires c κs = search needs
-
-position-of-requires : tie.Need-position-of-requires Inv-loop μ-loop
-position-of-requires c κs = search needs
-
-refused-requires : tie.Need-refused-requires Inv-loop μ-loop
-refused-requires c κs = search needs
-
 returns : tie.Need-returns Inv-loop μ-loop
 returns c =
     let worked = c .before .before .before .before .before in
@@ -44,18 +32,6 @@ narrowed-requires c κs =
     let a = worked .before .before .before .before .args in
     let said = worked .raised-month .ensures in
     bands-within (a .factor) (now (a .sheet)) (worked .before .before .loop .month) (said .bands) (sym (said .over) ∙ c .if1 .left)
-
-mul-months : tie.Need-mul-months Inv-loop μ-loop
-mul-months c = search needs
-
-array-set-from-months : tie.Need-array-set-from-months Inv-loop μ-loop
-array-set-from-months c = search needs
-
-add-month : tie.Need-add-month Inv-loop μ-loop
-add-month c = search needs
-
-loop-less : tie.Need-loop-less Inv-loop μ-loop
-loop-less c = search needs
 
 loop-again : tie.Need-loop-again Inv-loop μ-loop
 loop-again c =
@@ -78,15 +54,15 @@ raised-year-spec =
     Inv-loop
     μ-loop
     loop-holds
-    raised-month-requires
-    first-above-requires
-    position-of-requires
-    refused-requires
+    (λ c κs. search needs)
+    (search needs)
+    (search needs)
+    (search needs)
     returns
     narrowed-requires
-    mul-months
-    array-set-from-months
-    add-month
-    loop-less
+    (search needs)
+    (search needs)
+    (search needs)
+    (search needs)
     loop-again
     returns-2)

@@ -8,20 +8,11 @@ use Rattle.sheet_losses.proofs.Years.{wrong-sheet, larger-factor, neith
 use Rattle.sheet_losses.proofs.work.Statement.{statement}
 use Rattle.sheet_losses.proofs.work.Tie as tie
 
-form-fits-requires : tie.Need-form-fits-requires
-form-fits-requires c κs = search needs
-
-refused-requires : tie.Need-refused-requires
-refused-requires c κs = search needs
-
 returns : tie.Need-returns
 returns c =
     let a = c .before .before .before .before .args in
     let fits = sym (c .before .before .form-fits .ensures) ∙ not-true _ (c .before .if1 .taken) in
     wrong-sheet (a .factor) (now (a .sheet)) fits (c .refused .ensures)
-
-refused-requires-2 : tie.Need-refused-requires-2
-refused-requires-2 c κs = search needs
 
 returns-2 : tie.Need-returns-2
 returns-2 c =
@@ -45,10 +36,10 @@ pub work-spec : {M : Type 1} → statement M
 work-spec =
     tie.close
     (tie.spec
-    form-fits-requires
-    refused-requires
+    (search needs)
+    (search needs)
     returns
-    refused-requires-2
+    (search needs)
     returns-2
     raised-year-requires
     returns-3)

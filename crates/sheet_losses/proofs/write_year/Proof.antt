@@ -22,21 +22,6 @@ loop-holds c =
     let a = c .before .args in
     record { within = search needs; same = refl; written = none-written (readingsIn (a .t2)) (now (a .sheet)) }
 
-mul-raised : tie.Need-mul-raised Inv-loop μ-loop
-mul-raised c = search needs
-
-array-copy-out-raised : tie.Need-array-copy-out-raised Inv-loop μ-loop
-array-copy-out-raised c = search needs
-
-store-month-requires : tie.Need-store-month-requires Inv-loop μ-loop
-store-month-requires c κs = search needs
-
-add-month : tie.Need-add-month Inv-loop μ-loop
-add-month c = search needs
-
-loop-less : tie.Need-loop-less Inv-loop μ-loop
-loop-less c = search needs
-
 loop-again : tie.Need-loop-again Inv-loop μ-loop
 loop-again c =
     let w = c .before .before .store-month in
@@ -47,9 +32,6 @@ loop-again c =
       same = omega (arith, w .kept .0);
       written = next-written (readingsIn (a .t2)) (now (a .sheet)) (l .month) (l .sheet) (w .last .0) (l .inv .written) (w .ensures);
     }
-
-same-length : tie.Need-same-length Inv-loop μ-loop
-same-length c = search needs
 
 returns : tie.Need-returns Inv-loop μ-loop
 returns c =
@@ -64,11 +46,11 @@ write-year-spec =
     Inv-loop
     μ-loop
     loop-holds
-    mul-raised
-    array-copy-out-raised
-    store-month-requires
-    add-month
-    loop-less
+    (search needs)
+    (search needs)
+    (search needs)
+    (search needs)
+    (search needs)
     loop-again
-    same-length
+    (λ c. search needs)
     returns)

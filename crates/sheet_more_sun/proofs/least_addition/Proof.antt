@@ -15,23 +15,11 @@ returns-2 c =
     let h = c .before .before .before .before .before in
     worth-nothing (h .args .cost .0) (h .args .value .0) (h .args .price .0) (h .args .field .0) (h .pre) (omega arith) (omega arith)
 
-sub-if3 : tie.Need-sub-if3
-sub-if3 c = search needs
-
-worth-requires : tie.Need-worth-requires
-worth-requires c κs = search needs
-
-room-in-requires : tie.Need-room-in-requires
-room-in-requires c κs = search needs
-
 returns-3 : tie.Need-returns-3
 returns-3 c =
     let h = c .before .before .before .before .before .before .before .before .before .before .before in
     let w = c .before .before .before .worth in
     past-the-limit (h .args .cost .0) (h .args .value .0) (h .args .price .0) (h .args .field .0) (h .pre) (omega arith) (w .result .0) (w .ensures) (omega arith)
-
-cast-t10 : tie.Need-cast-t10
-cast-t10 c = search needs
 
 returns-4 : tie.Need-returns-4
 returns-4 c =
@@ -45,9 +33,9 @@ least-addition-spec =
     (tie.spec
     returns
     returns-2
-    sub-if3
-    worth-requires
-    room-in-requires
+    (search needs)
+    (search needs)
+    (search needs)
     returns-3
-    cast-t10
+    (search needs)
     returns-4)

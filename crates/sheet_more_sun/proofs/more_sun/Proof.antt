@@ -7,22 +7,10 @@ use borrow.Author.Needs.{needs}
 use Rattle.sheet_more_sun.proofs.more_sun.Statement.{statement}
 use Rattle.sheet_more_sun.proofs.more_sun.Tie as tie
 
-price-of-requires : tie.Need-price-of-requires
-price-of-requires c κs = search needs
-
-add-number-at : tie.Need-add-number-at
-add-number-at c = search needs
-
 number-at-requires : tie.Need-number-at-requires
 number-at-requires c κs =
     let h = c .before .before in
     (passed-length (now (h .args .s)) (h .pre .0 .past11), (h .pre .1 .month, omega (arith, h .pre .1 .band-to-3)))
-
-cost-requires : tie.Need-cost-requires
-cost-requires c κs = search needs
-
-value-requires : tie.Need-value-requires
-value-requires c κs = search needs
 
 least-addition-requires : tie.Need-least-addition-requires
 least-addition-requires c κs =
@@ -49,10 +37,10 @@ pub more-sun-spec : {M : Type 1} → statement M
 more-sun-spec =
     tie.close
     (tie.spec
-    price-of-requires
-    add-number-at
+    (λ c κs. search needs)
+    (search needs)
     number-at-requires
-    cost-requires
-    value-requires
+    (λ c κs. search needs)
+    (λ c κs. search needs)
     least-addition-requires
     returns)

@@ -6,19 +6,10 @@ use borrow.Author.Needs.{needs}
 use Rattle.sheet_more_sun.proofs.price_of.Statement.{statement}
 use Rattle.sheet_more_sun.proofs.price_of.Tie as tie
 
-injected-reading-requires : tie.Need-injected-reading-requires
-injected-reading-requires c κs = search needs
-
 price-row-requires : tie.Need-price-row-requires
 price-row-requires c κs =
     let h = c .before .before .before .before in
     (passed-length (now (h .args .s)) (h .pre .0 .past11), h .pre .1 .month)
-
-mul-result : tie.Need-mul-result
-mul-result c = search needs
-
-array-copy-out-result : tie.Need-array-copy-out-result
-array-copy-out-result c = search needs
 
 returns : tie.Need-returns
 returns c =
@@ -31,8 +22,8 @@ pub price-of-spec : {M : Type 1} → statement M
 price-of-spec =
     tie.close
     (tie.spec
-    injected-reading-requires
+    (search needs)
     price-row-requires
-    mul-result
-    array-copy-out-result
+    (search needs)
+    (search needs)
     returns)

@@ -13,9 +13,6 @@ use borrow.Author.Needs.{needs}
 use Rattle.sheet_prices.proofs.cost.Statement.{statement}
 use Rattle.sheet_prices.proofs.cost.Tie as tie
 
-withdrawn-reading-requires : tie.Need-withdrawn-reading-requires
-withdrawn-reading-requires c κs = search needs
-
 energies-requires : tie.Need-energies-requires
 energies-requires c κs =
     let a = c .before .before in
@@ -50,7 +47,7 @@ pub cost-spec : {M : Type 1} → statement M
 cost-spec =
     tie.close
     (tie.spec
-    withdrawn-reading-requires
+    (search needs)
     energies-requires
     prices-requires
     year-value-requires

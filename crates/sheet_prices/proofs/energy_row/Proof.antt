@@ -3,21 +3,6 @@ use borrow.Author.Needs.{needs}
 use Rattle.sheet_prices.proofs.energy_row.Statement.{statement}
 use Rattle.sheet_prices.proofs.energy_row.Tie as tie
 
-number-at-requires : tie.Need-number-at-requires
-number-at-requires c κs = search needs
-
-add-number-at : tie.Need-add-number-at
-add-number-at c = search needs
-
-number-at-requires-2 : tie.Need-number-at-requires-2
-number-at-requires-2 c κs = search needs
-
-add-number-at-2 : tie.Need-add-number-at-2
-add-number-at-2 c = search needs
-
-number-at-requires-3 : tie.Need-number-at-requires-3
-number-at-requires-3 c κs = search needs
-
 returns : tie.Need-returns
 returns c = cc
 
@@ -25,9 +10,9 @@ pub energy-row-spec : {M : Type 1} → statement M
 energy-row-spec =
     tie.close
     (tie.spec
-    number-at-requires
-    add-number-at
-    number-at-requires-2
-    add-number-at-2
-    number-at-requires-3
+    (search needs)
+    (search needs)
+    (search needs)
+    (search needs)
+    (search needs)
     returns)

@@ -5,57 +5,6 @@ use borrow.Author.Needs.{needs}
 use Rattle.sheet_prices.proofs.price_row.Statement.{statement}
 use Rattle.sheet_prices.proofs.price_row.Tie as tie
 
-mul-from : tie.Need-mul-from
-mul-from c = search needs
-
-add-from : tie.Need-add-from
-add-from c = search needs
-
-add-from-2 : tie.Need-add-from-2
-add-from-2 c = search needs
-
-add-middle : tie.Need-add-middle
-add-middle c = search needs
-
-add-to : tie.Need-add-to
-add-to c = search needs
-
-sub-pun : tie.Need-sub-pun
-sub-pun c = search needs
-
-part-pun-start : tie.Need-part-pun-start
-part-pun-start c = search needs
-
-part-pun-end : tie.Need-part-pun-end
-part-pun-end c = search needs
-
-sub-zone : tie.Need-sub-zone
-sub-zone c = search needs
-
-part-zone-start : tie.Need-part-zone-start
-part-zone-start c = search needs
-
-part-zone-end : tie.Need-part-zone-end
-part-zone-end c = search needs
-
-band-part-requires : tie.Need-band-part-requires
-band-part-requires c κs = search needs
-
-rate-at-requires : tie.Need-rate-at-requires
-rate-at-requires c κs = search needs
-
-rate-at-requires-2 : tie.Need-rate-at-requires-2
-rate-at-requires-2 c κs = search needs
-
-rate-at-requires-3 : tie.Need-rate-at-requires-3
-rate-at-requires-3 c κs = search needs
-
-single-part-requires : tie.Need-single-part-requires
-single-part-requires c κs = search needs
-
-rate-at-requires-4 : tie.Need-rate-at-requires-4
-rate-at-requires-4 c κs = search needs
-
 returns : tie.Need-returns
 returns c =
     let a = c .before .before .before .before .before .before .before .before .args in
@@ -76,22 +25,22 @@ pub price-row-spec : {M : Type 1} → statement M
 price-row-spec =
     tie.close
     (tie.spec
-    mul-from
-    add-from
-    add-from-2
-    add-middle
-    add-to
-    sub-pun
-    part-pun-start
-    part-pun-end
-    sub-zone
-    part-zone-start
-    part-zone-end
-    band-part-requires
-    rate-at-requires
-    rate-at-requires-2
-    rate-at-requires-3
-    single-part-requires
-    rate-at-requires-4
+    (search needs)
+    (search needs)
+    (search needs)
+    (search needs)
+    (search needs)
+    (search needs)
+    (search needs)
+    (search needs)
+    (search needs)
+    (search needs)
+    (search needs)
+    (search needs)
+    (search needs)
+    (search needs)
+    (search needs)
+    (search needs)
+    (search needs)
     returns
     returns-2)

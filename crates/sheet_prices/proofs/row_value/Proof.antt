@@ -9,33 +9,6 @@ use borrow.Author.Needs.{needs}
 use Rattle.sheet_prices.proofs.row_value.Statement.{statement}
 use Rattle.sheet_prices.proofs.row_value.Tie as tie
 
-array-copy-out-priced : tie.Need-array-copy-out-priced
-array-copy-out-priced c = search needs
-
-array-copy-out-priced-2 : tie.Need-array-copy-out-priced-2
-array-copy-out-priced-2 c = search needs
-
-priced-requires : tie.Need-priced-requires
-priced-requires c κs = search needs
-
-array-copy-out-priced-3 : tie.Need-array-copy-out-priced-3
-array-copy-out-priced-3 c = search needs
-
-array-copy-out-priced-4 : tie.Need-array-copy-out-priced-4
-array-copy-out-priced-4 c = search needs
-
-priced-requires-2 : tie.Need-priced-requires-2
-priced-requires-2 c κs = search needs
-
-array-copy-out-priced-5 : tie.Need-array-copy-out-priced-5
-array-copy-out-priced-5 c = search needs
-
-array-copy-out-priced-6 : tie.Need-array-copy-out-priced-6
-array-copy-out-priced-6 c = search needs
-
-priced-requires-3 : tie.Need-priced-requires-3
-priced-requires-3 c κs = search needs
-
 add-t22 : tie.Need-add-t22
 add-t22 c =
     let h = c .before .before .before .before .before .before .before .before .before .before .before .pre in
@@ -61,15 +34,15 @@ pub row-value-spec : {M : Type 1} → statement M
 row-value-spec =
     tie.close
     (tie.spec
-    array-copy-out-priced
-    array-copy-out-priced-2
-    priced-requires
-    array-copy-out-priced-3
-    array-copy-out-priced-4
-    priced-requires-2
-    array-copy-out-priced-5
-    array-copy-out-priced-6
-    priced-requires-3
+    (search needs)
+    (search needs)
+    (search needs)
+    (search needs)
+    (search needs)
+    (search needs)
+    (search needs)
+    (search needs)
+    (search needs)
     add-t22
     add-t23
     returns)

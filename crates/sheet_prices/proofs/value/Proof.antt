@@ -12,9 +12,6 @@ use borrow.Author.Needs.{needs}
 use Rattle.sheet_prices.proofs.value.Statement.{statement}
 use Rattle.sheet_prices.proofs.value.Tie as tie
 
-injected-reading-requires : tie.Need-injected-reading-requires
-injected-reading-requires c κs = search needs
-
 energies-requires : tie.Need-energies-requires
 energies-requires c κs =
     let a = c .before .before in
@@ -49,7 +46,7 @@ pub value-spec : {M : Type 1} → statement M
 value-spec =
     tie.close
     (tie.spec
-    injected-reading-requires
+    (search needs)
     energies-requires
     prices-requires
     year-value-requires

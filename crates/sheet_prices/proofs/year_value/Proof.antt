@@ -28,29 +28,8 @@ loop-holds c = record {
   sums = sym (sum-zero (λ m. rowValue (getD (c .args .t1) m []) (getD (c .args .t2) m [])));
 }
 
-mul-row-value : tie.Need-mul-row-value Inv-loop μ-loop
-mul-row-value c = search needs
-
-array-copy-out-row-value : tie.Need-array-copy-out-row-value Inv-loop μ-loop
-array-copy-out-row-value c = search needs
-
-mul-row-value-2 : tie.Need-mul-row-value-2 Inv-loop μ-loop
-mul-row-value-2 c = search needs
-
-array-copy-out-row-value-2 : tie.Need-array-copy-out-row-value-2 Inv-loop μ-loop
-array-copy-out-row-value-2 c = search needs
-
 row-value-requires : tie.Need-row-value-requires Inv-loop μ-loop
 row-value-requires c κs = c .before .before .before .before .pre (c .before .before .before .loop .month) (search needs)
-
-add-sum : tie.Need-add-sum Inv-loop μ-loop
-add-sum c = search needs
-
-add-month : tie.Need-add-month Inv-loop μ-loop
-add-month c = search needs
-
-loop-less : tie.Need-loop-less Inv-loop μ-loop
-loop-less c = search needs
 
 loop-again : tie.Need-loop-again Inv-loop μ-loop
 loop-again c =
@@ -80,13 +59,13 @@ year-value-spec =
     Inv-loop
     μ-loop
     loop-holds
-    mul-row-value
-    array-copy-out-row-value
-    mul-row-value-2
-    array-copy-out-row-value-2
+    (search needs)
+    (search needs)
+    (search needs)
+    (search needs)
     row-value-requires
-    add-sum
-    add-month
-    loop-less
+    (search needs)
+    (search needs)
+    (search needs)
     loop-again
     returns)

@@ -4,31 +4,25 @@ use mathlib.Core.Path.{_≡_, refl, ap, _∙_}
 use native.Mathlib.Omega.{arith}
 use borrow.Author.Needs.{needs}
 use denote.Ref.{now}
-use Rattle.sheet_text.specs.Lines.{months, places}
+use Rattle.sheet_text.specs.Lines.{months, readings}
 use Rattle.sheet_text.specs.Reading.{monthFilled, monthsFilled}
-use Rattle.sheet_text.specs.InnerSteps.{yearOf}
+use Rattle.sheet_text.specs.InnerSteps.{kwhOfYear}
 use Rattle.sheet_text.proofs.Filling.{months-none, months-next}
 use Rattle.units.proofs.Filled.{Written}
 use Rattle.sheet_text.proofs.fill.Statement.{statement}
 use Rattle.sheet_text.proofs.fill.Tie as tie
 
 abbrev Inv-loop : tie.InvT-loop
-Inv-loop sheet₀ year month₀ sheet month = Written months month sheet₀ sheet (monthsFilled (yearOf year) month sheet₀)
+Inv-loop sheet₀ year month₀ sheet month = Written months month sheet₀ sheet (monthsFilled (kwhOfYear year) month sheet₀)
 
 abbrev μ-loop : tie.MeasureT-loop
 μ-loop sheet₀ year month₀ sheet month = months - month
 
 loop-holds : tie.Need-loop-holds Inv-loop μ-loop
-loop-holds c = record { within = search needs; same = refl; written = months-none (yearOf (c .before .args .year)) (now (c .before .args .sheet)) }
+loop-holds c = record { within = search needs; same = refl; written = months-none (kwhOfYear (c .before .args .year)) (now (c .before .args .sheet)) }
 
 fill-month-requires : tie.Need-fill-month-requires Inv-loop μ-loop
 fill-month-requires c κs = (omega (arith, c .before .before .loop .inv .same), omega arith)
-
-add-month : tie.Need-add-month Inv-loop μ-loop
-add-month c = search needs
-
-loop-less : tie.Need-loop-less Inv-loop μ-loop
-loop-less c = search needs
 
 loop-again : tie.Need-loop-again Inv-loop μ-loop
 loop-again c =
@@ -38,8 +32,8 @@ loop-again c =
       within = search needs;
       same = put .kept .0 ∙ l .inv .same;
       written = put .ensures
-          ∙ ap (monthFilled (yearOf (a .year) (l .month)) (l .month) places) (l .inv .written)
-          ∙ months-next (yearOf (a .year)) (now (a .sheet)) (l .month);
+          ∙ ap (monthFilled (kwhOfYear (a .year) (l .month)) (l .month) readings) (l .inv .written)
+          ∙ months-next (kwhOfYear (a .year)) (now (a .sheet)) (l .month);
     }
 
 same-length : tie.Need-same-length Inv-loop μ-loop
@@ -50,7 +44,7 @@ returns c =
     let l = c .before .loop in
     let a = c .before .before .before .args in
     let end : l .month ≡ months = omega arith in
-    l .inv .written ∙ ap (λ (m : ℕ). monthsFilled (yearOf (a .year)) m (now (a .sheet))) end
+    l .inv .written ∙ ap (λ (m : ℕ). monthsFilled (kwhOfYear (a .year)) m (now (a .sheet))) end
 
 pub fill-spec : {M : Type 1} → statement M
 fill-spec =
@@ -60,8 +54,8 @@ fill-spec =
     μ-loop
     loop-holds
     fill-month-requires
-    add-month
-    loop-less
+    (search needs)
+    (search needs)
     loop-again
     same-length
     returns)

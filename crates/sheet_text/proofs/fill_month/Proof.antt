@@ -5,57 +5,27 @@ use native.Mathlib.Omega.{arith}
 use borrow.Author.Needs.{needs}
 use denote.Ref.{now}
 use Rattle.codec.specs.Bytes.{bytesOf, stored}
-use Rattle.sheet_text.specs.Lines.{places}
+use Rattle.sheet_text.specs.Lines.{readings}
 use Rattle.sheet_text.specs.Reading.{monthFilled}
-use Rattle.sheet_text.specs.InnerSteps.{yearOf}
+use Rattle.sheet_text.specs.InnerSteps.{kwhOfYear}
 use Rattle.sheet_text.proofs.Filling.{month-none, month-next}
 use Rattle.units.proofs.Filled.{Written}
 use Rattle.sheet_text.proofs.fill_month.Statement.{statement}
 use Rattle.sheet_text.proofs.fill_month.Tie as tie
 
 abbrev Inv-loop : tie.InvT-loop
-Inv-loop sheet₀ month year place₀ sheet place = Written places place sheet₀ sheet (monthFilled (yearOf year month) month place sheet₀)
+Inv-loop sheet₀ month year place₀ sheet place = Written readings place sheet₀ sheet (monthFilled (kwhOfYear year month) month place sheet₀)
 
 abbrev μ-loop : tie.MeasureT-loop
-μ-loop sheet₀ month year place₀ sheet place = places - place
+μ-loop sheet₀ month year place₀ sheet place = readings - place
 
 loop-holds : tie.Need-loop-holds Inv-loop μ-loop
 loop-holds c =
     let a = c .before .args in
-    record { within = search needs; same = refl; written = month-none (yearOf (a .t3) (a .month)) (a .month) (now (a .sheet)) }
-
-mul-store-u32 : tie.Need-mul-store-u32 Inv-loop μ-loop
-mul-store-u32 c = search needs
-
-add-store-u32 : tie.Need-add-store-u32 Inv-loop μ-loop
-add-store-u32 c = search needs
-
-mul-store-u32-2 : tie.Need-mul-store-u32-2 Inv-loop μ-loop
-mul-store-u32-2 c = search needs
-
-add-store-u32-2 : tie.Need-add-store-u32-2 Inv-loop μ-loop
-add-store-u32-2 c = search needs
-
-mul-store-u32-3 : tie.Need-mul-store-u32-3 Inv-loop μ-loop
-mul-store-u32-3 c = search needs
-
-add-store-u32-3 : tie.Need-add-store-u32-3 Inv-loop μ-loop
-add-store-u32-3 c = search needs
-
-mul-store-u32-4 : tie.Need-mul-store-u32-4 Inv-loop μ-loop
-mul-store-u32-4 c = search needs
-
-array-read-store-u32 : tie.Need-array-read-store-u32 Inv-loop μ-loop
-array-read-store-u32 c = search needs
+    record { within = search needs; same = refl; written = month-none (kwhOfYear (a .t3) (a .month)) (a .month) (now (a .sheet)) }
 
 store-u32-requires : tie.Need-store-u32-requires Inv-loop μ-loop
 store-u32-requires c κs = omega (arith, c .before .before .loop .inv .same)
-
-add-place : tie.Need-add-place Inv-loop μ-loop
-add-place c = search needs
-
-loop-less : tie.Need-loop-less Inv-loop μ-loop
-loop-less c = search needs
 
 loop-again : tie.Need-loop-again Inv-loop μ-loop
 loop-again c =
@@ -65,8 +35,8 @@ loop-again c =
       within = search needs;
       same = put .kept .0 ∙ l .inv .same;
       written = put .ensures
-          ∙ ap (stored (32 + 96 * a .month + 4 * l .place) (bytesOf 4 (yearOf (a .t3) (a .month) (l .place)))) (l .inv .written)
-          ∙ month-next (yearOf (a .t3) (a .month)) (a .month) (now (a .sheet)) (l .place);
+          ∙ ap (stored (32 + 96 * a .month + 4 * l .place) (bytesOf 4 (kwhOfYear (a .t3) (a .month) (l .place)))) (l .inv .written)
+          ∙ month-next (kwhOfYear (a .t3) (a .month)) (a .month) (now (a .sheet)) (l .place);
     }
 
 same-length : tie.Need-same-length Inv-loop μ-loop
@@ -76,8 +46,8 @@ returns : tie.Need-returns Inv-loop μ-loop
 returns c =
     let l = c .before .loop in
     let a = c .before .before .before .args in
-    let end : l .place ≡ places = omega arith in
-    l .inv .written ∙ ap (λ (p : ℕ). monthFilled (yearOf (a .t3) (a .month)) (a .month) p (now (a .sheet))) end
+    let end : l .place ≡ readings = omega arith in
+    l .inv .written ∙ ap (λ (p : ℕ). monthFilled (kwhOfYear (a .t3) (a .month)) (a .month) p (now (a .sheet))) end
 
 pub fill-month-spec : {M : Type 1} → statement M
 fill-month-spec =
@@ -86,17 +56,17 @@ fill-month-spec =
     Inv-loop
     μ-loop
     loop-holds
-    mul-store-u32
-    add-store-u32
-    mul-store-u32-2
-    add-store-u32-2
-    mul-store-u32-3
-    add-store-u32-3
-    mul-store-u32-4
-    array-read-store-u32
+    (search needs)
+    (search needs)
+    (search needs)
+    (search needs)
+    (search needs)
+    (search needs)
+    (search needs)
+    (search needs)
     store-u32-requires
-    add-place
-    loop-less
+    (search needs)
+    (search needs)
     loop-again
     same-length
     returns)

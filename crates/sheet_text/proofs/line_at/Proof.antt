@@ -5,27 +5,6 @@ use Rattle.sheet_text.proofs.LineReading.{line-read}
 use Rattle.sheet_text.proofs.line_at.Statement.{statement}
 use Rattle.sheet_text.proofs.line_at.Tie as tie
 
-read-field-requires : tie.Need-read-field-requires
-read-field-requires c κs = search needs
-
-read-field-requires-2 : tie.Need-read-field-requires-2
-read-field-requires-2 c κs = search needs
-
-read-field-requires-3 : tie.Need-read-field-requires-3
-read-field-requires-3 c κs = search needs
-
-read-field-requires-4 : tie.Need-read-field-requires-4
-read-field-requires-4 c κs = search needs
-
-read-field-requires-5 : tie.Need-read-field-requires-5
-read-field-requires-5 c κs = search needs
-
-read-field-requires-6 : tie.Need-read-field-requires-6
-read-field-requires-6 c κs = search needs
-
-read-field-requires-7 : tie.Need-read-field-requires-7
-read-field-requires-7 c κs = search needs
-
 returns : tie.Need-returns
 returns c =
     let c₇ = c .before .before .before .before .before .before .before .before in
@@ -45,11 +24,11 @@ pub line-at-spec : {M : Type 1} → statement M
 line-at-spec =
     tie.close
     (tie.spec
-    read-field-requires
-    read-field-requires-2
-    read-field-requires-3
-    read-field-requires-4
-    read-field-requires-5
-    read-field-requires-6
-    read-field-requires-7
+    (search needs)
+    (search needs)
+    (search needs)
+    (search needs)
+    (search needs)
+    (search needs)
+    (search needs)
     returns)

@@ -27,28 +27,10 @@ Inv-loop text year₀ at₀ month₀ year at month = LinesRead text (year .kwh) 
 abbrev μ-loop : tie.MeasureT-loop
 μ-loop text year₀ at₀ month₀ year at month = months - month
 
-no-numbers-requires : tie.Need-no-numbers-requires Inv-loop μ-loop
-no-numbers-requires c κs = search needs
-
 loop-holds : tie.Need-loop-holds Inv-loop μ-loop
 loop-holds c =
     let text = now (c .before .before .args .text) in
     record { within = search needs; passed = none-refused text; place = line-first text; numbers = λ m p l. absurd (not-suc-le-zero l) }
-
-cast-line-at : tie.Need-cast-line-at Inv-loop μ-loop
-cast-line-at c = search needs
-
-add-line-at : tie.Need-add-line-at Inv-loop μ-loop
-add-line-at c = search needs
-
-line-at-requires : tie.Need-line-at-requires Inv-loop μ-loop
-line-at-requires c κs = search needs
-
-place-above-requires : tie.Need-place-above-requires Inv-loop μ-loop
-place-above-requires c κs = search needs
-
-wrong-line-requires : tie.Need-wrong-line-requires Inv-loop μ-loop
-wrong-line-requires c κs = search needs
 
 returns : tie.Need-returns Inv-loop μ-loop
 returns c =
@@ -58,9 +40,6 @@ returns c =
     let wrong = sym (line-judged text (l .at) (l .month) (omega arith) (l .inv .place) (line .result) (line .ensures)) ∙ c .before .if1 .taken in
     let told = wrong-refused text (l .month) (omega arith) (l .inv .passed) wrong in
     refused-told text _ (told .0) (c .wrong-line .ensures ∙ told .1)
-
-above-in-requires : tie.Need-above-in-requires Inv-loop μ-loop
-above-in-requires c κs = search needs
 
 returns-2 : tie.Need-returns-2 Inv-loop μ-loop
 returns-2 c =
@@ -72,15 +51,6 @@ returns-2 c =
     let found = found-place (kwhIn text (l .month)) (rw place at (c .before .if2 .taken)) in
     let told = above-refused text (l .month) (omega arith) (l .inv .passed) right (found .0) in
     refused-told text _ (told .0) (c .above-in .ensures ∙ ap (aboveIn (l .month)) (place ∙ found .1) ∙ told .1)
-
-with-month-requires : tie.Need-with-month-requires Inv-loop μ-loop
-with-month-requires c κs = search needs
-
-add-month : tie.Need-add-month Inv-loop μ-loop
-add-month c = search needs
-
-loop-less : tie.Need-loop-less Inv-loop μ-loop
-loop-less c = search needs
 
 loop-again : tie.Need-loop-again Inv-loop μ-loop
 loop-again c =
@@ -96,9 +66,6 @@ loop-again c =
       place = line-rest text (l .at) (l .month) (omega arith) (l .inv .place) (line .result) (line .ensures);
       numbers = numbers-more text (l .month) (l .year .kwh) (line .result .kwh) (c .with-month .result .kwh) (l .inv .numbers) (c .with-month .ensures) numbers;
     }
-
-wrong-line-requires-2 : tie.Need-wrong-line-requires-2 Inv-loop μ-loop
-wrong-line-requires-2 c κs = search needs
 
 returns-3 : tie.Need-returns-3 Inv-loop μ-loop
 returns-3 c =
@@ -123,20 +90,20 @@ measures-of-spec =
     (tie.spec
     Inv-loop
     μ-loop
-    no-numbers-requires
+    (search needs)
     loop-holds
-    cast-line-at
-    add-line-at
-    line-at-requires
-    place-above-requires
-    wrong-line-requires
+    (search needs)
+    (search needs)
+    (search needs)
+    (search needs)
+    (search needs)
     returns
-    above-in-requires
+    (search needs)
     returns-2
-    with-month-requires
-    add-month
-    loop-less
+    (search needs)
+    (search needs)
+    (search needs)
     loop-again
-    wrong-line-requires-2
+    (search needs)
     returns-3
     returns-4)

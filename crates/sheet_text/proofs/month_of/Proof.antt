@@ -8,33 +8,18 @@ use denote.Ref.{now}
 use lib.ListN.{length-set}
 use Rattle.units.proofs.Filled.{Filling, filled-next}
 use Rattle.sheet.specs.YearSheet.{word}
-use Rattle.sheet_text.specs.Lines.{places}
+use Rattle.sheet_text.specs.Lines.{readings}
 use Rattle.sheet_text.proofs.month_of.Statement.{statement}
 use Rattle.sheet_text.proofs.month_of.Tie as tie
 
 abbrev Inv-loop : tie.InvT-loop
-Inv-loop sheet month kwh₀ place₀ kwh place = Filling 0 (word sheet month) places place kwh
+Inv-loop sheet month kwh₀ place₀ kwh place = Filling 0 (word sheet month) readings place kwh
 
 abbrev μ-loop : tie.MeasureT-loop
-μ-loop sheet month kwh₀ place₀ kwh place = places - place
+μ-loop sheet month kwh₀ place₀ kwh place = readings - place
 
 loop-holds : tie.Need-loop-holds Inv-loop μ-loop
 loop-holds c = record { within = search needs; long = refl; filled = λ m l. absurd (not-suc-le-zero l) }
-
-number-at-requires : tie.Need-number-at-requires Inv-loop μ-loop
-number-at-requires c κs = search needs
-
-mul-kwh : tie.Need-mul-kwh Inv-loop μ-loop
-mul-kwh c = search needs
-
-array-write-kwh : tie.Need-array-write-kwh Inv-loop μ-loop
-array-write-kwh c = search needs
-
-add-place : tie.Need-add-place Inv-loop μ-loop
-add-place c = search needs
-
-loop-less : tie.Need-loop-less Inv-loop μ-loop
-loop-less c = search needs
 
 loop-again : tie.Need-loop-again Inv-loop μ-loop
 loop-again c =
@@ -50,7 +35,7 @@ loop-again c =
 returns : tie.Need-returns Inv-loop μ-loop
 returns c =
     let l = c .before .loop in
-    let end : l .place ≡ places = omega arith in
+    let end : l .place ≡ readings = omega arith in
     λ p h. l .inv .filled p (rw end h)
 
 pub month-of-spec : {M : Type 1} → statement M
@@ -60,10 +45,10 @@ month-of-spec =
     Inv-loop
     μ-loop
     loop-holds
-    number-at-requires
-    mul-kwh
-    array-write-kwh
-    add-place
-    loop-less
+    (search needs)
+    (search needs)
+    (search needs)
+    (search needs)
+    (search needs)
     loop-again
     returns)

@@ -3,37 +3,25 @@ use Prim.Native.Nat.{_-_, _≤_}
 use mathlib.Core.Path.{_≡_}
 use native.Mathlib.Omega.{arith}
 use borrow.Author.Needs.{needs}
-use Rattle.sheet_text.specs.Lines.{places}
+use Rattle.sheet_text.specs.Lines.{readings}
 use Rattle.sheet_text.specs.InnerSteps.{kwhOf}
 use Rattle.sheet_text.proofs.Above.{NoneBefore, none-before-first, none-more, above-found, above-none}
 use Rattle.sheet_text.proofs.place_above.Statement.{statement}
 use Rattle.sheet_text.proofs.place_above.Tie as tie
 
 abbrev Inv-loop : tie.InvT-loop
-Inv-loop kwh place₀ place = (place ≤ places) × NoneBefore (kwhOf kwh) place
+Inv-loop kwh place₀ place = (place ≤ readings) × NoneBefore (kwhOf kwh) place
 
 abbrev μ-loop : tie.MeasureT-loop
-μ-loop kwh place₀ place = places - place
+μ-loop kwh place₀ place = readings - place
 
 loop-holds : tie.Need-loop-holds Inv-loop μ-loop
 loop-holds c = (search needs, none-before-first (kwhOf (c .args .t1)))
-
-mul-if1 : tie.Need-mul-if1 Inv-loop μ-loop
-mul-if1 c = search needs
-
-array-read-if1 : tie.Need-array-read-if1 Inv-loop μ-loop
-array-read-if1 c = search needs
 
 returns : tie.Need-returns Inv-loop μ-loop
 returns c =
     let l = c .before .before .loop in
     above-found (kwhOf (c .before .before .before .args .t1)) (l .place) (omega arith) (l .inv .1) (c .if1 .taken)
-
-add-place : tie.Need-add-place Inv-loop μ-loop
-add-place c = search needs
-
-loop-less : tie.Need-loop-less Inv-loop μ-loop
-loop-less c = search needs
 
 loop-again : tie.Need-loop-again Inv-loop μ-loop
 loop-again c =
@@ -43,7 +31,7 @@ loop-again c =
 returns-2 : tie.Need-returns-2 Inv-loop μ-loop
 returns-2 c =
     let l = c .before .loop in
-    let end : l .place ≡ places = omega arith in
+    let end : l .place ≡ readings = omega arith in
     above-none (kwhOf (c .before .before .args .t1)) (rw end at (l .inv .1))
 
 pub place-above-spec : {M : Type 1} → statement M
@@ -53,10 +41,10 @@ place-above-spec =
     Inv-loop
     μ-loop
     loop-holds
-    mul-if1
-    array-read-if1
+    (search needs)
+    (search needs)
     returns
-    add-place
-    loop-less
+    (search needs)
+    (search needs)
     loop-again
     returns-2)

@@ -11,15 +11,6 @@ returns c =
     let a = c .before .before .before .args in
     size-answered (now (a .sheet)) (now (a .text)) (c .if1 .taken)
 
-measures-of-requires : tie.Need-measures-of-requires
-measures-of-requires c κs = search needs
-
-fill-requires : tie.Need-fill-requires
-fill-requires c κs = search needs
-
-same-length : tie.Need-same-length
-same-length c = search needs
-
 returns-2 : tie.Need-returns-2
 returns-2 c =
     let a = c .before .before .before .before .before .before .before .before .before .before .before .before .before .args in
@@ -34,4 +25,4 @@ returns-3 c =
 
 pub read-measures-spec : {M : Type 1} → statement M
 read-measures-spec =
-    tie.close (tie.spec returns measures-of-requires fill-requires same-length returns-2 returns-3)
+    tie.close (tie.spec returns (search needs) (search needs) (λ c. search needs) returns-2 returns-3)

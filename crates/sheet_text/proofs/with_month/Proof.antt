@@ -7,60 +7,36 @@ use borrow.Author.Count.{below-more}
 use borrow.Author.Needs.{needs}
 use lib.ListN.{length, getD, set, length-set}
 use lib.Seq.{getD-set-same, getD-set-other}
-use Rattle.sheet_text.specs.Lines.{places}
-use Rattle.sheet_text.specs.InnerSteps.{kwhOf, yearOf}
+use Rattle.sheet_text.specs.Lines.{readings}
+use Rattle.sheet_text.specs.InnerSteps.{kwhOf, kwhOfYear}
 use Rattle.sheet_text.proofs.with_month.Statement.{statement}
 use Rattle.sheet_text.proofs.with_month.Tie as tie
 
 record Placing (month : ℕ) (kwh before filled : List ℕ) (place : ℕ) : Type 0 where
-  pub within : place ≤ places
+  pub within : place ≤ readings
   pub long : length filled ≡ 72
-  pub here : (p : ℕ) → p < place → yearOf filled month p ≡ kwhOf kwh p
-  pub earlier : (k : ℕ) → k < places * month → getD filled k 0 ≡ getD before k 0
+  pub here : (p : ℕ) → p < place → kwhOfYear filled month p ≡ kwhOf kwh p
+  pub earlier : (k : ℕ) → k < readings * month → getD filled k 0 ≡ getD before k 0
 
 abbrev Inv-loop : tie.InvT-loop
 Inv-loop month kwh filled₀ place₀ filled place = Placing month kwh filled₀ filled place
 
 abbrev μ-loop : tie.MeasureT-loop
-μ-loop month kwh filled₀ place₀ filled place = places - place
+μ-loop month kwh filled₀ place₀ filled place = readings - place
 
 loop-holds : tie.Need-loop-holds Inv-loop μ-loop
 loop-holds c = search needs
-
-mul-filled : tie.Need-mul-filled Inv-loop μ-loop
-mul-filled c = search needs
-
-array-read-filled : tie.Need-array-read-filled Inv-loop μ-loop
-array-read-filled c = search needs
-
-mul-filled-2 : tie.Need-mul-filled-2 Inv-loop μ-loop
-mul-filled-2 c = search needs
-
-add-filled : tie.Need-add-filled Inv-loop μ-loop
-add-filled c = search needs
-
-mul-filled-3 : tie.Need-mul-filled-3 Inv-loop μ-loop
-mul-filled-3 c = search needs
-
-array-write-filled : tie.Need-array-write-filled Inv-loop μ-loop
-array-write-filled c = search needs
-
-add-place : tie.Need-add-place Inv-loop μ-loop
-add-place c = search needs
-
-loop-less : tie.Need-loop-less Inv-loop μ-loop
-loop-less c = search needs
 
 loop-again : tie.Need-loop-again Inv-loop μ-loop
 loop-again c =
     let l = c .before .loop in
     let a = c .before .before .before .args in
-    let at = places * a .month + l .place in
+    let at = readings * a .month + l .place in
     let v = kwhOf (a .t3) (l .place) in record {
       within = search needs;
       long = simp length-set (l .inv .long);
-      here = below-more (λ p. yearOf (set (l .filled) at v) (a .month) p ≡ kwhOf (a .t3) p) (l .place)
-          (λ p b. let other : places * a .month + p ≡ at → ⊥ = omega arith in getD-set-other (l .filled) at (places * a .month + p) v 0 other ∙ l .inv .here p b)
+      here = below-more (λ p. kwhOfYear (set (l .filled) at v) (a .month) p ≡ kwhOf (a .t3) p) (l .place)
+          (λ p b. let other : readings * a .month + p ≡ at → ⊥ = omega arith in getD-set-other (l .filled) at (readings * a .month + p) v 0 other ∙ l .inv .here p b)
           (getD-set-same (l .filled) at v 0 (omega (arith, l .inv .long)));
       earlier = λ k b. let other : k ≡ at → ⊥ = omega arith in getD-set-other (l .filled) at k v 0 other ∙ l .inv .earlier k b;
     }
@@ -68,7 +44,7 @@ loop-again c =
 returns : tie.Need-returns Inv-loop μ-loop
 returns c =
     let l = c .before .loop in
-    let end : l .place ≡ places = omega arith in
+    let end : l .place ≡ readings = omega arith in
     record { here = λ p b. l .inv .here p (rw end b); earlier = l .inv .earlier }
 
 pub with-month-spec : {M : Type 1} → statement M
@@ -78,13 +54,13 @@ with-month-spec =
     Inv-loop
     μ-loop
     loop-holds
-    mul-filled
-    array-read-filled
-    mul-filled-2
-    add-filled
-    mul-filled-3
-    array-write-filled
-    add-place
-    loop-less
+    (search needs)
+    (search needs)
+    (search needs)
+    (search needs)
+    (search needs)
+    (search needs)
+    (search needs)
+    (search needs)
     loop-again
     returns)

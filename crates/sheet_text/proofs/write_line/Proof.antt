@@ -6,14 +6,11 @@ use native.Mathlib.Omega.{arith}
 use borrow.Author.Needs.{needs}
 use denote.Ref.{now}
 use Rattle.codec.specs.Bytes.{stored}
-use Rattle.sheet_text.specs.Lines.{places}
+use Rattle.sheet_text.specs.Lines.{readings}
 use Rattle.sheet_text.specs.InnerSteps.{kwhOf, numbersTo}
 use Rattle.sheet_text.proofs.LineWriting.{line-length, line-written}
 use Rattle.sheet_text.proofs.write_line.Statement.{statement}
 use Rattle.sheet_text.proofs.write_line.Tie as tie
-
-add-write-field : tie.Need-add-write-field
-add-write-field c = search needs
 
 write-field-requires : tie.Need-write-field-requires
 write-field-requires c κs =
@@ -26,9 +23,6 @@ write-numbers-requires c κs =
     let w = c .before .before .before .write-field in
     omega (arith, line-length (a .month + 1) (kwhOf (a .kwh)), w .ensures .end, w .kept .0)
 
-same-length : tie.Need-same-length
-same-length c = search needs
-
 returns : tie.Need-returns
 returns c =
     let a = c .before .before .before .before .before .before .before .before .before .args in
@@ -37,11 +31,11 @@ returns c =
     let kwh = kwhOf (a .kwh) in record {
       end = omega (arith, line-length (a .month + 1) kwh, w .ensures .end, n .ensures .end);
       stands = n .ensures .stands
-          ∙ ap₂ (λ (e : ℕ) (o : List ℕ). stored e (numbersTo kwh places) o) (w .ensures .end) (w .ensures .stands)
+          ∙ ap₂ (λ (e : ℕ) (o : List ℕ). stored e (numbersTo kwh readings) o) (w .ensures .end) (w .ensures .stands)
           ∙ line-written (a .at) (a .month + 1) kwh (now (a .out)) (omega arith);
     }
 
 pub write-line-spec : {M : Type 1} → statement M
 write-line-spec =
     tie.close
-    (tie.spec add-write-field write-field-requires write-numbers-requires same-length returns)
+    (tie.spec (search needs) write-field-requires write-numbers-requires (λ c. search needs) returns)

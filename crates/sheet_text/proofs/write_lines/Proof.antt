@@ -48,12 +48,6 @@ write-line-requires c κs =
     let room = sizes-of s (now (start .args .out)) (start .pre .0) .1 in
     (omega arith, omega (arith, ap length same, lines-room (l .month) (word s) (omega arith) (sheet-within s (start .pre .1)), l .inv .same, l .inv .ends))
 
-add-month : tie.Need-add-month Inv-loop μ-loop
-add-month c = search needs
-
-loop-less : tie.Need-loop-less Inv-loop μ-loop
-loop-less c = search needs
-
 loop-again : tie.Need-loop-again Inv-loop μ-loop
 loop-again c =
     let start = c .before .before .before .before .before .before .before .before .before in
@@ -97,8 +91,8 @@ write-lines-spec =
     loop-holds
     month-of-requires
     write-line-requires
-    add-month
-    loop-less
+    (search needs)
+    (search needs)
     loop-again
     same-length
     returns)

@@ -12,34 +12,28 @@ returns c =
     let a = c .before .before .before .args in
     sizes-answered (now (a .sheet)) (now (a .text)) (c .if1 .taken)
 
-first-above-requires : tie.Need-first-above-requires
-first-above-requires c κs =
+position-above-requires : tie.Need-position-above-requires
+position-above-requires c κs =
     let a = c .before .before .before .args in
     sizes-of (now (a .sheet)) (now (a .text)) (sizes-right (now (a .sheet)) (now (a .text)) (c .if1 .left)) .0
 
 returns-2 : tie.Need-returns-2
 returns-2 c =
     let a = c .before .before .before .before .before .before .args in
-    let first = c .before .before .first-above in
+    let first = c .before .before .position-above in
     above-answered (now (a .sheet)) (now (a .text)) (c .before .before .before .if1 .left) (first .result) (first .ensures) (c .if2 .taken)
 
 write-lines-requires : tie.Need-write-lines-requires
 write-lines-requires c κs =
     let a = c .before .before .before .before .before .before .before .args in
-    let first = c .before .before .before .first-above in
+    let first = c .before .before .before .position-above in
     let right = c .before .before .before .before .if1 .left in
     (sizes-right (now (a .sheet)) (now (a .text)) right, none-told (now (a .sheet)) (now (a .text)) right (first .result) (first .ensures) (omega arith))
-
-cast-length : tie.Need-cast-length
-cast-length c = search needs
-
-same-length : tie.Need-same-length
-same-length c = search needs
 
 returns-3 : tie.Need-returns-3
 returns-3 c =
     let a = c .before .before .before .before .before .before .before .before .before .before .args in
-    let first = c .before .before .before .before .before .before .first-above in
+    let first = c .before .before .before .before .before .before .position-above in
     let w = c .before .before .write-lines in
     text-answered (now (a .sheet)) (now (a .text)) (c .before .before .before .before .before .before .before .if1 .left) (first .result) (first .ensures) (omega arith)
     (w .result) (w .last .1 .0) (w .ensures .end) (w .ensures .stands)
@@ -49,9 +43,9 @@ write-measures-spec =
     tie.close
     (tie.spec
     returns
-    first-above-requires
+    position-above-requires
     returns-2
     write-lines-requires
-    cast-length
-    same-length
+    (search needs)
+    (λ c. search needs)
     returns-3)

@@ -9,7 +9,7 @@ use lib.ListN.{length}
 use Rattle.codec.specs.Bytes.{stored}
 use Rattle.codec.proofs.Pieces.{stored-none}
 use Rattle.decimals.specs.Decimals.{field}
-use Rattle.sheet_text.specs.Lines.{places}
+use Rattle.sheet_text.specs.Lines.{readings}
 use Rattle.sheet_text.specs.InnerSteps.{kwhOf, stopAt, numbersTo}
 use Rattle.sheet_text.proofs.LineWriting.{TextWritten, numbers-none, numbers-room, numbers-length, numbers-written}
 use Rattle.sheet_text.proofs.write_numbers.Statement.{statement}
@@ -17,10 +17,10 @@ use Rattle.sheet_text.proofs.write_numbers.Tie as tie
 
 abbrev Inv-loop : tie.InvT-loop
 Inv-loop out₀ at kwh end₀ place₀ out end place =
-    TextWritten places place (at + length (numbersTo (kwhOf kwh) place)) end out₀ out (stored at (numbersTo (kwhOf kwh) place) out₀)
+    TextWritten readings place (at + length (numbersTo (kwhOf kwh) place)) end out₀ out (stored at (numbersTo (kwhOf kwh) place) out₀)
 
 abbrev μ-loop : tie.MeasureT-loop
-μ-loop out₀ at kwh end₀ place₀ out end place = places - place
+μ-loop out₀ at kwh end₀ place₀ out end place = readings - place
 
 loop-holds : tie.Need-loop-holds Inv-loop μ-loop
 loop-holds c =
@@ -32,18 +32,6 @@ loop-holds c =
       written = sym (ap (λ (t : List ℕ). stored (a .at) t (now (a .out))) (sym none) ∙ stored-none (a .at) (now (a .out)));
     }
 
-mul-write-field : tie.Need-mul-write-field Inv-loop μ-loop
-mul-write-field c = search needs
-
-array-read-write-field : tie.Need-array-read-write-field Inv-loop μ-loop
-array-read-write-field c = search needs
-
-cast-write-field : tie.Need-cast-write-field Inv-loop μ-loop
-cast-write-field c = search needs
-
-stop-at-requires : tie.Need-stop-at-requires Inv-loop μ-loop
-stop-at-requires c κs = search needs
-
 write-field-requires : tie.Need-write-field-requires Inv-loop μ-loop
 write-field-requires c κs =
     let l = c .before .before .before .loop in
@@ -52,12 +40,6 @@ write-field-requires c κs =
     let stop : length (field (kwh (l .place)) (c .stop-at .result)) ≡ length (field (kwh (l .place)) (stopAt (l .place)))
     = ap (λ (b : ℕ). length (field (kwh (l .place)) b)) (c .stop-at .ensures) in
     omega (arith, numbers-room kwh (l .place) (omega arith), l .inv .same, l .inv .ends)
-
-add-place : tie.Need-add-place Inv-loop μ-loop
-add-place c = search needs
-
-loop-less : tie.Need-loop-less Inv-loop μ-loop
-loop-less c = search needs
 
 loop-again : tie.Need-loop-again Inv-loop μ-loop
 loop-again c =
@@ -84,7 +66,7 @@ returns : tie.Need-returns Inv-loop μ-loop
 returns c =
     let l = c .before .loop in
     let a = c .before .before .before .args in
-    let end : l .place ≡ places = omega arith in record {
+    let end : l .place ≡ readings = omega arith in record {
       end = l .inv .ends ∙ ap (λ (p : ℕ). a .at + length (numbersTo (kwhOf (a .t3)) p)) end;
       stands = l .inv .written ∙ ap (λ (p : ℕ). stored (a .at) (numbersTo (kwhOf (a .t3)) p) (now (a .out))) end;
     }
@@ -96,13 +78,13 @@ write-numbers-spec =
     Inv-loop
     μ-loop
     loop-holds
-    mul-write-field
-    array-read-write-field
-    cast-write-field
-    stop-at-requires
+    (search needs)
+    (search needs)
+    (λ c. search needs)
+    (search needs)
     write-field-requires
-    add-place
-    loop-less
+    (search needs)
+    (search needs)
     loop-again
     same-length
     returns)

@@ -10,12 +10,6 @@ use borrow.Author.Needs.{needs}
 use Rattle.sheet_values.proofs.annual_flat_rate.Statement.{statement}
 use Rattle.sheet_values.proofs.annual_flat_rate.Tie as tie
 
-annual-tiers-requires : tie.Need-annual-tiers-requires
-annual-tiers-requires c κs = search needs
-
-annual-rates-requires : tie.Need-annual-rates-requires
-annual-rates-requires c κs = search needs
-
 flat-rate-of-requires : tie.Need-flat-rate-of-requires
 unfolding annualRate
 flat-rate-of-requires c κs =
@@ -40,4 +34,4 @@ returns c =
 
 pub annual-flat-rate-spec : {M : Type 1} → statement M
 annual-flat-rate-spec =
-    tie.close (tie.spec annual-tiers-requires annual-rates-requires flat-rate-of-requires returns)
+    tie.close (tie.spec (search needs) (λ c κs. search needs) flat-rate-of-requires returns)

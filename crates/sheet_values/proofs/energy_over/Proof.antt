@@ -20,25 +20,10 @@ abbrev μ-loop : tie.MeasureT-loop
 loop-holds : tie.Need-loop-holds Inv-loop μ-loop
 loop-holds c = record { within = search needs; bounded = search needs; sums = sym (sum-zero (λ j. energyAt (c .args .from + j) (c .args .t1))) }
 
-add-month : tie.Need-add-month Inv-loop μ-loop
-add-month c = search needs
-
-mul-month : tie.Need-mul-month Inv-loop μ-loop
-mul-month c = search needs
-
-array-copy-out-month : tie.Need-array-copy-out-month Inv-loop μ-loop
-array-copy-out-month c = search needs
-
 add-sum : tie.Need-add-sum Inv-loop μ-loop
 add-sum c =
     let a = c .before .before .before .before in
     omega (arith, a .pre .1 (a .args .from + c .before .before .before .loop .i) (search needs))
-
-add-i : tie.Need-add-i Inv-loop μ-loop
-add-i c = search needs
-
-loop-less : tie.Need-loop-less Inv-loop μ-loop
-loop-less c = search needs
 
 loop-again : tie.Need-loop-again Inv-loop μ-loop
 loop-again c =
@@ -65,11 +50,11 @@ energy-over-spec =
     Inv-loop
     μ-loop
     loop-holds
-    add-month
-    mul-month
-    array-copy-out-month
+    (search needs)
+    (search needs)
+    (search needs)
     add-sum
-    add-i
-    loop-less
+    (search needs)
+    (search needs)
     loop-again
     returns)

@@ -21,33 +21,6 @@ abbrev μ-loop : tie.MeasureT-loop
 loop-holds : tie.Need-loop-holds Inv-loop μ-loop
 loop-holds c = record { within = search needs; long = refl; filled = λ m l. absurd (not-suc-le-zero l) }
 
-mul-smaller : tie.Need-mul-smaller Inv-loop μ-loop
-mul-smaller c = search needs
-
-array-copy-out-smaller : tie.Need-array-copy-out-smaller Inv-loop μ-loop
-array-copy-out-smaller c = search needs
-
-mul-smaller-2 : tie.Need-mul-smaller-2 Inv-loop μ-loop
-mul-smaller-2 c = search needs
-
-array-copy-out-smaller-2 : tie.Need-array-copy-out-smaller-2 Inv-loop μ-loop
-array-copy-out-smaller-2 c = search needs
-
-smaller-requires : tie.Need-smaller-requires Inv-loop μ-loop
-smaller-requires c κs = search needs
-
-mul-months : tie.Need-mul-months Inv-loop μ-loop
-mul-months c = search needs
-
-array-set-from-months : tie.Need-array-set-from-months Inv-loop μ-loop
-array-set-from-months c = search needs
-
-add-month : tie.Need-add-month Inv-loop μ-loop
-add-month c = search needs
-
-loop-less : tie.Need-loop-less Inv-loop μ-loop
-loop-less c = search needs
-
 loop-again : tie.Need-loop-again Inv-loop μ-loop
 loop-again c =
     let l = c .before .before .before .before .loop in
@@ -71,14 +44,14 @@ exchanged-spec =
     Inv-loop
     μ-loop
     loop-holds
-    mul-smaller
-    array-copy-out-smaller
-    mul-smaller-2
-    array-copy-out-smaller-2
-    smaller-requires
-    mul-months
-    array-set-from-months
-    add-month
-    loop-less
+    (search needs)
+    (search needs)
+    (search needs)
+    (search needs)
+    (search needs)
+    (search needs)
+    (search needs)
+    (search needs)
+    (search needs)
     loop-again
     returns)

@@ -14,18 +14,6 @@ use borrow.Author.Needs.{needs}
 use Rattle.sheet_values.proofs.flat_rate.Statement.{statement}
 use Rattle.sheet_values.proofs.flat_rate.Tie as tie
 
-table-price-requires : tie.Need-table-price-requires
-table-price-requires c κs = search needs
-
-some-month-above-requires : tie.Need-some-month-above-requires
-some-month-above-requires c κs = search needs
-
-monthly-method-requires : tie.Need-monthly-method-requires
-monthly-method-requires c κs = search needs
-
-exchanged-requires : tie.Need-exchanged-requires
-exchanged-requires c κs = search needs
-
 monthly-flat-rate-requires : tie.Need-monthly-flat-rate-requires
 monthly-flat-rate-requires c κs =
     let start = c .before .before .before .before .before .before in
@@ -46,9 +34,6 @@ energy-over-requires-2 c κs =
     let start = c .before .before .before .before .before .before in
     let s = now (start .args .s) in
     (search needs, months-capped (monthInjected s) (start .args .injected) (3 * maxKwh) (start .pre .1 .1 .1) (sheets-bounded s (start .pre .0 .past13) .month-injected))
-
-smaller-requires : tie.Need-smaller-requires
-smaller-requires c κs = search needs
 
 annual-flat-rate-requires : tie.Need-annual-flat-rate-requires
 annual-flat-rate-requires c κs =
@@ -93,14 +78,14 @@ pub flat-rate-spec : {M : Type 1} → statement M
 flat-rate-spec =
     tie.close
     (tie.spec
-    table-price-requires
-    some-month-above-requires
-    monthly-method-requires
-    exchanged-requires
+    (search needs)
+    (search needs)
+    (search needs)
+    (search needs)
     monthly-flat-rate-requires
     energy-over-requires
     energy-over-requires-2
-    smaller-requires
+    (search needs)
     annual-flat-rate-requires
     returns
     returns-2)

@@ -9,12 +9,6 @@ use borrow.Author.Needs.{needs}
 use Rattle.sheet_values.proofs.mean_over.Statement.{statement}
 use Rattle.sheet_values.proofs.mean_over.Tie as tie
 
-rate-over-requires : tie.Need-rate-over-requires
-rate-over-requires c κs = search needs
-
-mean-rate-requires : tie.Need-mean-rate-requires
-mean-rate-requires c κs = search needs
-
 returns : tie.Need-returns
 returns c =
     let start = c .before .before .before in
@@ -26,4 +20,4 @@ returns c =
     }
 
 pub mean-over-spec : {M : Type 1} → statement M
-mean-over-spec = tie.close (tie.spec rate-over-requires mean-rate-requires returns)
+mean-over-spec = tie.close (tie.spec (λ c κs. search needs) (search needs) returns)

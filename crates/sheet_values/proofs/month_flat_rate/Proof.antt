@@ -10,12 +10,6 @@ use borrow.Author.Needs.{needs}
 use Rattle.sheet_values.proofs.month_flat_rate.Statement.{statement}
 use Rattle.sheet_values.proofs.month_flat_rate.Tie as tie
 
-monthly-tiers-requires : tie.Need-monthly-tiers-requires
-monthly-tiers-requires c κs = search needs
-
-month-rates-requires : tie.Need-month-rates-requires
-month-rates-requires c κs = search needs
-
 flat-rate-of-requires : tie.Need-flat-rate-of-requires
 unfolding monthRate
 flat-rate-of-requires c κs =
@@ -40,4 +34,4 @@ returns c =
 
 pub month-flat-rate-spec : {M : Type 1} → statement M
 month-flat-rate-spec =
-    tie.close (tie.spec monthly-tiers-requires month-rates-requires flat-rate-of-requires returns)
+    tie.close (tie.spec (search needs) (λ c κs. search needs) flat-rate-of-requires returns)

@@ -21,26 +21,8 @@ abbrev μ-loop : tie.MeasureT-loop
 loop-holds : tie.Need-loop-holds Inv-loop μ-loop
 loop-holds c = record { within = search needs; long = refl; filled = λ m l. absurd (not-suc-le-zero l) }
 
-mul-row-total : tie.Need-mul-row-total Inv-loop μ-loop
-mul-row-total c = search needs
-
-array-copy-out-row-total : tie.Need-array-copy-out-row-total Inv-loop μ-loop
-array-copy-out-row-total c = search needs
-
 row-total-requires : tie.Need-row-total-requires Inv-loop μ-loop
 row-total-requires c κs = c .before .before .before .pre (c .before .before .loop .month) (search needs)
-
-mul-totals : tie.Need-mul-totals Inv-loop μ-loop
-mul-totals c = search needs
-
-array-set-from-totals : tie.Need-array-set-from-totals Inv-loop μ-loop
-array-set-from-totals c = search needs
-
-add-month : tie.Need-add-month Inv-loop μ-loop
-add-month c = search needs
-
-loop-less : tie.Need-loop-less Inv-loop μ-loop
-loop-less c = search needs
 
 loop-again : tie.Need-loop-again Inv-loop μ-loop
 loop-again c =
@@ -65,12 +47,12 @@ month-totals-spec =
     Inv-loop
     μ-loop
     loop-holds
-    mul-row-total
-    array-copy-out-row-total
+    (search needs)
+    (search needs)
     row-total-requires
-    mul-totals
-    array-set-from-totals
-    add-month
-    loop-less
+    (search needs)
+    (search needs)
+    (search needs)
+    (search needs)
     loop-again
     returns)

@@ -29,21 +29,6 @@ loop-holds c = record {
   sums = sym (sum-zero (λ j. monthFlatRate (now (c .before .args .s)) (c .before .args .plant) (c .before .args .power) (c .before .args .from + j)));
 }
 
-add-month : tie.Need-add-month Inv-loop μ-loop
-add-month c = search needs
-
-mul-month-flat-rate : tie.Need-mul-month-flat-rate Inv-loop μ-loop
-mul-month-flat-rate c = search needs
-
-array-copy-out-month-flat-rate : tie.Need-array-copy-out-month-flat-rate Inv-loop μ-loop
-array-copy-out-month-flat-rate c = search needs
-
-mul-month-flat-rate-2 : tie.Need-mul-month-flat-rate-2 Inv-loop μ-loop
-mul-month-flat-rate-2 c = search needs
-
-array-copy-out-month-flat-rate-2 : tie.Need-array-copy-out-month-flat-rate-2 Inv-loop μ-loop
-array-copy-out-month-flat-rate-2 c = search needs
-
 month-flat-rate-requires : tie.Need-month-flat-rate-requires Inv-loop μ-loop
 month-flat-rate-requires c κs =
     let start = c .before .before .before .before .before in
@@ -72,12 +57,6 @@ within c =
 
 add-sum : tie.Need-add-sum Inv-loop μ-loop
 add-sum c = let small = within c in omega arith
-
-add-i : tie.Need-add-i Inv-loop μ-loop
-add-i c = search needs
-
-loop-less : tie.Need-loop-less Inv-loop μ-loop
-loop-less c = search needs
 
 loop-again : tie.Need-loop-again Inv-loop μ-loop
 loop-again c =
@@ -113,14 +92,14 @@ monthly-flat-rate-spec =
     Inv-loop
     μ-loop
     loop-holds
-    add-month
-    mul-month-flat-rate
-    array-copy-out-month-flat-rate
-    mul-month-flat-rate-2
-    array-copy-out-month-flat-rate-2
+    (search needs)
+    (search needs)
+    (search needs)
+    (search needs)
+    (search needs)
     month-flat-rate-requires
     add-sum
-    add-i
-    loop-less
+    (search needs)
+    (search needs)
     loop-again
     returns)

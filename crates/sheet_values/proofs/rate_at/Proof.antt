@@ -14,9 +14,6 @@ number-at-requires c κs =
     let place = start .pre .1 in
     (passed-length (now (start .args .s)) (start .pre .0 .past11), (place .0, omega (arith, place .1 .1)))
 
-cast-t5 : tie.Need-cast-t5
-cast-t5 c = search needs
-
 returns : tie.Need-returns
 returns c =
     let start = c .before .before in
@@ -28,4 +25,4 @@ returns c =
     }
 
 pub rate-at-spec : {M : Type 1} → statement M
-rate-at-spec = tie.close (tie.spec number-at-requires cast-t5 returns)
+rate-at-spec = tie.close (tie.spec number-at-requires (search needs) returns)

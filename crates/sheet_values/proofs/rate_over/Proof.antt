@@ -26,21 +26,6 @@ loop-holds c = record {
   sums = sym (sum-zero (λ j. word (now (c .before .args .s)) (c .before .args .from + j) (c .before .args .place)));
 }
 
-add-rate-at : tie.Need-add-rate-at Inv-loop μ-loop
-add-rate-at c = search needs
-
-rate-at-requires : tie.Need-rate-at-requires Inv-loop μ-loop
-rate-at-requires c κs = search needs
-
-add-sum : tie.Need-add-sum Inv-loop μ-loop
-add-sum c = search needs
-
-add-i : tie.Need-add-i Inv-loop μ-loop
-add-i c = search needs
-
-loop-less : tie.Need-loop-less Inv-loop μ-loop
-loop-less c = search needs
-
 loop-again : tie.Need-loop-again Inv-loop μ-loop
 loop-again c =
     let l = c .before .before .before .loop in
@@ -65,10 +50,10 @@ rate-over-spec =
     Inv-loop
     μ-loop
     loop-holds
-    add-rate-at
-    rate-at-requires
-    add-sum
-    add-i
-    loop-less
+    (search needs)
+    (λ c κs. search needs)
+    (search needs)
+    (search needs)
+    (search needs)
     loop-again
     returns)

@@ -21,21 +21,6 @@ abbrev μ-loop : tie.MeasureT-loop
 loop-holds : tie.Need-loop-holds Inv-loop μ-loop
 loop-holds c = (search needs, sym (any-zero (λ j. ltb monthlyThreshold (energyAt (c .args .from + j) (c .args .t1)))))
 
-add-month : tie.Need-add-month Inv-loop μ-loop
-add-month c = search needs
-
-mul-month : tie.Need-mul-month Inv-loop μ-loop
-mul-month c = search needs
-
-array-copy-out-month : tie.Need-array-copy-out-month Inv-loop μ-loop
-array-copy-out-month c = search needs
-
-add-i : tie.Need-add-i Inv-loop μ-loop
-add-i c = search needs
-
-loop-less : tie.Need-loop-less Inv-loop μ-loop
-loop-less c = search needs
-
 loop-again : tie.Need-loop-again Inv-loop μ-loop
 loop-again c =
     let l = c .before .before .before .loop in
@@ -56,10 +41,10 @@ some-month-above-spec =
     Inv-loop
     μ-loop
     loop-holds
-    add-month
-    mul-month
-    array-copy-out-month
-    add-i
-    loop-less
+    (search needs)
+    (search needs)
+    (search needs)
+    (search needs)
+    (search needs)
     loop-again
     returns)

@@ -10,24 +10,6 @@ use borrow.Author.Needs.{needs}
 use Rattle.sheet_values.proofs.year_values.Statement.{statement}
 use Rattle.sheet_values.proofs.year_values.Tie as tie
 
-withdrawn-requires : tie.Need-withdrawn-requires
-withdrawn-requires c κs = search needs
-
-injected-requires : tie.Need-injected-requires
-injected-requires c κs = search needs
-
-exchanged-requires : tie.Need-exchanged-requires
-exchanged-requires c κs = search needs
-
-value-requires : tie.Need-value-requires
-value-requires c κs = search needs
-
-cost-requires : tie.Need-cost-requires
-cost-requires c κs = search needs
-
-flat-rate-requires : tie.Need-flat-rate-requires
-flat-rate-requires c κs = search needs
-
 energy-over-requires : tie.Need-energy-over-requires
 energy-over-requires c κs =
     let start = c .before .before .before .before .before .before .before .before .before in
@@ -75,12 +57,12 @@ pub year-values-spec : {M : Type 1} → statement M
 year-values-spec =
     tie.close
     (tie.spec
-    withdrawn-requires
-    injected-requires
-    exchanged-requires
-    value-requires
-    cost-requires
-    flat-rate-requires
+    (λ c κs. search needs)
+    (λ c κs. search needs)
+    (λ c κs. search needs)
+    (λ c κs. search needs)
+    (λ c κs. search needs)
+    (λ c κs. search needs)
     energy-over-requires
     energy-over-requires-2
     returns)

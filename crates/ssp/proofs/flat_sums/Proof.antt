@@ -7,9 +7,6 @@ use Rattle.ssp.proofs.Flat.{read-back}
 use Rattle.ssp.proofs.flat_sums.Statement.{statement}
 use Rattle.ssp.proofs.flat_sums.Tie as tie
 
-signed-requires : tie.Need-signed-requires
-signed-requires c κs = search needs
-
 returns : tie.Need-returns
 unfolding flatSums
 returns c =
@@ -17,4 +14,4 @@ returns c =
     rw (read-back fits (c .signed .ensures))
 
 pub flat-sums-spec : {M : Type 1} → statement M
-flat-sums-spec = tie.close (tie.spec signed-requires returns)
+flat-sums-spec = tie.close (tie.spec (search needs) returns)

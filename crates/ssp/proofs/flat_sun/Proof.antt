@@ -5,12 +5,6 @@ use borrow.Author.Needs.{needs}
 use Rattle.ssp.proofs.flat_sun.Statement.{statement}
 use Rattle.ssp.proofs.flat_sun.Tie as tie
 
-enum-known-addition : tie.Need-enum-known-addition
-enum-known-addition c = search needs
-
-enum-told : tie.Need-enum-told
-enum-told c = search needs
-
 returns : tie.Need-returns
 unfolding flatSun
 returns c =
@@ -24,4 +18,4 @@ returns-2 c =
     sym (ap (flatSun (a .reply .refusal) (a .reply .«record» .0) (a .position)) (c .enum-told .given .1))
 
 pub flat-sun-spec : {M : Type 1} → statement M
-flat-sun-spec = tie.close (tie.spec enum-known-addition enum-told returns returns-2)
+flat-sun-spec = tie.close (tie.spec (search needs) (search needs) returns returns-2)

@@ -4,14 +4,8 @@ use borrow.Author.Needs.{needs}
 use Rattle.ssp.proofs.ssp_advance.Statement.{statement}
 use Rattle.ssp.proofs.ssp_advance.Tie as tie
 
-advance-requires : tie.Need-advance-requires
-advance-requires c κs = search needs
-
-same-length : tie.Need-same-length
-same-length c = search needs
-
 returns : tie.Need-returns
 returns c = let said = c .before .before .advance .ensures in (said .0, ap (λ t. t .0) (said .1))
 
 pub ssp-advance-spec : {M : Type 1} → statement M
-ssp-advance-spec = tie.close (tie.spec advance-requires same-length returns)
+ssp-advance-spec = tie.close (tie.spec (search needs) (λ c. search needs) returns)

@@ -5,19 +5,10 @@ use Rattle.ssp.specs.Flat.{flatRaised}
 use Rattle.ssp.proofs.ssp_raise.Statement.{statement}
 use Rattle.ssp.proofs.ssp_raise.Tie as tie
 
-raise-requires : tie.Need-raise-requires
-raise-requires c κs = search needs
-
-flat-raised-requires : tie.Need-flat-raised-requires
-flat-raised-requires c κs = search needs
-
-same-length : tie.Need-same-length
-same-length c = search needs
-
 returns : tie.Need-returns
 returns c =
     let said = c .before .before .before .raise .ensures in
     (c .flat-raised .ensures ∙ ap flatRaised (said .0), said .1)
 
 pub ssp-raise-spec : {M : Type 1} → statement M
-ssp-raise-spec = tie.close (tie.spec raise-requires flat-raised-requires same-length returns)
+ssp-raise-spec = tie.close (tie.spec (search needs) (search needs) (λ c. search needs) returns)

@@ -5,15 +5,6 @@ use Rattle.ssp.specs.Flat.{flatRead}
 use Rattle.ssp.proofs.ssp_read_measures.Statement.{statement}
 use Rattle.ssp.proofs.ssp_read_measures.Tie as tie
 
-read-measures-requires : tie.Need-read-measures-requires
-read-measures-requires c κs = search needs
-
-flat-read-requires : tie.Need-flat-read-requires
-flat-read-requires c κs = search needs
-
-same-length : tie.Need-same-length
-same-length c = search needs
-
 returns : tie.Need-returns
 returns c =
     let said = c .before .before .before .read-measures in
@@ -21,4 +12,4 @@ returns c =
 
 pub ssp-read-measures-spec : {M : Type 1} → statement M
 ssp-read-measures-spec =
-    tie.close (tie.spec read-measures-requires flat-read-requires same-length returns)
+    tie.close (tie.spec (search needs) (search needs) (λ c. search needs) returns)

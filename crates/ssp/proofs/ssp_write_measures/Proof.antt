@@ -5,15 +5,6 @@ use Rattle.ssp.specs.Flat.{flatWritten}
 use Rattle.ssp.proofs.ssp_write_measures.Statement.{statement}
 use Rattle.ssp.proofs.ssp_write_measures.Tie as tie
 
-write-measures-requires : tie.Need-write-measures-requires
-write-measures-requires c κs = search needs
-
-flat-written-requires : tie.Need-flat-written-requires
-flat-written-requires c κs = search needs
-
-same-length : tie.Need-same-length
-same-length c = search needs
-
 returns : tie.Need-returns
 returns c =
     let said = c .before .before .before .write-measures in
@@ -21,4 +12,4 @@ returns c =
 
 pub ssp-write-measures-spec : {M : Type 1} → statement M
 ssp-write-measures-spec =
-    tie.close (tie.spec write-measures-requires flat-written-requires same-length returns)
+    tie.close (tie.spec (search needs) (search needs) (λ c. search needs) returns)

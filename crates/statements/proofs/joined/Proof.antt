@@ -5,9 +5,6 @@ use borrow.Author.Needs.{needs}
 use Rattle.statements.proofs.joined.Statement.{statement}
 use Rattle.statements.proofs.joined.Tie as tie
 
-wrapping-add-u64-requires : tie.Need-wrapping-add-u64-requires
-wrapping-add-u64-requires c κs = search needs
-
 returns : tie.Need-returns
 returns c =
     let a = c .before .args in
@@ -15,4 +12,4 @@ returns c =
     (c .wrapping-add-u64 .ensures ∙ wrapped-sum (a .a .0) (a .b .0) (search needs) (search needs) (c .before .pre))
 
 pub joined-spec : {M : Type 1} → statement M
-joined-spec = tie.close (tie.spec wrapping-add-u64-requires returns)
+joined-spec = tie.close (tie.spec (search needs) returns)

@@ -22,21 +22,12 @@ Inv-loop book sums₀ at₀ sums at = Walking book sums₀ (at₀ .0) sums (at .
 abbrev μ-loop : tie.MeasureT-loop
 μ-loop book sums₀ at₀ sums at = at .0
 
-record-requires : tie.Need-record-requires Inv-loop μ-loop
-record-requires c κs = search needs
-
 read-account-requires : tie.Need-read-account-requires Inv-loop μ-loop
 read-account-requires c κs =
     let s = c .before .before in
     let b = now (s .args .book) in
     let i = s .args .user .0 in
     ap length (c .record .ensures) ∙ length-record b i (user-whole b i (s .pre .0) (s .pre .1 .0) (s .pre .1 .1))
-
-sums-before-requires : tie.Need-sums-before-requires Inv-loop μ-loop
-sums-before-requires c κs = search needs
-
-first-entry-of-requires : tie.Need-first-entry-of-requires Inv-loop μ-loop
-first-entry-of-requires c κs = search needs
 
 -- where the loop begins: the function's start, the sums and the index
 abbrev Begun : Type 0
@@ -63,9 +54,6 @@ loop-holds c =
     let given = c .before .before .before .before .before .pre in
     subst₂ (λ s k. Walking (book-of c) s k s k) (sym (sums-begin c)) (sym (index-begins c))
     (starts (book-of c) (user-of c) (given .0) (given .1 .0) (given .1 .1))
-
-follow-requires : tie.Need-follow-requires Inv-loop μ-loop
-follow-requires c κs = search needs
 
 with-entry-requires : tie.Need-with-entry-requires Inv-loop μ-loop
 unfolding linkAt
@@ -118,12 +106,12 @@ statement-of-spec =
     (tie.spec
     Inv-loop
     μ-loop
-    record-requires
+    (search needs)
     read-account-requires
-    sums-before-requires
-    first-entry-of-requires
+    (search needs)
+    (search needs)
     loop-holds
-    follow-requires
+    (search needs)
     with-entry-requires
     loop-less
     loop-again

@@ -11,9 +11,6 @@ use borrow.Author.Needs.{needs}
 use Rattle.statements.proofs.with_entry.Statement.{statement}
 use Rattle.statements.proofs.with_entry.Tie as tie
 
-cast-whole-record : tie.Need-cast-whole-record
-cast-whole-record c = search needs
-
 whole-record-requires : tie.Need-whole-record-requires
 whole-record-requires c κs = c .before .before .pre .1 .1 .1
 
@@ -63,7 +60,7 @@ pub with-entry-spec : {M : Type 1} → statement M
 with-entry-spec =
     tie.close
     (tie.spec
-    cast-whole-record
+    (search needs)
     whole-record-requires
     read-closing-requires
     with-closing-requires

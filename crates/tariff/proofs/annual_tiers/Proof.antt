@@ -9,9 +9,6 @@ use Rattle.tariff.proofs.Tiers.{first-tier-sum}
 use Rattle.tariff.proofs.annual_tiers.Statement.{statement}
 use Rattle.tariff.proofs.annual_tiers.Tie as tie
 
-cut-requires : tie.Need-cut-requires
-cut-requires c κs = search needs
-
 returns : tie.Need-returns
 unfolding domestic annualTiers
 returns c = rw (within 1 2 (c .before .before .if1 .left) (c .before .if2 .taken)) (c .cut .ensures)
@@ -24,4 +21,4 @@ returns-2 c =
     record { tiers = rw other; whole = first-tier-sum (c .before .args .exchanged .0) }
 
 pub annual-tiers-spec : {M : Type 1} → statement M
-annual-tiers-spec = tie.close (tie.spec cut-requires returns returns-2)
+annual-tiers-spec = tie.close (tie.spec (search needs) returns returns-2)

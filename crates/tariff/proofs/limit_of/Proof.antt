@@ -4,9 +4,6 @@ use borrow.Author.Needs.{needs}
 use Rattle.tariff.proofs.limit_of.Statement.{statement}
 use Rattle.tariff.proofs.limit_of.Tie as tie
 
-larger-rate-requires : tie.Need-larger-rate-requires
-larger-rate-requires c κs = search needs
-
 sub-t4 : tie.Need-sub-t4
 sub-t4 c = omega arith
 
@@ -14,4 +11,4 @@ returns : tie.Need-returns
 returns c = omega arith
 
 pub limit-of-spec : {M : Type 1} → statement M
-limit-of-spec = tie.close (tie.spec larger-rate-requires sub-t4 returns)
+limit-of-spec = tie.close (tie.spec (search needs) sub-t4 returns)

@@ -4,12 +4,9 @@ use Rattle.tariff.specs.Tariff.{monthlyTiers}
 use Rattle.tariff.proofs.monthly_tiers.Statement.{statement}
 use Rattle.tariff.proofs.monthly_tiers.Tie as tie
 
-cut-requires : tie.Need-cut-requires
-cut-requires c κs = search needs
-
 returns : tie.Need-returns
 unfolding monthlyTiers
 returns c = c .cut .ensures
 
 pub monthly-tiers-spec : {M : Type 1} → statement M
-monthly-tiers-spec = tie.close (tie.spec cut-requires returns)
+monthly-tiers-spec = tie.close (tie.spec (search needs) returns)

@@ -10,19 +10,10 @@ use Rattle.tariff.proofs.tier_rate.Tie as tie
 returns : tie.Need-returns
 returns c = record { is = ap rate (sym (rate-of-cogeneration _ _ _ (c .if1 .taken))); most = omega arith }
 
-add-t8 : tie.Need-add-t8
-add-t8 c = search needs
-
 returns-2 : tie.Need-returns-2
 returns-2 c =
     let large = c .before .before in
     record { is = ap rate (sym (rate-of-small _ _ (large .before .if1 .left) (large .if2 .taken))); most = omega arith }
-
-limit-of-requires : tie.Need-limit-of-requires
-limit-of-requires c κs = search needs
-
-smaller-rate-requires : tie.Need-smaller-rate-requires
-smaller-rate-requires c κs = search needs
 
 add-t10 : tie.Need-add-t10
 add-t10 c = omega arith
@@ -41,9 +32,9 @@ tier-rate-spec =
     tie.close
     (tie.spec
     returns
-    add-t8
+    (search needs)
     returns-2
-    limit-of-requires
-    smaller-rate-requires
+    (search needs)
+    (search needs)
     add-t10
     returns-3)

@@ -10,9 +10,6 @@ use borrow.Author.Needs.{needs}
 use Rattle.text.proofs.after_blank.Statement.{statement}
 use Rattle.text.proofs.after_blank.Tie as tie
 
-byte-at-requires : tie.Need-byte-at-requires
-byte-at-requires c κs = search needs
-
 add-result : tie.Need-add-result
 add-result c =
     let a = c .before .before .before .args in
@@ -36,4 +33,4 @@ returns-2 c =
     record { place = rw (ne-eqb (getD (now (a .s)) (a .at) 0) 32 (λ z. c .if1 .left (c .before .byte-at .ensures ∙ z))); within = λ h. h }
 
 pub after-blank-spec : {M : Type 1} → statement M
-after-blank-spec = tie.close (tie.spec byte-at-requires add-result returns returns-2)
+after-blank-spec = tie.close (tie.spec (search needs) add-result returns returns-2)

@@ -4,12 +4,6 @@ use Rattle.text.proofs.HexWriting.{digit-to-nine, letter-above-nine}
 use Rattle.text.proofs.digit_of.Statement.{statement}
 use Rattle.text.proofs.digit_of.Tie as tie
 
-add-result : tie.Need-add-result
-add-result c = search needs
-
-add-result-2 : tie.Need-add-result-2
-add-result-2 c = search needs
-
 returns : tie.Need-returns
 returns c = digit-to-nine (c .before .args .n) (c .if1 .taken)
 
@@ -17,4 +11,4 @@ returns-2 : tie.Need-returns-2
 returns-2 c = letter-above-nine (c .before .args .n) (c .if1 .left) (c .before .pre)
 
 pub digit-of-spec : {M : Type 1} → statement M
-digit-of-spec = tie.close (tie.spec add-result add-result-2 returns returns-2)
+digit-of-spec = tie.close (tie.spec (search needs) (search needs) returns returns-2)

@@ -5,9 +5,6 @@ use borrow.Author.Needs.{needs}
 use Rattle.text.proofs.field_at.Statement.{statement}
 use Rattle.text.proofs.field_at.Tie as tie
 
-after-blank-requires : tie.Need-after-blank-requires
-after-blank-requires c κs = search needs
-
 returns : tie.Need-returns
 returns c =
     let a = c .before .before .before .args in
@@ -15,9 +12,6 @@ returns c =
       read = field-none (now (a .s)) (a .at) (c .before .after-blank .result) (c .before .after-blank .ensures .place) (c .if1 .taken);
       next = tt;
     }
-
-number-at-requires : tie.Need-number-at-requires
-number-at-requires c κs = search needs
 
 returns-2 : tie.Need-returns-2
 returns-2 c =
@@ -29,4 +23,4 @@ returns-2 c =
     }
 
 pub field-at-spec : {M : Type 1} → statement M
-field-at-spec = tie.close (tie.spec after-blank-requires returns number-at-requires returns-2)
+field-at-spec = tie.close (tie.spec (search needs) returns (search needs) returns-2)

@@ -35,21 +35,6 @@ loop-holds c = record {
   each = λ j l. absurd (not-suc-le-zero l);
 }
 
-field-at-requires : tie.Need-field-at-requires Inv-loop μ-loop
-field-at-requires c κs = search needs
-
-enum-known-value : tie.Need-enum-known-value Inv-loop μ-loop
-enum-known-value c = search needs
-
-mul-values : tie.Need-mul-values Inv-loop μ-loop
-mul-values c = search needs
-
-array-write-values : tie.Need-array-write-values Inv-loop μ-loop
-array-write-values c = search needs
-
-enum-told : tie.Need-enum-told Inv-loop μ-loop
-enum-told c = search needs
-
 returns : tie.Need-returns Inv-loop μ-loop
 returns c =
     let l = c .before .before .before .before .loop in
@@ -61,12 +46,6 @@ returns c =
       each = l .inv .each;
       stopped = λ m. sym (field .ensures .read) ∙ c .enum-told .given .1;
     }
-
-add-k : tie.Need-add-k Inv-loop μ-loop
-add-k c = search needs
-
-loop-less : tie.Need-loop-less Inv-loop μ-loop
-loop-less c = search needs
 
 loop-again : tie.Need-loop-again Inv-loop μ-loop
 loop-again c =
@@ -106,13 +85,13 @@ fields-from-spec =
     Inv-loop
     μ-loop
     loop-holds
-    field-at-requires
-    enum-known-value
-    mul-values
-    array-write-values
-    enum-told
+    (search needs)
+    (search needs)
+    (search needs)
+    (search needs)
+    (search needs)
     returns
-    add-k
-    loop-less
+    (search needs)
+    (search needs)
     loop-again
     returns-2)

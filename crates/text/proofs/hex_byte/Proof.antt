@@ -8,28 +8,16 @@ use borrow.Author.Needs.{needs}
 use Rattle.text.proofs.hex_byte.Statement.{statement}
 use Rattle.text.proofs.hex_byte.Tie as tie
 
-byte-at-requires : tie.Need-byte-at-requires
-byte-at-requires c κs = search needs
-
 hex-digit-requires : tie.Need-hex-digit-requires
 hex-digit-requires c κs = ap isHexDigit (c .byte-at .ensures) ∙ c .before .before .pre .0
-
-mul-result : tie.Need-mul-result
-mul-result c = search needs
 
 add-byte-at : tie.Need-add-byte-at
 add-byte-at c =
     let start = c .before .before .before in
     omega (arith, hex-inside (now (start .args .s)) (start .args .at) (start .pre .0))
 
-byte-at-requires-2 : tie.Need-byte-at-requires-2
-byte-at-requires-2 c κs = search needs
-
 hex-digit-requires-2 : tie.Need-hex-digit-requires-2
 hex-digit-requires-2 c κs = ap isHexDigit (c .byte-at2 .ensures) ∙ c .before .before .before .before .pre .1
-
-add-result : tie.Need-add-result
-add-result c = search needs
 
 returns : tie.Need-returns
 unfolding hexByte
@@ -42,11 +30,11 @@ pub hex-byte-spec : {M : Type 1} → statement M
 hex-byte-spec =
     tie.close
     (tie.spec
-    byte-at-requires
+    (search needs)
     hex-digit-requires
-    mul-result
+    (search needs)
     add-byte-at
-    byte-at-requires-2
+    (search needs)
     hex-digit-requires-2
-    add-result
+    (search needs)
     returns)

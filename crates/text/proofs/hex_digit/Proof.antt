@@ -11,9 +11,6 @@ sub-result c = omega (arith, value-to-nine (c .before .args .b) (c .before .pre)
 sub-result-2 : tie.Need-sub-result-2
 sub-result-2 c = omega (arith, hex-above-nine (c .before .args .b) (c .before .pre) (c .if1 .left) .0)
 
-add-result : tie.Need-add-result
-add-result c = search needs
-
 returns : tie.Need-returns
 returns c = value-to-nine (c .before .args .b) (c .before .pre) (c .if1 .taken) .1
 
@@ -21,4 +18,4 @@ returns-2 : tie.Need-returns-2
 returns-2 c = value-above-nine (c .before .args .b) (c .before .pre) (c .if1 .left)
 
 pub hex-digit-spec : {M : Type 1} → statement M
-hex-digit-spec = tie.close (tie.spec sub-result sub-result-2 add-result returns returns-2)
+hex-digit-spec = tie.close (tie.spec sub-result sub-result-2 (search needs) returns returns-2)

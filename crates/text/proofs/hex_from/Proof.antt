@@ -30,14 +30,8 @@ Inv-loop s at out₀ count k₀ out k = HexPassed s at out₀ count out k
 abbrev μ-loop : tie.MeasureT-loop
 μ-loop s at out₀ count k₀ out k = count - k
 
-is-hex-requires : tie.Need-is-hex-requires Inv-loop μ-loop
-is-hex-requires c κs = search needs
-
 returns : tie.Need-returns Inv-loop μ-loop
 returns c = sym (c .before .is-hex .ensures) ∙ not-true (c .before .is-hex .result) (c .if1 .taken)
-
-rest-from-requires : tie.Need-rest-from-requires Inv-loop μ-loop
-rest-from-requires c κs = search needs
 
 loop-holds : tie.Need-loop-holds Inv-loop μ-loop
 loop-holds c =
@@ -79,12 +73,6 @@ slice-write-out c =
     let turn = hex-turn (drop (a .at) (now (a .s))) (length (now (a .out))) (l .inv .hex) (now (a .s)) (a .at) (l .k) refl (omega arith) in
     omega (arith, turn .0 .1, l .inv .same)
 
-add-k : tie.Need-add-k Inv-loop μ-loop
-add-k c = search needs
-
-loop-less : tie.Need-loop-less Inv-loop μ-loop
-loop-less c = search needs
-
 loop-again : tie.Need-loop-again Inv-loop μ-loop
 loop-again c =
     let l = c .before .before .loop in
@@ -124,16 +112,16 @@ hex-from-spec =
     (tie.spec
     Inv-loop
     μ-loop
-    is-hex-requires
+    (search needs)
     returns
-    rest-from-requires
+    (search needs)
     loop-holds
     mul-hex-byte
     add-hex-byte
     hex-byte-requires
     slice-write-out
-    add-k
-    loop-less
+    (search needs)
+    (search needs)
     loop-again
     same-length
     returns-2)

@@ -25,38 +25,11 @@ abbrev μ-loop : tie.MeasureT-loop
 loop-holds : tie.Need-loop-holds Inv-loop μ-loop
 loop-holds c = record { within = search needs; same = refl; spelt = λ i l. absurd (not-suc-le-zero l) }
 
-shared-slice-read-digit-of : tie.Need-shared-slice-read-digit-of Inv-loop μ-loop
-shared-slice-read-digit-of c = search needs
-
 digit-of-requires : tie.Need-digit-of-requires Inv-loop μ-loop
 digit-of-requires c κs = omega (arith, c .shared-slice-known2 .given (c .before .before .loop .k))
 
-mul-out : tie.Need-mul-out Inv-loop μ-loop
-mul-out c = search needs
-
-slice-write-out : tie.Need-slice-write-out Inv-loop μ-loop
-slice-write-out c = search needs
-
-shared-slice-read-digit-of-2 : tie.Need-shared-slice-read-digit-of-2 Inv-loop μ-loop
-shared-slice-read-digit-of-2 c = search needs
-
-digit-of-requires-2 : tie.Need-digit-of-requires-2 Inv-loop μ-loop
-digit-of-requires-2 c κs = search needs
-
-mul-out-2 : tie.Need-mul-out-2 Inv-loop μ-loop
-mul-out-2 c = search needs
-
-add-out : tie.Need-add-out Inv-loop μ-loop
-add-out c = search needs
-
 slice-write-out-2 : tie.Need-slice-write-out-2 Inv-loop μ-loop
 slice-write-out-2 c = simp length-set (omega arith)
-
-add-k : tie.Need-add-k Inv-loop μ-loop
-add-k c = search needs
-
-loop-less : tie.Need-loop-less Inv-loop μ-loop
-loop-less c = search needs
 
 loop-again : tie.Need-loop-again Inv-loop μ-loop
 loop-again c =
@@ -70,12 +43,6 @@ loop-again c =
       same = simp length-set (l .inv .same);
       spelt = spelt-more bytes (l .out) (l .k) (one .result) (two .result) room (one .ensures) (two .ensures) (l .inv .spelt);
     }
-
-mul-result : tie.Need-mul-result Inv-loop μ-loop
-mul-result c = search needs
-
-same-length : tie.Need-same-length Inv-loop μ-loop
-same-length c = search needs
 
 returns : tie.Need-returns Inv-loop μ-loop
 returns c =
@@ -93,18 +60,18 @@ hex-to-spec =
     Inv-loop
     μ-loop
     loop-holds
-    shared-slice-read-digit-of
+    (search needs)
     digit-of-requires
-    mul-out
-    slice-write-out
-    shared-slice-read-digit-of-2
-    digit-of-requires-2
-    mul-out-2
-    add-out
+    (search needs)
+    (search needs)
+    (search needs)
+    (search needs)
+    (search needs)
+    (search needs)
     slice-write-out-2
-    add-k
-    loop-less
+    (search needs)
+    (search needs)
     loop-again
-    mul-result
-    same-length
+    (search needs)
+    (λ c. search needs)
     returns)

@@ -19,9 +19,6 @@ Inv-loop s at room digits all₀ i₀ all i =
 abbrev μ-loop : tie.MeasureT-loop
 μ-loop s at room digits all₀ i₀ all i = digits - i
 
-rest-from-requires : tie.Need-rest-from-requires Inv-loop μ-loop
-rest-from-requires c κs = search needs
-
 loop-holds : tie.Need-loop-holds Inv-loop μ-loop
 loop-holds c = (search needs, sym (all-zero (λ j. isHexDigit (getD (drop (c .before .before .args .at) (now (c .before .before .args .s))) j 0))))
 
@@ -29,18 +26,6 @@ add-byte-at : tie.Need-add-byte-at Inv-loop μ-loop
 add-byte-at c =
     let a = c .before .before .before .before .args in
     omega (arith, c .before .before .rest-from .ensures, length-drop (a .at) (now (a .s)))
-
-byte-at-requires : tie.Need-byte-at-requires Inv-loop μ-loop
-byte-at-requires c κs = search needs
-
-is-hex-digit-requires : tie.Need-is-hex-digit-requires Inv-loop μ-loop
-is-hex-digit-requires c κs = search needs
-
-add-i : tie.Need-add-i Inv-loop μ-loop
-add-i c = search needs
-
-loop-less : tie.Need-loop-less Inv-loop μ-loop
-loop-less c = search needs
 
 loop-again : tie.Need-loop-again Inv-loop μ-loop
 loop-again c =
@@ -68,12 +53,12 @@ is-hex-spec =
     (tie.spec
     Inv-loop
     μ-loop
-    rest-from-requires
+    (search needs)
     loop-holds
     add-byte-at
-    byte-at-requires
-    is-hex-digit-requires
-    add-i
-    loop-less
+    (search needs)
+    (search needs)
+    (search needs)
+    (search needs)
     loop-again
     returns)

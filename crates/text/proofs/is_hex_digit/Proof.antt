@@ -4,12 +4,9 @@ use borrow.Author.Needs.{needs}
 use Rattle.text.proofs.is_hex_digit.Statement.{statement}
 use Rattle.text.proofs.is_hex_digit.Tie as tie
 
-is-digit-requires : tie.Need-is-digit-requires
-is-digit-requires c κs = search needs
-
 returns : tie.Need-returns
 unfolding isHexDigit
 returns c = cc
 
 pub is-hex-digit-spec : {M : Type 1} → statement M
-is-hex-digit-spec = tie.close (tie.spec is-digit-requires returns)
+is-hex-digit-spec = tie.close (tie.spec (search needs) returns)

@@ -28,15 +28,6 @@ abbrev μ-loop : tie.MeasureT-loop
 loop-holds : tie.Need-loop-holds Inv-loop μ-loop
 loop-holds c = record { from = search needs; small = search needs; inside = λ l. omega arith; count = refl; number = refl }
 
-byte-at-requires : tie.Need-byte-at-requires Inv-loop μ-loop
-byte-at-requires c κs = search needs
-
-is-digit-requires : tie.Need-is-digit-requires Inv-loop μ-loop
-is-digit-requires c κs = search needs
-
-byte-at-requires-2 : tie.Need-byte-at-requires-2 Inv-loop μ-loop
-byte-at-requires-2 c κs = search needs
-
 sub-digit : tie.Need-sub-digit Inv-loop μ-loop
 sub-digit c =
     let t = c .before in
@@ -45,12 +36,6 @@ sub-digit c =
     let at = t .before .before .before .before .before .args .at in
     let d = sym (ap isDigit (t .before .before .byte-at .ensures)) ∙ sym (t .before .is-digit .ensures) ∙ t .if1 .taken in
     omega (arith, digit-bounds (getD s (l .next) 0) d .0, c .byte-at2 .ensures)
-
-cast-digit : tie.Need-cast-digit Inv-loop μ-loop
-cast-digit c = search needs
-
-sub-if2 : tie.Need-sub-if2 Inv-loop μ-loop
-sub-if2 c = search needs
 
 returns : tie.Need-returns Inv-loop μ-loop
 returns c =
@@ -63,12 +48,6 @@ returns c =
     let more = value-more (l .value) s (l .next) d in
     let least = value-least (l .value * 10 + (getD s (l .next) 0 - 48)) (drop (l .next + 1) s) in
     record { read = number-large s at (omega (arith, digit-bounds (getD s (l .next) 0) d .1, l .inv .number)); next = tt }
-
-mul-value : tie.Need-mul-value Inv-loop μ-loop
-mul-value c = search needs
-
-add-value : tie.Need-add-value Inv-loop μ-loop
-add-value c = search needs
 
 add-next : tie.Need-add-next Inv-loop μ-loop
 add-next c =
@@ -137,15 +116,15 @@ number-at-spec =
     Inv-loop
     μ-loop
     loop-holds
-    byte-at-requires
-    is-digit-requires
-    byte-at-requires-2
+    (search needs)
+    (search needs)
+    (search needs)
     sub-digit
-    cast-digit
-    sub-if2
+    (search needs)
+    (search needs)
     returns
-    mul-value
-    add-value
+    (search needs)
+    (search needs)
     add-next
     loop-less
     loop-again

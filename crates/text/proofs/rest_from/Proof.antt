@@ -6,9 +6,6 @@ use borrow.Author.Needs.{needs}
 use Rattle.text.proofs.rest_from.Statement.{statement}
 use Rattle.text.proofs.rest_from.Tie as tie
 
-sub-result : tie.Need-sub-result
-sub-result c = search needs
-
 returns : tie.Need-returns
 returns c = omega (arith, length-drop (c .before .args .at) (now (c .before .args .s)))
 
@@ -16,4 +13,4 @@ returns-2 : tie.Need-returns-2
 returns-2 c = omega (arith, length-drop (c .before .args .at) (now (c .before .args .s)))
 
 pub rest-from-spec : {M : Type 1} → statement M
-rest-from-spec = tie.close (tie.spec sub-result returns returns-2)
+rest-from-spec = tie.close (tie.spec (search needs) returns returns-2)

@@ -35,20 +35,11 @@ abbrev μ-loop : tie.MeasureT-loop
 loop-holds : tie.Need-loop-holds Inv-loop μ-loop
 loop-holds c = (search needs, refl)
 
-shared-slice-read-if1 : tie.Need-shared-slice-read-if1 Inv-loop μ-loop
-shared-slice-read-if1 c = search needs
-
 returns : tie.Need-returns Inv-loop μ-loop
 returns c =
     let l = c .before .before .before .loop in
     let a = c .before .before .before .before .args in
     record { end = ends-here (now (a .s)) (l .at) (search needs) (c .if1 .taken) ∙ l .inv .1; after = search needs }
-
-add-at : tie.Need-add-at Inv-loop μ-loop
-add-at c = search needs
-
-loop-less : tie.Need-loop-less Inv-loop μ-loop
-loop-less c = search needs
 
 loop-again : tie.Need-loop-again Inv-loop μ-loop
 loop-again c =
@@ -69,9 +60,9 @@ word-end-spec =
     Inv-loop
     μ-loop
     loop-holds
-    shared-slice-read-if1
+    (search needs)
     returns
-    add-at
-    loop-less
+    (search needs)
+    (search needs)
     loop-again
     returns-2)

@@ -5,9 +5,6 @@ use borrow.Author.Needs.{needs}
 use Rattle.units.proofs.priced.Statement.{statement}
 use Rattle.units.proofs.priced.Tie as tie
 
-cast-t3 : tie.Need-cast-t3
-cast-t3 c = search needs
-
 mul-t4 : tie.Need-mul-t4
 mul-t4 c = record { fits = product-fits 64 (2 ^ 32) 1000000 (search needs) (search needs) tt }
 
@@ -15,4 +12,4 @@ returns : tie.Need-returns
 returns c = search needs
 
 pub priced-spec : {M : Type 1} → statement M
-priced-spec = tie.close (tie.spec cast-t3 mul-t4 returns)
+priced-spec = tie.close (tie.spec (search needs) mul-t4 returns)

@@ -5,9 +5,6 @@ use Rattle.account_steps.proofs.TwoYears.{runs-open, advances-open, adv
 use Rattle.account_steps.proofs.Account.advanced.Statement.{statement}
 use Rattle.account_steps.proofs.Account.advanced.Tie as tie
 
-cast-if1 : tie.Need-cast-if1
-cast-if1 c = search needs
-
 add-t10 : tie.Need-add-t10
 add-t10 c =
     omega (
@@ -51,4 +48,4 @@ returns-2 : tie.Need-returns-2
 returns-2 c = advanced-later _ _ (c .before .before .before .if1 .left) _ _
 
 pub advanced-spec : {M : Type 1} → statement M
-advanced-spec = tie.close (tie.spec cast-if1 add-t10 add-self add-t11 add-self-2 returns returns-2)
+advanced-spec = tie.close (tie.spec (search needs) add-t10 add-self add-t11 add-self-2 returns returns-2)

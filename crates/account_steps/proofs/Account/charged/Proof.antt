@@ -7,12 +7,6 @@ use borrow.Author.Needs.{needs}
 use Rattle.account_steps.proofs.Account.charged.Statement.{statement}
 use Rattle.account_steps.proofs.Account.charged.Tie as tie
 
-charge-of-requires : tie.Need-charge-of-requires
-charge-of-requires c κs = search needs
-
-add-t5 : tie.Need-add-t5
-add-t5 c = search needs
-
 returns : tie.Need-returns
 unfolding accountCharged
 returns c =
@@ -20,4 +14,4 @@ returns c =
     ap (λ (t : Ticks). withCharge (chargeIs 1 (a .charge .rest .0 + t .0)) a) (c .before .before .charge-of .ensures .is)
 
 pub charged-spec : {M : Type 1} → statement M
-charged-spec = tie.close (tie.spec charge-of-requires add-t5 returns)
+charged-spec = tie.close (tie.spec (search needs) (search needs) returns)

@@ -4,17 +4,8 @@ use borrow.Author.Needs.{needs}
 use Rattle.account_steps.proofs.Account.closed.Statement.{statement}
 use Rattle.account_steps.proofs.Account.closed.Tie as tie
 
-settle-requires : tie.Need-settle-requires
-settle-requires c κs = search needs
-
-credit-after-requires : tie.Need-credit-after-requires
-credit-after-requires c κs = search needs
-
-add-self : tie.Need-add-self
-add-self c = search needs
-
 returns : tie.Need-returns
 returns c = closed-of-parts _ _ _ _ (c .before .before .before .before .before .before .before .settle .ensures) (c .before .before .before .before .before .before .credit-after .ensures)
 
 pub closed-spec : {M : Type 1} → statement M
-closed-spec = tie.close (tie.spec settle-requires credit-after-requires add-self returns)
+closed-spec = tie.close (tie.spec (search needs) (search needs) (search needs) returns)

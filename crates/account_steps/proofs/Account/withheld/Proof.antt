@@ -5,12 +5,9 @@ use mathlib.Core.Path.{refl}
 use Rattle.account_steps.proofs.Account.withheld.Statement.{statement}
 use Rattle.account_steps.proofs.Account.withheld.Tie as tie
 
-sub-t6 : tie.Need-sub-t6
-sub-t6 c = search needs
-
 returns : tie.Need-returns
 unfolding accountWithheld
 returns c = refl
 
 pub withheld-spec : {M : Type 1} → statement M
-withheld-spec = tie.close (tie.spec sub-t6 returns)
+withheld-spec = tie.close (tie.spec (search needs) returns)

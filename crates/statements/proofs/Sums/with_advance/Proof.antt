@@ -7,15 +7,6 @@ use borrow.Author.Needs.{needs}
 use Rattle.statements.proofs.Sums.with_advance.Statement.{statement}
 use Rattle.statements.proofs.Sums.with_advance.Tie as tie
 
-add-if1 : tie.Need-add-if1
-add-if1 c = search needs
-
-cast-if1 : tie.Need-cast-if1
-cast-if1 c = search needs
-
-add-t7 : tie.Need-add-t7
-add-t7 c = search needs
-
 returns : tie.Need-returns
 unfolding advanceAdded
 returns c =
@@ -24,4 +15,4 @@ returns c =
     (λ w. rw (le-ltb (a .advance .year) (a .self .«open_year») (w .0 .left), w .1, add-zero)) (c .if1 .came)
 
 pub with-advance-spec : {M : Type 1} → statement M
-with-advance-spec = tie.close (tie.spec add-if1 cast-if1 add-t7 returns)
+with-advance-spec = tie.close (tie.spec (search needs) (search needs) (search needs) returns)

@@ -4,21 +4,6 @@ use borrow.Author.Needs.{needs}
 use Rattle.statements.proofs.Sums.with_closing.Statement.{statement}
 use Rattle.statements.proofs.Sums.with_closing.Tie as tie
 
-add-t10 : tie.Need-add-t10
-add-t10 c = search needs
-
-add-t10-2 : tie.Need-add-t10-2
-add-t10-2 c = search needs
-
-add-t10-3 : tie.Need-add-t10-3
-add-t10-3 c = search needs
-
-add-t10-4 : tie.Need-add-t10-4
-add-t10-4 c = search needs
-
-add-t10-5 : tie.Need-add-t10-5
-add-t10-5 c = search needs
-
 add-t10-6 : tie.Need-add-t10-6
 add-t10-6 c = record { fits = c .before .before .before .before .before .before .before .before .before .before .before .before .pre .lapsed }
 
@@ -32,4 +17,4 @@ returns c = rw (c .joined .ensures)
 pub with-closing-spec : {M : Type 1} → statement M
 with-closing-spec =
     tie.close
-    (tie.spec add-t10 add-t10-2 add-t10-3 add-t10-4 add-t10-5 add-t10-6 joined-requires returns)
+    (tie.spec (search needs) (search needs) (search needs) (search needs) (search needs) add-t10-6 joined-requires returns)

@@ -18,9 +18,6 @@ Inv-loop plant power end i₀ i =
 abbrev μ-loop : tie.MeasureT-loop
 μ-loop plant power end i₀ i = end - i
 
-rows-of-requires : tie.Need-rows-of-requires Inv-loop μ-loop
-rows-of-requires c κs = search needs
-
 loop-holds : tie.Need-loop-holds Inv-loop μ-loop
 unfolding tableEuroPerMwh
 loop-holds c = (omega arith, ap (firstReaching (c .before .args .power)) (c .rows-of .ensures .rows))
@@ -71,7 +68,7 @@ euro-per-mwh-spec =
     (tie.spec
     Inv-loop
     μ-loop
-    rows-of-requires
+    (search needs)
     loop-holds
     mul-if1
     array-read-if1

@@ -5,15 +5,6 @@ use Rattle.tariff.specs.Table1.{table1}
 use Rattle.tariff.proofs.table1.rows_of.Statement.{statement}
 use Rattle.tariff.proofs.table1.rows_of.Tie as tie
 
-block-of-requires : tie.Need-block-of-requires
-block-of-requires c κs = search needs
-
-sub-place : tie.Need-sub-place
-sub-place c = search needs
-
-cast-place : tie.Need-cast-place
-cast-place c = search needs
-
 mul-first : tie.Need-mul-first
 unfolding table1
 mul-first c = omega arith
@@ -30,4 +21,4 @@ returns : tie.Need-returns
 returns c = search needs
 
 pub rows-of-spec : {M : Type 1} → statement M
-rows-of-spec = tie.close (tie.spec block-of-requires sub-place cast-place mul-first add-first add-t6 returns)
+rows-of-spec = tie.close (tie.spec (search needs) (search needs) (search needs) mul-first add-first add-t6 returns)
