@@ -1,6 +1,6 @@
 -- An advance on a sound book: refused because no user has the number, or by its objection, or booked as the definition has it.
 use Prim.Native.Nat.{ℕ, _+_, _^_, _≤_, _<_}
-use mathlib.Core.Path.{_≡_, refl, ap, sym, _∙_}
+use mathlib.Core.Path.{_≡_, refl, ap, _∙_}
 use mathlib.Core.Bool.{Bool, true}
 use mathlib.Core.Logic.{_⊎_, inl, inr}
 use mathlib.Core.List.{List}
@@ -14,13 +14,12 @@ use Rattle.account_steps.specs.declared.Account.{Account}
 use Rattle.account_steps.specs.Account.{runsIn, advancesIn, accountAdvanced}
 use Rattle.account_steps.proofs.TwoYears.{runs-open, advances-open, runs-later, advances-later}
 use Rattle.book_rules.specs.Book.{isUser, accountAt, accountFits, halvesFit}
-use Rattle.book_rules.proofs.Faultless.{sound-faultless}
 use Rattle.check_book.specs.Verdicts.{Accepted}
 use Rattle.call_rules.specs.Changes.{applied, runAmount}
 use Rattle.book_rules.specs.Find.{findUser}
 use Rattle.call_rules.specs.Rules.{testOf, refusedBy as refusedBy}
 use Rattle.call_rules.specs.Refusals.{lookOf, lookAt, hasRoom, runOpen, orderFits}
-use Rattle.call_rules.specs.Calls.{Call, advance, namedBy, rulesOf, refusalOf, changeOf, booked}
+use Rattle.call_rules.specs.Calls.{Call, advance, namedBy, rulesOf, changeOf, booked}
 use Rattle.call_keeps.proofs.Ranges.{account-good}
 use Rattle.call_keeps.proofs.Widths.{AccountWithin, account-within}
 use Rattle.call_rules.proofs.Orders.{fact}
@@ -30,7 +29,8 @@ use Rattle.call_keeps.proofs.Advance.{RunDue, run-due, run-at-most}
 use Rattle.call_answers.specs.declared.Reply.{Reply}
 use Rattle.call_answers.specs.Answers.{Answered}
 use Rattle.call_answers.specs.Replies.{refusedWith}
-use Rattle.call_answers.proofs.Answers.{sound-refusal, refused-by-rule, refused-absent, accepted}
+use Rattle.call_answers.proofs.Answers.{refused-absent, accepted}
+use Rattle.call_answers.proofs.Judged.{Judged, account-is, account-fits, none-refused}
 use Rattle.call_answers.proofs.Rooms.{entry-fits}
 use Rattle.call_advance.specs.Advances.{RunFits, runBooked, ticksAnswered}
 
@@ -77,66 +77,64 @@ module _ (b : List ℕ) (n y r p e₁ e₂ : ℕ) where
     unfolding rulesOf namedBy
     advance-absent none = refused-absent b call 0 a _ refl user there none
 
-    module _ (some : user .0 ≡ 0 → ⊥) (account : Account) (read : account ≡ accountAt b (user .0)) (room : Bool) (left : room ≡ hasRoom b) (refusal : ℕ)
-        (objection : (number index : ℕ) → (index ≡ 0 → ⊥) → refusal ≡ refusedBy (rulesOf (lookOf index account room) (advance number y r p e₁ e₂))) where
-      by-rule : refusal ≡ refusedBy (rulesOf (lookAt b (namedBy call)) call)
-      unfolding namedBy lookAt
-      by-rule = objection n (user .0) some ∙ rw (left, read, there)
+    pub advance-judged : (user .0 ≡ 0 → ⊥) → (account : Account) → account ≡ accountAt b (user .0) → (room : Bool) → room ≡ hasRoom b → (refusal : ℕ)
+        → ((number index : ℕ) → (index ≡ 0 → ⊥) → refusal ≡ refusedBy (rulesOf (lookOf index account room) (advance number y r p e₁ e₂)))
+        → Judged b call user account refusal
+    unfolding namedBy lookAt
+    advance-judged some account read room left refusal objection =
+        record { sound = a; there = there; read = read; by-rule = objection n (user .0) some ∙ rw (left, read, there) }
 
-      pub advance-refused : (refusal ≡ 0 → ⊥) → (reply : Reply) → reply ≡ refusedWith refusal → Answered b call 0 (reply .refusal) (reply .«record» .0) b
-      advance-refused = refused-by-rule b call 0 a refusal by-rule
+  module _ {user : RecordIndex} {account : Account} {refusal : ℕ} (j : Judged b call user account refusal) (none : refusal ≡ 0) where
+    read-there : account ≡ accountAt b (findUser b n)
+    unfolding namedBy
+    read-there = account-is b call j
 
-      module _ (none : refusal ≡ 0) where
-        none-refused : refusalOf b call ≡ 0
-        none-refused = sound-refusal b call a ∙ sym by-rule ∙ none
+    is-user : isUser b (findUser b n) ≡ true
+    unfolding testOf rulesOf lookAt namedBy
+    is-user = named-user b n (fact b call (none-refused b call j none) 6) .user
 
-        account-is : account ≡ accountAt b (findUser b n)
-        account-is = read ∙ ap (λ i. accountAt b (i .0)) there
+    fits : accountFits account ≡ true
+    unfolding namedBy
+    fits = account-fits b call j is-user
 
-        is-user : isUser b (findUser b n) ≡ true
-        unfolding testOf rulesOf lookAt namedBy
-        is-user = named-user b n (fact b call none-refused 6) .user
+    is-open : runOpen account y r ≡ true
+    unfolding testOf rulesOf lookAt namedBy
+    is-open = rw read-there (fact b call (none-refused b call j none) 9)
 
-        account-fits : accountFits account ≡ true
-        account-fits = rw account-is (sound-faultless b (a .fits) (a .isSound) .user (findUser b n) is-user .fits)
+    pub halves-fit : (y < 2 ^ 16) × (halvesFit account ≡ true)
+    halves-fit = (omega (arith, run-due account y r is-open .last), account-good account fits .halves)
 
-        is-open : runOpen account y r ≡ true
-        unfolding testOf rulesOf lookAt namedBy
-        is-open = rw account-is (fact b call none-refused 9)
+    pub order-fits : orderFits p e₁ e₂ ≡ true
+    unfolding testOf rulesOf lookAt namedBy
+    order-fits = fact b call (none-refused b call j none) 10
 
-        pub halves-fit : (y < 2 ^ 16) × (halvesFit account ≡ true)
-        halves-fit = (omega (arith, run-due account y r is-open .last), account-good account account-fits .halves)
+    has-room : hasRoom b ≡ true
+    unfolding testOf rulesOf lookAt namedBy
+    has-room = fact b call (none-refused b call j none) 3
 
-        pub order-fits : orderFits p e₁ e₂ ≡ true
-        unfolding testOf rulesOf lookAt namedBy
-        order-fits = fact b call none-refused 10
+    module _ (paid : Ticks) (amount : paid ≡ ticks (runAmount account y r p e₁ e₂)) where
+      paid-is : paid .0 ≡ runAmount (accountAt b (findUser b n)) y r p e₁ e₂
+      paid-is = rw (amount, read-there)
 
-        has-room : hasRoom b ≡ true
-        unfolding testOf rulesOf lookAt namedBy
-        has-room = fact b call none-refused 3
+      paid-ticks : paid ≡ ticks (runAmount (accountAt b (findUser b n)) y r p e₁ e₂)
+      paid-ticks = ap ticks paid-is
 
-        module _ (paid : Ticks) (amount : paid ≡ ticks (runAmount account y r p e₁ e₂)) where
-          paid-is : paid .0 ≡ runAmount (accountAt b (findUser b n)) y r p e₁ e₂
-          paid-is = rw (amount, account-is)
+      pub run-fits : RunFits b (user .0) account y r (paid .0)
+      unfolding namedBy
+      run-fits =
+          let w = sums-within account y r p e₁ e₂ fits is-open order-fits in
+          record {
+            entry = entry-fits b (j .sound) (user .0) account (j .read) (rw (j .there) is-user) has-room;
+            year-below = halves-fit .0;
+            runs = w .0;
+            advances = rw amount (w .1);
+          }
 
-          paid-ticks : paid ≡ ticks (runAmount (accountAt b (findUser b n)) y r p e₁ e₂)
-          paid-ticks = ap ticks paid-is
+      pub advance-booked : (after : List ℕ)
+          → after ≡ applied (user .0) (runBooked account y r (paid .0)) b → Answered b call 0 0 0 after
+      unfolding booked changeOf namedBy runBooked
+      advance-booked after e = accepted b call 0 after (none-refused b call j none) (e ∙ rw (paid-ticks, read-there, j .there))
 
-          pub run-fits : RunFits b (user .0) account y r (paid .0)
-          run-fits =
-              let w = sums-within account y r p e₁ e₂ account-fits is-open order-fits in
-              record {
-                entry = entry-fits b a (user .0) account read (rw there is-user) has-room;
-                year-below = halves-fit .0;
-                runs = w .0;
-                advances = rw amount (w .1);
-              }
-
-          pub advance-booked : (after : List ℕ)
-              → after ≡ applied (user .0) (runBooked account y r (paid .0)) b → Answered b call 0 0 0 after
-          unfolding booked changeOf namedBy runBooked
-          advance-booked after e = accepted b call 0 after none-refused (e ∙ rw (paid-ticks, account-is, there))
-
-          pub ticks-answered : paid ≡ ticksAnswered b n y r p e₁ e₂ 0
-          unfolding ticksAnswered
-          ticks-answered = ap ticks paid-is
+      pub ticks-answered : paid ≡ ticksAnswered b n y r p e₁ e₂ 0
+      unfolding ticksAnswered
+      ticks-answered = ap ticks paid-is

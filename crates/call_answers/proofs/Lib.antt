@@ -1,3 +1,4 @@
 pub mod Answers
+pub mod Judged
 pub mod Looks
 pub mod Rooms

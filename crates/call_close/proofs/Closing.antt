@@ -19,20 +19,20 @@ use Rattle.sheet_values.specs.YearsValues.{yearValues, ValuesFit}
 use Rattle.account_steps.specs.declared.Account.{Account}
 use Rattle.account_steps.specs.Account.{InRange}
 use Rattle.book_rules.specs.Book.{isUser, accountAt, accountFits}
-use Rattle.book_rules.proofs.Faultless.{sound-faultless}
 use Rattle.check_book.specs.Verdicts.{Accepted}
 use Rattle.call_rules.specs.Changes.{applied}
 use Rattle.book_rules.specs.Find.{findUser}
 use Rattle.call_rules.specs.Rules.{testOf, refusedBy as refusedBy}
 use Rattle.call_rules.specs.Refusals.{Look, lookOf, lookAt, hasRoom, yearOpen}
-use Rattle.call_rules.specs.Calls.{close, namedBy, sheetRules, rulesOf, refusalOf, changeOf, booked}
+use Rattle.call_rules.specs.Calls.{close, namedBy, sheetRules, rulesOf, changeOf, booked}
 use Rattle.call_keeps.proofs.Widths.{account-within}
 use Rattle.call_rules.proofs.Orders.{fact}
 use Rattle.call_keeps.proofs.CallsFit.{named-user, sheet-passed}
 use Rattle.call_answers.specs.declared.Reply.{Reply}
 use Rattle.call_answers.specs.Answers.{Answered}
 use Rattle.call_answers.specs.Replies.{refusedWith}
-use Rattle.call_answers.proofs.Answers.{sound-refusal, refused-by-rule, refused-absent, refuses, accepted}
+use Rattle.call_answers.proofs.Answers.{refused-by-rule, refused-absent, refuses, accepted}
+use Rattle.call_answers.proofs.Judged.{Judged, account-is, account-fits, judged-refused, none-refused}
 use Rattle.call_answers.proofs.Rooms.{entry-fits}
 use Rattle.account_steps.specs.declared.ClosingSums.{ClosingSums}
 use Rattle.account_steps.specs.Account.{settled}
@@ -93,63 +93,64 @@ module _ (b s : List ℕ) where
       unfolding namedBy
       close-absent none = refused-absent b (close s) 0 a _ (past-11 (lookAt b n)) user there none
 
-      module _ (some : user .0 ≡ 0 → ⊥) (account : Account) (read : account ≡ accountAt b (user .0)) (room : Bool) (left : room ≡ hasRoom b) (part : List ℕ) (whole : part ≡ s)
-          (refusal : ℕ) (objection : (index : ℕ) → (index ≡ 0 → ⊥) → refusal ≡ refusedBy (sheetRules (lookOf index account room) part)) where
-        account-is : account ≡ accountAt b (findUser b n)
-        account-is = read ∙ ap (λ i. accountAt b (i .0)) there
-
+      -- the rules of a closing were asked
+      module _ (some : user .0 ≡ 0 → ⊥) (account : Account) (read : account ≡ accountAt b (user .0)) (room : Bool) (left : room ≡ hasRoom b) where
         looked : lookOf (user .0) account room ≡ lookAt b n
         unfolding lookAt
-        looked = rw (left, account-is, there)
+        looked = rw (left, read, there)
 
-        by-rule : refusal ≡ refusedBy (rulesOf (lookAt b (namedBy (close s))) (close s))
+        pub judged : (part : List ℕ) → part ≡ s → (refusal : ℕ)
+            → ((index : ℕ) → (index ≡ 0 → ⊥) → refusal ≡ refusedBy (sheetRules (lookOf index account room) part)) → Judged b (close s) user account refusal
         unfolding namedBy
-        by-rule =
-            objection (user .0) some ∙ ap₂ (λ (v : Look) (x : List ℕ). refusedBy (sheetRules v x)) looked whole ∙ sym (past-11 (lookAt b n))
+        judged part whole refusal objection =
+            record {
+              sound = a;
+              there = there;
+              read = read;
+              by-rule = objection (user .0) some ∙ ap₂ (λ (v : Look) (x : List ℕ). refusedBy (sheetRules v x)) looked whole ∙ sym (past-11 (lookAt b n));
+            }
 
-        pub close-refused : (refusal ≡ 0 → ⊥) → (p : Position) → Tells part refusal p → (reply : Reply) → reply ≡ refusedWith refusal → (r : Closed) → r ≡ refusedClosing reply p → Said r b
-        close-refused some p told reply e =
-            let told-of : Tells s refusal p = rw whole at told in
-            leaves reply p (refuses refusal reply e some) (refused-by-rule b (close s) 0 a refusal by-rule some reply e) (rw e told-of)
+module _ (b s : List ℕ) {user : RecordIndex} {account : Account} {refusal : ℕ} (j : Judged b (close s) user account refusal) where
+  pub close-refused : (refusal ≡ 0 → ⊥) → (p : Position) → Tells s refusal p → (reply : Reply) → reply ≡ refusedWith refusal → (r : Closed) → r ≡ refusedClosing reply p → Said b s r b
+  close-refused some p told reply e =
+      leaves b s reply p (refuses refusal reply e some) (judged-refused b (close s) j 0 some reply e) (rw e told)
 
-        module _ (none : refusal ≡ 0) where
-          none-refused : refusalOf b (close s) ≡ 0
-          none-refused = sound-refusal b (close s) a ∙ sym by-rule ∙ none
+  read-there : account ≡ accountAt b (findUser b (sheetUser s))
+  unfolding namedBy
+  read-there = account-is b (close s) j
 
-          is-user : isUser b (findUser b n) ≡ true
-          unfolding testOf rulesOf lookAt namedBy
-          is-user = named-user b n (fact b (close s) none-refused 6) .user
+  module _ (none : refusal ≡ 0) where
+    is-user : isUser b (findUser b (sheetUser s)) ≡ true
+    unfolding testOf rulesOf lookAt namedBy
+    is-user = named-user b (sheetUser s) (fact b (close s) (none-refused b (close s) j none) 6) .user
 
-          account-fits : accountFits account ≡ true
-          account-fits = rw account-is (sound-faultless b (a .fits) (a .isSound) .user (findUser b n) is-user .fits)
+    pub passed : SheetPassed s
+    passed = sheet-passed b s (none-refused b (close s) j none)
 
-          pub passed : SheetPassed s
-          passed = sheet-passed b s none-refused
+    module _ (v : YearValues) (worked : ValuesWorked s (account .details) v) where
+      values-are : v ≡ yearValues s (accountAt b (findUser b (sheetUser s)) .details)
+      values-are = worked .are ∙ ap (λ x. yearValues s (x .details)) read-there
 
-          module _ (v : YearValues) (worked : ValuesWorked s (account .details) v) where
-            values-are : v ≡ yearValues s (accountAt b (findUser b n) .details)
-            values-are = worked .are ∙ ap (λ x. yearValues s (x .details)) account-is
+      pub year-fits : YearFits b (user .0) account v
+      unfolding testOf rulesOf lookAt namedBy
+      year-fits =
+          let met = fact b (close s) (none-refused b (close s) j none) in
+          record {
+            entry = entry-fits b (j .sound) (user .0) account (j .read) (rw (j .there) is-user) (met 3);
+            in-range = in-range account v (sheetYear s) (account-fits b (close s) j is-user) (worked .fit) (rw read-there (met 12));
+          }
 
-            pub year-fits : YearFits b (user .0) account v
-            unfolding testOf rulesOf lookAt namedBy
-            year-fits =
-                let met = fact b (close s) none-refused in
-                record {
-                  entry = entry-fits b a (user .0) account read (rw there is-user) (met 3);
-                  in-range = in-range account v (sheetYear s) account-fits (worked .fit) (rw account-is (met 12));
-                }
+      book-is : (after : List ℕ)
+          → after ≡ applied (user .0) (yearBooked account v) b
+          → Answered b (close s) 0 0 0 after
+      unfolding booked changeOf namedBy yearBooked
+      book-is after e = accepted b (close s) 0 after (none-refused b (close s) j none) (e ∙ rw (values-are, read-there, j .there))
 
-            book-is : (after : List ℕ)
-                → after ≡ applied (user .0) (yearBooked account v) b
-                → Answered b (close s) 0 0 0 after
-            unfolding booked changeOf namedBy yearBooked
-            book-is after e = accepted b (close s) 0 after none-refused (e ∙ rw (values-are, account-is, there))
+      sums-answered : (sums : ClosingSums) → sums ≡ settled account v → sums ≡ sumsAnswered b s 0
+      unfolding sumsAnswered
+      sums-answered sums e = e ∙ rw (values-are, read-there)
 
-            sums-answered : (sums : ClosingSums) → sums ≡ settled account v → sums ≡ sumsAnswered b s 0
-            unfolding sumsAnswered
-            sums-answered sums e = e ∙ rw (values-are, account-is)
-
-            pub close-booked : (after : List ℕ)
-                → after ≡ applied (user .0) (yearBooked account v) b
-                → (sums : ClosingSums) → sums ≡ settled account v → Said (record { reply = refusedWith 0; position = nowhere; sums = sums }) after
-            close-booked after e sums are = (book-is after e, (untold-before s 0 (omega arith), sums-answered sums are))
+      pub close-booked : (after : List ℕ)
+          → after ≡ applied (user .0) (yearBooked account v) b
+          → (sums : ClosingSums) → sums ≡ settled account v → Said b s (record { reply = refusedWith 0; position = nowhere; sums = sums }) after
+      close-booked after e sums are = (book-is after e, (untold-before s 0 (omega arith), sums-answered sums are))

@@ -1,6 +1,6 @@
 -- An election on a sound book: refused because no user has the number, or by its objection, or booked as the definition has it.
 use Prim.Native.Nat.{ℕ}
-use mathlib.Core.Path.{_≡_, refl, sym, _∙_}
+use mathlib.Core.Path.{_≡_, refl, _∙_}
 use mathlib.Core.Bool.{Bool}
 use mathlib.Core.List.{List}
 use Rattle.units.specs.declared.RecordIndex.{RecordIndex}
@@ -17,7 +17,8 @@ use Rattle.call_rules.specs.Calls.{Call, elect, namedBy, rulesOf, changeOf, boo
 use Rattle.call_answers.specs.declared.Reply.{Reply}
 use Rattle.call_answers.specs.Answers.{Answered}
 use Rattle.call_answers.specs.Replies.{refusedWith}
-use Rattle.call_answers.proofs.Answers.{sound-refusal, refused-by-rule, refused-absent, accepted}
+use Rattle.call_answers.proofs.Answers.{refused-absent, accepted}
+use Rattle.call_answers.proofs.Judged.{Judged, none-refused}
 
 module _ (b : List ℕ) (a : Accepted b) (n o y m d : ℕ) (user : RecordIndex) (there : user ≡ recordIndex (findUser b n)) where
   abbrev c : Call
@@ -27,17 +28,14 @@ module _ (b : List ℕ) (a : Accepted b) (n o y m d : ℕ) (user : RecordIndex) 
   unfolding rulesOf namedBy
   elect-absent none = refused-absent b c 0 a _ refl user there none
 
-  module _ (some : user .0 ≡ 0 → ⊥) (account : Account) (read : account ≡ accountAt b (user .0)) (r : ℕ)
-      (objection : (number index : ℕ) (room : Bool) → (index ≡ 0 → ⊥) → r ≡ refusedBy (rulesOf (lookOf index account room) (elect number o y m d))) where
-    by-rule : r ≡ refusedBy (rulesOf (lookAt b (namedBy c)) c)
-    unfolding namedBy lookAt
-    by-rule = objection n (user .0) (hasRoom b) some ∙ rw (read, there)
+  pub elect-judged : (user .0 ≡ 0 → ⊥) → (account : Account) → account ≡ accountAt b (user .0) → (r : ℕ)
+      → ((number index : ℕ) (room : Bool) → (index ≡ 0 → ⊥) → r ≡ refusedBy (rulesOf (lookOf index account room) (elect number o y m d))) → Judged b c user account r
+  unfolding namedBy lookAt
+  elect-judged some account read r objection =
+      record { sound = a; there = there; read = read; by-rule = objection n (user .0) (hasRoom b) some ∙ rw (read, there) }
 
-    pub elect-refused : (r ≡ 0 → ⊥) → (reply : Reply) → reply ≡ refusedWith r → Answered b c 0 (reply .refusal) (reply .«record» .0) b
-    elect-refused = refused-by-rule b c 0 a r by-rule
-
-    pub elect-booked : r ≡ 0 → (next : Account) → next ≡ accountElected o account → (after : List ℕ) → after ≡ withAccount (user .0) next b
-        → Answered b (elect n o y m d) 0 0 0 after
-    unfolding booked applied changeOf namedBy
-    elect-booked none next f after g =
-        accepted b (elect n o y m d) 0 after (sound-refusal b c a ∙ sym by-rule ∙ none) (g ∙ rw (f, read, there))
+pub elect-booked : (b : List ℕ) (n o y m d : ℕ) {user : RecordIndex} {account : Account} {r : ℕ} → Judged b (elect n o y m d) user account r → r ≡ 0
+    → (next : Account) → next ≡ accountElected o account → (after : List ℕ) → after ≡ withAccount (user .0) next b → Answered b (elect n o y m d) 0 0 0 after
+unfolding booked applied changeOf namedBy
+elect-booked b n o y m d j none next f after g =
+    accepted b (elect n o y m d) 0 after (none-refused b (elect n o y m d) j none) (g ∙ rw (f, j .read, j .there))

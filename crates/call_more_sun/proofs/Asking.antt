@@ -26,9 +26,17 @@ use Rattle.call_answers.proofs.Answers.{refused-after, past-look, refuses}
 use Rattle.sheet_more_sun.specs.declared.Addition.{Addition}
 use Rattle.sheet_more_sun.specs.MoreSun.{moreSun}
 use Rattle.call_more_sun.specs.declared.MoreSun.{MoreSun}
-use Rattle.call_more_sun.specs.Answers.{refusedSun}
+use Rattle.call_more_sun.specs.InnerAnswers.{refusedSun}
 use Rattle.call_more_sun.specs.Asked.{hasField, fieldRules, moreSunRules, moreSunOrder, additionAnswered}
 use Rattle.call_more_sun.proofs.Orders.{without-0, without-2}
+
+-- what is known once the rules of the sheet's numbers were asked, of the user that was found
+pub record Judged (b s : List ℕ) (month band : ℕ) (user : RecordIndex) (refusal : ℕ) : Type 0 where
+  pub sound : Accepted b
+  pub right : refused11 s ≡ false
+  pub there : user ≡ recordIndex (findUser b (sheetUser s))
+  pub by-field : refusal ≡ refusedBy (fieldRules s month band)
+  pub past-user : refusedBy (moreSunRules (lookAt b (sheetUser s)) s month band) ≡ refusedBy (fieldRules s month band)
 
 module _ (b s : List ℕ) (month band : ℕ) where
   abbrev pub Said : MoreSun → Type 0
@@ -69,32 +77,39 @@ module _ (b s : List ℕ) (month band : ℕ) where
       unfolding refusedBy lookAt
       leaves-absent none = leaves-by 6 nowhere (rw (right, eq-eqb (findUser b (sheetUser s)) 0 (sym index-is ∙ none)) refl) (omega arith) (untold-before s 6 (omega arith))
 
-      module _ (some : user .0 ≡ 0 → ⊥) where
-        past-user : refusedBy (moreSunRules (lookAt b (sheetUser s)) s month band) ≡ refusedBy (fieldRules s month band)
-        unfolding refusedBy lookAt
-        past-user = rw (right, ne-eqb (findUser b (sheetUser s)) 0 (λ z. some (index-is ∙ z))) refl
+      -- the rules of the sheet's numbers were asked
+      pub judged : (user .0 ≡ 0 → ⊥) → (refusal : ℕ) → refusal ≡ refusedBy (fieldRules s month band) → Judged b s month band user refusal
+      unfolding refusedBy lookAt
+      judged some refusal by-field =
+          record {
+            sound = a;
+            right = right;
+            there = there;
+            by-field = by-field;
+            past-user = rw (right, ne-eqb (findUser b (sheetUser s)) 0 (λ z. some (index-is ∙ z))) refl;
+          }
 
-        module _ (refusal : ℕ) (by-field : refusal ≡ refusedBy (fieldRules s month band)) where
-          pub leaves-field : (refusal ≡ 0 → ⊥) → (p : Position) → Tells s refusal p → (reply : Reply) → reply ≡ refusedWith refusal
-              → (r : MoreSun) → r ≡ refusedSun reply p → Said r
-          leaves-field other p told = leaves-by refusal p (by-field ∙ sym past-user) other told
+module _ (b s : List ℕ) (month band : ℕ) {user : RecordIndex} {refusal : ℕ} (j : Judged b s month band user refusal) where
+  pub leaves-field : (refusal ≡ 0 → ⊥) → (p : Position) → Tells s refusal p → (reply : Reply) → reply ≡ refusedWith refusal
+      → (r : MoreSun) → r ≡ refusedSun reply p → Said b s month band r
+  leaves-field other p told = leaves-by b s month band (j .sound) refusal p (j .by-field ∙ sym (j .past-user)) other told
 
-          module _ (none : refusal ≡ 0) where
-            met : (n : ℕ) → testOf n (fieldRules s month band) ≡ true
-            met n = passes n (fieldRules s month band) (without-0 s month band) (sym by-field ∙ none)
+  module _ (none : refusal ≡ 0) where
+    met : (n : ℕ) → testOf n (fieldRules s month band) ≡ true
+    met n = passes n (fieldRules s month band) (without-0 s month band) (sym (j .by-field) ∙ none)
 
-            pub field-met : hasField s month band ≡ true
-            unfolding testOf
-            field-met = met 23
+    pub field-met : hasField s month band ≡ true
+    unfolding testOf
+    field-met = met 23
 
-            pub passed : SheetPassed s
-            unfolding testOf
-            passed = record { past11 = right; past13 = (not-true (refused13 s) (met 13), not-true (refused19 s) (met 19)) }
+    pub passed : SheetPassed s
+    unfolding testOf
+    passed = record { past11 = j .right; past13 = (not-true (refused13 s) (met 13), not-true (refused19 s) (met 19)) }
 
-            pub answers : (account : Account) → account ≡ accountAt b (user .0) → (added : Addition) → added ≡ moreSun s (account .details) (month - 1) (band - 1)
-                → Said (record { reply = refusedWith 0; position = nowhere; addition = added })
-            unfolding additionAnswered moreSunOrder recordNamed
-            answers account read added is = (
-              record { refusal-is = sym (past-look b (moreSunRules (lookAt b (sheetUser s)) s month band) a ∙ past-user ∙ sym by-field ∙ none); record-is = refl },
-              (untold-before s 0 (omega arith), is ∙ rw (read, there)),
-            )
+    pub answers : (account : Account) → account ≡ accountAt b (user .0) → (added : Addition) → added ≡ moreSun s (account .details) (month - 1) (band - 1)
+        → Said b s month band (record { reply = refusedWith 0; position = nowhere; addition = added })
+    unfolding additionAnswered moreSunOrder recordNamed
+    answers account read added is = (
+      record { refusal-is = sym (past-look b (moreSunRules (lookAt b (sheetUser s)) s month band) (j .sound) ∙ j .past-user ∙ sym (j .by-field) ∙ none); record-is = refl },
+      (untold-before s 0 (omega arith), is ∙ rw (read, j .there)),
+    )

@@ -1,3 +1,3 @@
 pub mod Asked
-pub mod Answers
+pub mod InnerAnswers
 pub mod InnerObjections

@@ -5,7 +5,7 @@ ghost use lib.ListN.{length};
 ghost use Rattle.sheet.specs.YearSheet.{sheetLength, Tells};
 ghost use Rattle.call_answers.specs.Answers.{AnsweredBy};
 ghost use Rattle.call_more_sun.specs.Asked.{hasField, moreSunOrder, additionAnswered};
-ghost use Rattle.call_more_sun.specs.Answers.{refusedSun};
+ghost use Rattle.call_more_sun.specs.InnerAnswers.{refusedSun};
 ghost use Rattle.call_more_sun.specs.InnerObjections.{FieldObjected};
 use call_answers::Reply;
 use sheet::NOWHERE;

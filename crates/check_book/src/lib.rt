@@ -138,7 +138,8 @@ pub fn check(book: &[u8]) -> Verdict
 
 // "A fresh book is all zero but u = 1." The answer is 0, or the number of the refusal.
 pub fn fresh(book: &mut [u8]) -> u32
-    ensures { λ r. ⌜ (r ≡ freshAnswer (now (book .entry))) × (now (book .exit) ≡ freshAfter (now (book .entry))) ⌝ }
+    ensures answer { λ r. ⌜ r ≡ freshAnswer (now (book .entry)) ⌝ }
+    ensures after { λ _. ⌜ now (book .exit) ≡ freshAfter (now (book .entry)) ⌝ }
 {
     if !book_rules::length_fits(book) {
         return 1;

@@ -220,7 +220,8 @@ pub extern "C" fn ssp_interface() -> u32
 
 #[no_mangle]
 pub extern "C" fn ssp_fresh(book: &mut [u8]) -> u32
-    ensures { λ r. ⌜ (r ≡ freshAnswer (now (book .entry))) × (now (book .exit) ≡ freshAfter (now (book .entry))) ⌝ }
+    ensures answer { λ r. ⌜ r ≡ freshAnswer (now (book .entry)) ⌝ }
+    ensures after { λ _. ⌜ now (book .exit) ≡ freshAfter (now (book .entry)) ⌝ }
 {
     check_book::fresh(book)
 }

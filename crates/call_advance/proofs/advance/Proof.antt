@@ -2,9 +2,11 @@
 use native.Mathlib.Omega.{arith}
 use denote.Ref.{now}
 use Rattle.call_rules.specs.Calls as calls
+use Rattle.call_rules.specs.Calls.{Call}
 use Rattle.call_answers.proofs.Answers.{damaged, refuses}
+use Rattle.call_answers.proofs.Judged.{Judged, judged-refused}
 use Rattle.call_answers.proofs.Rooms.{found-stands}
-use Rattle.call_advance.proofs.Advancing.{leaves, advance-absent, advance-refused, advance-booked, halves-fit, order-fits, run-fits, ticks-answered}
+use Rattle.call_advance.proofs.Advancing.{leaves, advance-absent, advance-judged, advance-booked, halves-fit, order-fits, run-fits, ticks-answered}
 use borrow.Author.Needs.{needs}
 use Rattle.call_advance.proofs.advance.Statement.{statement}
 use Rattle.call_advance.proofs.advance.Tie as tie
@@ -33,64 +35,55 @@ account-at-requires c κs =
     let none = c .before .before .before .before .if1 .left in
     found-stands (now (a .book)) (looked .is-sound none) (a .number .0) _ (looked .found none)
 
+abbrev start : tie.After-advance-objection → tie.Start
+start q = q .before .before .before .before .before .before .before .before .before .before .before .before .before .before
+
+abbrev call : tie.Start → Call
+call s = let a = s .args in calls.advance (a .number .0) (a .year) (a .run) (a .price .0) (a .estimate1 .0) (a .estimate2 .0)
+
+-- what is known where the objection was made
+judged-here : (q : tie.After-advance-objection)
+    → Judged (now (start q .args .book)) (call (start q)) (q .before .before .before .before .before .before .before .before .before .before .before .look .result .user)
+    (q .before .before .before .account-at .result) (q .advance-objection .result)
+judged-here q =
+    let a = start q .args in
+    let looked = q .before .before .before .before .before .before .before .before .before .before .before .look .ensures in
+    let none = q .before .before .before .before .before .before .before .before .if1 .left in
+    let read = q .before .before .before .account-at in
+    let left = q .before .has-room in
+    advance-judged (now (a .book)) (a .number .0) (a .year) (a .run) (a .price .0) (a .estimate1 .0) (a .estimate2 .0) (looked .is-sound none) _ (looked .found none)
+    (q .before .before .before .before .before .if2 .left) (read .result) (read .ensures) (left .result) (left .ensures) (q .advance-objection .result) (q .advance-objection .ensures)
+
 returns-3 : tie.Need-returns-3
 returns-3 c =
-    let a = c .before .before .before .before .before .before .before .before .before .before .before .before .before .before .before .before .args in
-    let looked = c .before .before .before .before .before .before .before .before .before .before .before .before .before .look .ensures in
-    let none = c .before .before .before .before .before .before .before .before .before .before .if1 .left in
-    let read = c .before .before .before .before .before .account-at in
-    let left = c .before .before .before .has-room in
-    let judged = c .before .before .advance-objection in
+    let q = c .before .before in
+    let a = start q .args in
     let reply = c .refused2 in
     leaves (now (a .book)) (a .number .0) (a .year) (a .run) (a .price .0) (a .estimate1 .0) (a .estimate2 .0) (reply .result)
-    (refuses (judged .result) (reply .result) (reply .ensures) (c .before .if3 .taken))
-    (advance-refused (now (a .book)) (a .number .0) (a .year) (a .run) (a .price .0) (a .estimate1 .0) (a .estimate2 .0) (looked .is-sound none) _ (looked .found none)
-    (c .before .before .before .before .before .before .before .if2 .left) (read .result) (read .ensures) (left .result) (left .ensures) (judged .result) (judged .ensures) (c .before .if3 .taken)
-    (reply .result) (reply .ensures))
+    (refuses (q .advance-objection .result) (reply .result) (reply .ensures) (c .before .if3 .taken))
+    (judged-refused _ _ (judged-here q) 0 (c .before .if3 .taken) (reply .result) (reply .ensures))
 
 run-amount-requires : tie.Need-run-amount-requires
 run-amount-requires c κs =
-    let a = c .before .before .before .before .before .before .before .before .before .before .before .before .before .before .before .args in
-    let looked = c .before .before .before .before .before .before .before .before .before .before .before .before .look .ensures in
-    let none = c .before .before .before .before .before .before .before .before .before .if1 .left in
-    let read = c .before .before .before .before .account-at in
-    let left = c .before .before .has-room in
-    let judged = c .before .advance-objection in (
-      halves-fit (now (a .book)) (a .number .0) (a .year) (a .run) (a .price .0) (a .estimate1 .0) (a .estimate2 .0) (looked .is-sound none) _ (looked .found none)
-          (c .before .before .before .before .before .before .if2 .left) (read .result) (read .ensures) (left .result) (left .ensures) (judged .result) (judged .ensures) (c .if3 .left),
-      order-fits
-          (now (a .book)) (a .number .0) (a .year) (a .run) (a .price .0) (a .estimate1 .0) (a .estimate2 .0) (looked .is-sound none) _ (looked .found none)
-          (c .before .before .before .before .before .before .if2 .left) (read .result) (read .ensures) (left .result) (left .ensures) (judged .result) (judged .ensures) (c .if3 .left),
-    )
+    let a = start (c .before) .args in
+    let j = judged-here (c .before) in
+    (halves-fit _ (a .number .0) (a .year) (a .run) (a .price .0) (a .estimate1 .0) (a .estimate2 .0) j (c .if3 .left), order-fits _ (a .number .0) (a .year) (a .run) (a .price .0) (a .estimate1 .0) (a .estimate2 .0) j (c .if3 .left))
 
 book-run-requires : tie.Need-book-run-requires
 book-run-requires c κs =
-    let a = c .before .before .before .before .before .before .before .before .before .before .before .before .before .before .before .before .before .args in
-    let looked = c .before .before .before .before .before .before .before .before .before .before .before .before .before .before .look .ensures in
-    let none = c .before .before .before .before .before .before .before .before .before .before .before .if1 .left in
-    let read = c .before .before .before .before .before .before .account-at in
-    let left = c .before .before .before .before .has-room in
-    let judged = c .before .before .before .advance-objection in
-    run-fits (now (a .book)) (a .number .0) (a .year) (a .run) (a .price .0) (a .estimate1 .0) (a .estimate2 .0) (looked .is-sound none) _ (looked .found none)
-    (c .before .before .before .before .before .before .before .before .if2 .left) (read .result) (read .ensures) (left .result) (left .ensures) (judged .result) (judged .ensures)
-    (c .before .before .if3 .left) (c .before .run-amount .result) (c .before .run-amount .ensures)
+    let q = c .before .before .before in
+    let a = start q .args in
+    let paid = c .before .run-amount in
+    run-fits _ (a .number .0) (a .year) (a .run) (a .price .0) (a .estimate1 .0) (a .estimate2 .0) (judged-here q) (c .before .before .if3 .left) (paid .result) (paid .ensures)
 
 returns-4 : tie.Need-returns-4
 returns-4 c =
-    let a = c .before .before .before .before .before .before .before .before .before .before .before .before .before .before .before .before .before .before .before .before .args in
-    let looked = c .before .before .before .before .before .before .before .before .before .before .before .before .before .before .before .before .before .look .ensures in
-    let none = c .before .before .before .before .before .before .before .before .before .before .before .before .before .before .if1 .left in
-    let read = c .before .before .before .before .before .before .before .before .before .account-at in
-    let left = c .before .before .before .before .before .before .before .has-room in
-    let judged = c .before .before .before .before .before .before .advance-objection in
+    let q = c .before .before .before .before .before .before in
+    let a = start q .args in
+    let none = c .before .before .before .before .before .if3 .left in
     let paid = c .before .before .before .before .run-amount in (
-      advance-booked (now (a .book)) (a .number .0) (a .year) (a .run) (a .price .0) (a .estimate1 .0) (a .estimate2 .0) (looked .is-sound none) _ (looked .found none)
-          (c .before .before .before .before .before .before .before .before .before .before .before .if2 .left) (read .result) (read .ensures) (left .result) (left .ensures) (judged .result)
-          (judged .ensures) (c .before .before .before .before .before .if3 .left) (paid .result) (paid .ensures) _ (c .before .before .book-run .ensures),
-      ticks-answered (now (a .book)) (a .number .0)
-          (a .year) (a .run) (a .price .0) (a .estimate1 .0) (a .estimate2 .0) (looked .is-sound none) _ (looked .found none)
-          (c .before .before .before .before .before .before .before .before .before .before .before .if2 .left) (read .result) (read .ensures) (left .result) (left .ensures) (judged .result)
-          (judged .ensures) (c .before .before .before .before .before .if3 .left) (paid .result) (paid .ensures),
+      advance-booked _ (a .number .0) (a .year) (a .run) (a .price .0) (a .estimate1 .0) (a .estimate2 .0) (judged-here q) none (paid .result) (paid .ensures) _ (c .before .before .book-run .ensures),
+      ticks-answered _ (a .number .0) (a .year) (a .run) (a .price .0) (a .estimate1 .0) (a .estimate2 .0) (judged-here q) none (paid .result) (paid .ensures),
     )
 
 pub advance-spec : {M : Type 1} → statement M

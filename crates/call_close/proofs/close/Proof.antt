@@ -10,8 +10,9 @@ use Rattle.sheet.proofs.Faults.{untold-before}
 use Rattle.book_rules.specs.Find.{findUser}
 use Rattle.call_rules.specs.Calls as calls
 use Rattle.call_answers.proofs.Answers.{damaged}
+use Rattle.call_answers.proofs.Judged.{Judged}
 use Rattle.call_answers.proofs.Rooms.{found-stands}
-use Rattle.call_close.proofs.Closing.{leaves, leaves-early, close-unread, close-absent, close-refused, close-booked, passed, year-fits}
+use Rattle.call_close.proofs.Closing.{leaves, leaves-early, close-unread, close-absent, judged, close-refused, close-booked, passed, year-fits}
 use borrow.Author.Needs.{needs}
 use Rattle.call_close.proofs.close.Statement.{statement}
 use Rattle.call_close.proofs.close.Tie as tie
@@ -70,81 +71,47 @@ close-objection-requires c κs =
     (now (c .before .before .before .before .before .before .before .before .before .before .before .before .before .before .before .before .before .before .args .s)) (sym
     (c .before .before .before .before .before .before .before .before .before .header-wrong .ensures) ∙ c .before .before .before .before .before .before .before .before .if2 .left)
 
+abbrev start : tie.After-close-objection → tie.Start
+start q = q .before .before .before .before .before .before .before .before .before .before .before .before .before .before .before .before .before .before .before
+
+-- what is known where the objection was made
+judged-here : (q : tie.After-close-objection)
+    → Judged (now (start q .args .book)) (calls.close (now (start q .args .s))) (q .before .before .before .before .before .before .before .before .before .before .before .before .before .before .look .result .user)
+    (q .before .before .before .before .account-at .result) (q .close-objection .result .refusal)
+judged-here q =
+    let h = q .before .before .before .before .before .before .before .before .before in
+    let b = now (start q .args .book) in
+    let looked = h .before .before .before .before .before .look .ensures in
+    let none = h .before .before .if1 .left in
+    let right = sym (h .before .header-wrong .ensures) ∙ h .if2 .left in
+    let there = looked .found none ∙ ap (λ (n : UserNumber). recordIndex (findUser b (n .0))) (h .before .before .before .before .before .before .user .ensures) in
+    let read = q .before .before .before .before .account-at in
+    let left = q .before .before .has-room in
+    judged b (now (start q .args .s)) (looked .is-sound none) right _ there (q .before .before .before .before .before .before .if3 .left) (read .result) (read .ensures) (left .result) (left .ensures)
+    _ (q .before .whole .ensures) (q .close-objection .result .refusal) (q .close-objection .ensures .refused)
+
 returns-4 : tie.Need-returns-4
 returns-4 c =
     let q = c .before .before .before .before in
-    let h = q .before .before .before .before .before .before .before .before .before in
-    let a = h .before .before .before .before .before .before .before .before .before .before .args in
-    let b = now (a .book) in
-    let s = now (a .s) in
-    let looked = h .before .before .before .before .before .look .ensures in
-    let none = h .before .before .if1 .left in
-    let right = sym (h .before .header-wrong .ensures) ∙ h .if2 .left in
-    let there = looked .found none ∙ ap (λ (n : UserNumber). recordIndex (findUser b (n .0))) (h .before .before .before .before .before .before .user .ensures) in
-    let read = q .before .before .before .before .account-at in
-    let left = q .before .before .has-room in
-    let judged = q .close-objection in
+    let objection = q .close-objection in
+    let told = rw (q .before .whole .ensures) at (objection .ensures .told) in
     let reply = c .before .refused3 in
-    close-refused b s (looked .is-sound none) right _ there (q .before .before .before .before .before .before .if3 .left) (read .result) (read .ensures) (left .result) (left .ensures) _
-    (q .before .whole .ensures) (judged .result .refusal) (judged .ensures .refused)
-    (c .before .before .if4 .taken) (judged .result .position) (judged .ensures .told) (reply .result) (reply .ensures) (c .without-sums4 .result) (c .without-sums4 .ensures)
+    close-refused _ _ (judged-here q) (c .before .before .if4 .taken) (objection .result .position) told (reply .result) (reply .ensures) (c .without-sums4 .result) (c .without-sums4 .ensures)
 
 year-values-requires : tie.Need-year-values-requires
-year-values-requires c κs =
-    let q = c .before .before in
-    let h = q .before .before .before .before .before .before .before .before .before in
-    let a = h .before .before .before .before .before .before .before .before .before .before .args in
-    let b = now (a .book) in
-    let s = now (a .s) in
-    let looked = h .before .before .before .before .before .look .ensures in
-    let none = h .before .before .if1 .left in
-    let right = sym (h .before .header-wrong .ensures) ∙ h .if2 .left in
-    let there = looked .found none ∙ ap (λ (n : UserNumber). recordIndex (findUser b (n .0))) (h .before .before .before .before .before .before .user .ensures) in
-    let read = q .before .before .before .before .account-at in
-    let left = q .before .before .has-room in
-    let judged = q .close-objection in
-    passed b s (looked .is-sound none) right _ there (q .before .before .before .before .before .before .if3 .left) (read .result) (read .ensures) (left .result) (left .ensures) _
-    (q .before .whole .ensures) (judged .result .refusal) (judged .ensures .refused)
-    (c .if4 .left)
+year-values-requires c κs = passed _ _ (judged-here (c .before .before)) (c .if4 .left)
 
 book-year-requires : tie.Need-book-year-requires
 book-year-requires c κs =
-    let q = c .before .before .before .before in
-    let h = q .before .before .before .before .before .before .before .before .before in
-    let a = h .before .before .before .before .before .before .before .before .before .before .args in
-    let b = now (a .book) in
-    let s = now (a .s) in
-    let looked = h .before .before .before .before .before .look .ensures in
-    let none = h .before .before .if1 .left in
-    let right = sym (h .before .header-wrong .ensures) ∙ h .if2 .left in
-    let there = looked .found none ∙ ap (λ (n : UserNumber). recordIndex (findUser b (n .0))) (h .before .before .before .before .before .before .user .ensures) in
-    let read = q .before .before .before .before .account-at in
-    let left = q .before .before .has-room in
-    let judged = q .close-objection in
     let values = c .before .year-values in
-    year-fits b s (looked .is-sound none) right _ there (q .before .before .before .before .before .before .if3 .left) (read .result) (read .ensures) (left .result) (left .ensures) _
-    (q .before .whole .ensures) (judged .result .refusal) (judged .ensures .refused)
-    (c .before .before .if4 .left) (values .result) (values .ensures)
+    year-fits _ _ (judged-here (c .before .before .before .before)) (c .before .before .if4 .left) (values .result) (values .ensures)
 
 returns-5 : tie.Need-returns-5
 returns-5 c =
-    let q = c .before .before .before .before .before .before .before in
-    let h = q .before .before .before .before .before .before .before .before .before in
-    let a = h .before .before .before .before .before .before .before .before .before .before .args in
-    let b = now (a .book) in
-    let s = now (a .s) in
-    let looked = h .before .before .before .before .before .look .ensures in
-    let none = h .before .before .if1 .left in
-    let right = sym (h .before .header-wrong .ensures) ∙ h .if2 .left in
-    let there = looked .found none ∙ ap (λ (n : UserNumber). recordIndex (findUser b (n .0))) (h .before .before .before .before .before .before .user .ensures) in
-    let read = q .before .before .before .before .account-at in
-    let left = q .before .before .has-room in
-    let judged = q .close-objection in
     let values = c .before .before .before .before .year-values in
     let booked = c .before .before .book-year in
-    close-booked b s (looked .is-sound none) right _ there (q .before .before .before .before .before .before .if3 .left) (read .result) (read .ensures) (left .result) (left .ensures) _
-    (q .before .whole .ensures) (judged .result .refusal) (judged .ensures .refused)
-    (c .before .before .before .before .before .if4 .left) (values .result) (values .ensures) _ (booked .ensures .book) (booked .result) (booked .ensures .sums)
+    close-booked _ _ (judged-here (c .before .before .before .before .before .before .before)) (c .before .before .before .before .before .if4 .left) (values .result) (values .ensures)
+    _ (booked .ensures .book) (booked .result) (booked .ensures .sums)
 
 pub close-spec : {M : Type 1} → statement M
 close-spec =
