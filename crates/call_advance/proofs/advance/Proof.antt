@@ -66,8 +66,10 @@ returns-3 c =
 run-amount-requires : tie.Need-run-amount-requires
 run-amount-requires c κs =
     let a = start (c .before) .args in
-    let j = judged-here (c .before) in
-    (halves-fit _ (a .number .0) (a .year) (a .run) (a .price .0) (a .estimate1 .0) (a .estimate2 .0) j (c .if3 .left), order-fits _ (a .number .0) (a .year) (a .run) (a .price .0) (a .estimate1 .0) (a .estimate2 .0) j (c .if3 .left))
+    let j = judged-here (c .before) in (
+      halves-fit _ (a .number .0) (a .year) (a .run) (a .price .0) (a .estimate1 .0) (a .estimate2 .0) j (c .if3 .left),
+      order-fits _ (a .number .0) (a .year) (a .run) (a .price .0) (a .estimate1 .0) (a .estimate2 .0) j (c .if3 .left),
+    )
 
 book-run-requires : tie.Need-book-run-requires
 book-run-requires c κs =

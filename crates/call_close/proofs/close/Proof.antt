@@ -76,7 +76,8 @@ start q = q .before .before .before .before .before .before .before .before .bef
 
 -- what is known where the objection was made
 judged-here : (q : tie.After-close-objection)
-    → Judged (now (start q .args .book)) (calls.close (now (start q .args .s))) (q .before .before .before .before .before .before .before .before .before .before .before .before .before .before .look .result .user)
+    → Judged (now (start q .args .book)) (calls.close (now (start q .args .s)))
+    (q .before .before .before .before .before .before .before .before .before .before .before .before .before .before .look .result .user)
     (q .before .before .before .before .account-at .result) (q .close-objection .result .refusal)
 judged-here q =
     let h = q .before .before .before .before .before .before .before .before .before in
