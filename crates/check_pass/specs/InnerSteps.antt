@@ -78,13 +78,13 @@ pub record PassedOver (b : List ℕ) (n : ℕ) (chained : Bool) (p : Passed) : T
   pub left : chained ≡ true → p .broken .0 < used b → Resumed b (p .broken .0 + 1)
   pub whole : p .joined ≡ true → (sound b ≡ true) × (p .user ≡ recordIndex (findUser b n))
 
--- what the pass over all records says
 -- what is said of the book, and that the tables keep their sizes
 pub record PassMade (b : List ℕ) (n : ℕ) (chained : Bool) (states after seen later : List ℕ) (p : Passed) : Type 0 where
   pub said : PassedOver b n chained p
   pub states-size : length after ≡ length states
   pub seen-size : length later ≡ length seen
 
+-- what the pass over all records says
 pub record PassedThrough (b : List ℕ) (n : ℕ) (p : Passed) : Type 0 where
   pub broken : Broken b (p .broken .0)
   pub whole : p .joined ≡ true → (sound b ≡ true) × (p .user ≡ recordIndex (findUser b n))
