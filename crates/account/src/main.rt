@@ -1,6 +1,8 @@
 // A user's account for a clerk: a book on standard input, a user number as the argument. It prints the account year by year,
 // oldest first, with the totals of the statement; what each year was charged and what was paid out, with the charges made; and the
 // conserved sum, in euro.
+#![tactic(auto)]
+
 ghost use Rattle.std.specs.Prelude.{◌≡◌, ◌+◌, true, ◌≢◌};
 ghost use Rattle.io.specs.Digits.{last_digits};
 ghost use Rattle.output.specs.InnerRows.{text_of, joined};
@@ -141,7 +143,7 @@ fn say_year(y: Year) -> bool {
 // The closed years of a user, oldest first.
 fn say_years(book: &[u8], user: RecordIndex) -> bool
     requires accepted { Accepted book.now }
-    requires user_value { is_user book.now user.0 ≡ true }
+    requires user_record { is_user book.now user.0 ≡ true }
 {
     let activation = book_view::activation_of(book, user);
     let open = book_view::open_year_of(book, user);
@@ -201,7 +203,7 @@ fn say_payments_of(year: u16, charge: OfEach, payments: Payments) -> bool {
 // The closed years of a user, oldest first.
 fn say_closed_payments(book: &[u8], user: RecordIndex, each: OfEach) -> bool
     requires accepted { Accepted book.now }
-    requires user_value { is_user book.now user.0 ≡ true }
+    requires user_record { is_user book.now user.0 ≡ true }
 {
     let activation = book_view::activation_of(book, user);
     let open = book_view::open_year_of(book, user);
@@ -217,7 +219,7 @@ fn say_closed_payments(book: &[u8], user: RecordIndex, each: OfEach) -> bool
 // The two open years, of which the earlier one takes charges.
 fn say_open_payments(book: &[u8], user: RecordIndex, charge: Ticks) -> bool
     requires accepted { Accepted book.now }
-    requires user_value { is_user book.now user.0 ≡ true }
+    requires user_record { is_user book.now user.0 ≡ true }
 {
     let open = book_view::open_year_of(book, user);
     let payments = account_years::payments_of(book, user, open, open);
@@ -241,7 +243,7 @@ fn say_charges_made(charges: Charges) -> bool {
 
 fn say_charges(book: &[u8], user: RecordIndex) -> bool
     requires accepted { Accepted book.now }
-    requires user_value { is_user book.now user.0 ≡ true }
+    requires user_record { is_user book.now user.0 ≡ true }
 {
     if !say_payment_headings() {
         return false;
@@ -299,7 +301,7 @@ fn say_rest(sums: Sums) -> bool
 
 fn say_account(book: &[u8], user: RecordIndex) -> bool
     requires accepted { Accepted book.now }
-    requires user_value { is_user book.now user.0 ≡ true }
+    requires user_record { is_user book.now user.0 ≡ true }
 {
     if !say_headings() {
         return false;
@@ -322,7 +324,7 @@ fn say_account(book: &[u8], user: RecordIndex) -> bool
 
 fn answer_sound(book: &[u8], user: RecordIndex) -> bool
     requires accepted { Accepted book.now }
-    requires user_value { (user.0 ≢ 0) → is_user book.now user.0 ≡ true }
+    requires user_record { (user.0 ≢ 0) → is_user book.now user.0 ≡ true }
 {
     if user.0 == 0 {
         say_text(b"refused 6")

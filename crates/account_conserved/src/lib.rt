@@ -1,5 +1,7 @@
 // The sum that every account keeps (the user's third demand, docs/DEMANDS.md): "advances of closed years plus balances, less flat-rate
 // parts, plus liquidations, plus lapsed credit, plus standing credit".
+#![tactic(auto)]
+
 ghost use Rattle.std.specs.Prelude.{◌≡◌, true, false, ◌<◌, ◌^◌, pos, ◌+ℤ◌, ◌-ℤ◌};
 ghost use Rattle.std.specs.Int.Signed.{mag};
 ghost use Rattle.std.specs.Int.{w64};

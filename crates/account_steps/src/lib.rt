@@ -1,5 +1,7 @@
 // The account of one user, by value: an election, an advance or a closing takes the account and hands back the account
 // after it (document 01, "Closing", "Election and advances").
+#![tactic(auto)]
+
 ghost use Rattle.std.specs.Prelude.{◌≡◌, ◌+◌, ◌-◌, ◌^◌, ◌<◌, ◌≤◌, min};
 ghost use Rattle.std.specs.Int.{w64};
 ghost use Rattle.std.proofs.Common.{to_z};
@@ -21,13 +23,13 @@ const LIQUIDATION: u8 = 1;
 const SIGN_BIT: u64 = 9223372036854775808;
 
 // The yearly charge (document 02, ticket 1): whether the open year is charged, 0 or 1, and what of all charges is still unpaid.
-#[derive(Drop)]
+#[derive(Clone, Copy)]
 pub struct Charge {
     pub made: u8,
     pub rest: Ticks,
 }
 
-#[derive(Drop)]
+#[derive(Clone, Copy)]
 pub struct Account {
     pub number: UserNumber,
     pub details: Details,
@@ -44,11 +46,11 @@ pub struct Account {
 }
 
 // A signed amount in ticks, as its 64 bits in two's complement.
-#[derive(Drop)]
+#[derive(Clone, Copy)]
 pub struct Balance(pub u64);
 
 // What a closing does with the credit.
-#[derive(Drop)]
+#[derive(Clone, Copy)]
 pub enum Outcome {
     // The credit that stands afterwards.
     Carried(Ticks),
@@ -70,7 +72,7 @@ pub struct Closed {
 }
 
 // The seven sums of a closing: what its entry keeps and its call answers.
-#[derive(Drop)]
+#[derive(Clone, Copy)]
 pub struct ClosingSums {
     pub value: Ticks,
     pub cost: Ticks,
@@ -119,7 +121,7 @@ pub fn signed(balance: Balance) -> i64
 
 // The contribution of a closing, by its option and the credit before it.
 fn contribution_of(option: u8, credit: Ticks, values: YearValues) -> Ticks
-    requires cost_le_max_year_ticks { values.cost.0 ≤ max_year_ticks }
+    requires cost_bound { values.cost.0 ≤ max_year_ticks }
     requires flat_rate_bound { values.flat_rate.0 ≤ max_flat_rate }
     ensures { result.0 ≡ contribution_of option credit.0 values.value.0 values.cost.0 values.flat_rate.0 }
 {

@@ -15,7 +15,8 @@ use Rattle.book_layout.specs.Fields.{record_at}
 use Rattle.book_records.specs.declared.AdvanceRecord.{AdvanceRecord}
 use Rattle.book_records.specs.declared.ClosingRecord.{ClosingRecord}
 use Rattle.book_records.specs.Records.{advance_in, closing_in}
-use Rattle.book_rules.specs.Book.{length_fits, sound, within, span_of, is_user, is_advance, is_closing, next_of, first_entry_of, owner_of, account_at, year_fits, level_from, booked_fits, is_run, advance_fits}
+use Rattle.book_rules.specs.Book.{length_fits, sound, within, span_of, is_user, is_advance, is_closing, next_of, first_entry_of, owner_of, account_at, year_fits, level_from, booked_fits, is_run}
+use Rattle.book_rules.specs.Book.{advance_fits}
 use Rattle.book_rules.specs.Book.{balance_fits, paid_balance, withheld_fits, closing_fits}
 use Rattle.book_rules.specs.Chains.{entries_of}
 use Rattle.book_rules.proofs.Faultless.{Faultless, sound-faultless}

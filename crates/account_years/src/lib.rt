@@ -1,5 +1,7 @@
 // A user's account year by year (document 01, "Closing"): the closing of each year, what its entries pay, and the credit after
 // it; and what the user was charged (document 02, ticket 1).
+#![tactic(auto)]
+
 ghost use Rattle.std.specs.Prelude.{◌≡◌, true, cond, ◌+◌, ◌*◌, ◌≤◌, ◌<◌, eqb};
 ghost use Rattle.units.specs.Units.{ticks, record_index};
 ghost use Rattle.units.specs.Limits.{max_year_ticks, max_charge, most_years};
@@ -26,7 +28,7 @@ pub struct Payments {
 }
 
 // What each closed year was charged. Which of them were is not kept.
-#[derive(Drop)]
+#[derive(Clone, Copy)]
 pub enum OfEach {
     Charged(Ticks),
     NotKept,
@@ -66,9 +68,9 @@ fn is_closing_of(book: &[u8], entry: RecordIndex, year: u16) -> bool
 
 // The closing of a year, 0 where there is none.
 fn closing_of_year(book: &[u8], user: RecordIndex, year: u16) -> RecordIndex
-    requires book_value { length_fits book.now ≡ true }
-    requires book_value_2 { sound book.now ≡ true }
-    requires user_value { is_user book.now user.0 ≡ true }
+    requires book_length { length_fits book.now ≡ true }
+    requires sound_book { sound book.now ≡ true }
+    requires user_record { is_user book.now user.0 ≡ true }
     ensures { result ≡ record_index (closing_of book.now user.0 year) }
 {
     let mut at = book_view::first_entry_of(book, user);
@@ -114,8 +116,8 @@ fn by_closing(closing: ClosingRecord) -> Payments
 
 // What an entry pays, if its year is one of those from `first` to `last`.
 fn payments_by(book: &[u8], entry: RecordIndex, first: u16, last: u16) -> Payments
-    requires book_value { length_fits book.now ≡ true }
-    requires book_value_2 { sound book.now ≡ true }
+    requires book_length { length_fits book.now ≡ true }
+    requires sound_book { sound book.now ≡ true }
     ensures { result ≡ payments_by book.now first last entry.0 }
 {
     let bytes = book_layout::record(book, entry);
@@ -136,9 +138,9 @@ fn payments_by(book: &[u8], entry: RecordIndex, first: u16, last: u16) -> Paymen
 
 // What a user's entries of the years from `first` to `last` pay.
 pub fn payments_of(book: &[u8], user: RecordIndex, first: u16, last: u16) -> Payments
-    requires book_value { length_fits book.now ≡ true }
-    requires book_value_2 { sound book.now ≡ true }
-    requires user_value { is_user book.now user.0 ≡ true }
+    requires book_length { length_fits book.now ≡ true }
+    requires sound_book { sound book.now ≡ true }
+    requires user_record { is_user book.now user.0 ≡ true }
     ensures { result ≡ payments_of book.now user.0 first last }
 {
     let mut advances = Ticks(0);
@@ -191,9 +193,9 @@ fn charge_of_open(made: u8, yearly: Ticks) -> Ticks
 
 // The charges of a user.
 pub fn charges_of(book: &[u8], user: RecordIndex) -> Charges
-    requires book_value { length_fits book.now ≡ true }
-    requires book_value_2 { sound book.now ≡ true }
-    requires user_value { is_user book.now user.0 ≡ true }
+    requires book_length { length_fits book.now ≡ true }
+    requires sound_book { sound book.now ≡ true }
+    requires user_record { is_user book.now user.0 ≡ true }
     ensures { result ≡ charges_of book.now user.0 }
 {
     let account = book_view::account_at(book, user);
@@ -216,9 +218,9 @@ pub fn charges_of(book: &[u8], user: RecordIndex) -> Charges
 
 // The closing of the year n years after the activation.
 fn closing_after(book: &[u8], user: RecordIndex, n: u16) -> RecordIndex
-    requires book_value { length_fits book.now ≡ true }
-    requires book_value_2 { sound book.now ≡ true }
-    requires user_value { (is_user book.now user.0 ≡ true) × (n ≤ most_years) }
+    requires book_length { length_fits book.now ≡ true }
+    requires sound_book { sound book.now ≡ true }
+    requires user_record { (is_user book.now user.0 ≡ true) × (n ≤ most_years) }
     ensures { result ≡ record_index (closing_after book.now user.0 n) }
 {
     closing_of_year(book, user, book_view::activation_of(book, user) + n)
@@ -226,9 +228,9 @@ fn closing_after(book: &[u8], user: RecordIndex, n: u16) -> RecordIndex
 
 // The credit after a closing, from the credit before it.
 fn credit_over(book: &[u8], entry: RecordIndex, credit: Ticks) -> Ticks
-    requires book_value { length_fits book.now ≡ true }
-    requires book_value_2 { sound book.now ≡ true }
-    requires value { (is_closing book.now entry.0 ≡ true) × (credit.0 ≤ max_year_ticks * most_years) }
+    requires book_length { length_fits book.now ≡ true }
+    requires sound_book { sound book.now ≡ true }
+    requires closing_entry { (is_closing book.now entry.0 ≡ true) × (credit.0 ≤ max_year_ticks * most_years) }
     ensures { NumberWithin (credit_over (closing_in (record_at book.now entry.0)) credit.0) (credit.0 + max_year_ticks)
         result.0 }
 {
@@ -240,9 +242,9 @@ fn credit_over(book: &[u8], entry: RecordIndex, credit: Ticks) -> Ticks
 
 // The same, where a year without a closing leaves the credit.
 fn next_credit(book: &[u8], entry: RecordIndex, credit: Ticks) -> Ticks
-    requires book_value { length_fits book.now ≡ true }
-    requires book_value_2 { sound book.now ≡ true }
-    requires value { ((entry.0 ≡ 0 → ⊥) → is_closing book.now entry.0 ≡ true) × (credit.0 ≤ max_year_ticks * most_years) }
+    requires book_length { length_fits book.now ≡ true }
+    requires sound_book { sound book.now ≡ true }
+    requires closing_entry { ((entry.0 ≡ 0 → ⊥) → is_closing book.now entry.0 ≡ true) × (credit.0 ≤ max_year_ticks * most_years) }
     ensures { NumberWithin (cond (eqb entry.0 0) credit.0
         (credit_over (closing_in (record_at book.now entry.0)) credit.0)) (credit.0 + max_year_ticks) result.0 }
 {
@@ -255,9 +257,9 @@ fn next_credit(book: &[u8], entry: RecordIndex, credit: Ticks) -> Ticks
 
 // The credit after the first years: the rule of "Closing", from zero.
 fn credit_after_years(book: &[u8], user: RecordIndex, years: u16) -> Ticks
-    requires book_value { length_fits book.now ≡ true }
-    requires book_value_2 { sound book.now ≡ true }
-    requires user_value { (is_user book.now user.0 ≡ true) × (years ≤ most_years) }
+    requires book_length { length_fits book.now ≡ true }
+    requires sound_book { sound book.now ≡ true }
+    requires user_record { (is_user book.now user.0 ≡ true) × (years ≤ most_years) }
     ensures { result ≡ ticks (credit_after_years book.now user.0 years) }
 {
     let mut credit = Ticks(0);
@@ -270,9 +272,9 @@ fn credit_after_years(book: &[u8], user: RecordIndex, years: u16) -> Ticks
 
 // The year n years after the activation.
 pub fn closed_year(book: &[u8], user: RecordIndex, n: u16) -> Year
-    requires book_value { length_fits book.now ≡ true }
-    requires book_value_2 { sound book.now ≡ true }
-    requires user_value { (is_user book.now user.0 ≡ true) × (n < most_years) }
+    requires book_length { length_fits book.now ≡ true }
+    requires sound_book { sound book.now ≡ true }
+    requires user_record { (is_user book.now user.0 ≡ true) × (n < most_years) }
     ensures { result ≡ closed_year book.now user.0 n }
 {
     let year = book_view::activation_of(book, user) + n;

@@ -1,11 +1,14 @@
 // The book's records: where each record and each field stands (document 01, "Book"). A byte past the end of a record or of
 // the book reads as 0, so that every string of bytes is an ordinary input.
+#![tactic(auto)]
+
 ghost use Rattle.std.specs.Prelude.{◌≡◌, ◌+◌, ◌*◌, ◌≤◌, min, leb, length};
 ghost use Rattle.units.specs.Limits.{record_length};
 ghost use Rattle.units.specs.Units.{user_number, record_index};
 ghost use Rattle.codec.specs.Bytes.{number, stored, bytes_of};
 ghost use Rattle.book_layout.specs.Fields.{record_at, put_record, get, used_field, first_user_field, next_field, kind_field};
-ghost use Rattle.book_layout.specs.Fields.{number_field, first_entry_field, activation_year_field, open_year_field, year_field, booked_field};
+ghost use Rattle.book_layout.specs.Fields.{number_field, first_entry_field, activation_year_field, open_year_field, year_field};
+ghost use Rattle.book_layout.specs.Fields.{booked_field};
 ghost use Rattle.book_layout.specs.Fields.{owner_field};
 ghost use Rattle.book_layout.specs.Fields.{all_zero, unnamed_of_head, unnamed_of_user, unnamed_of_advance, unnamed_of_closing};
 

@@ -9,7 +9,8 @@ use lib.ListN.{length}
 use Rattle.units.specs.Limits.{record_length}
 use Rattle.units.specs.Units.{kwh, ticks, user_number, record_index}
 use Rattle.book_layout.specs.Fields.{get, all_zero, unnamed_of_user, image, user_kind, activation_month_field, activation_year_field, advances_field, class_field, credit_field, first_entry_field}
-use Rattle.book_layout.specs.Fields.{half1_field, half2_field, island_field, kind_field, later_advances_field, later_runs_field, charged_field, rest_field, next_field, number_field, open_year_field, option_field}
+use Rattle.book_layout.specs.Fields.{half1_field, half2_field, island_field, kind_field, later_advances_field, later_runs_field, charged_field, rest_field, next_field, number_field, open_year_field}
+use Rattle.book_layout.specs.Fields.{option_field}
 use Rattle.book_layout.specs.Fields.{plant_field, power_field, runs_field}
 use Rattle.book_layout.proofs.Cells.{cell_at, length-image, read-image, unnamed-image}
 use Rattle.book_layout.proofs.ByteRanges.{Bytes, bytes-image}

@@ -5,10 +5,12 @@ use Rattle.account_steps.specs.declared.Account.{Account}
 use Rattle.book_records.specs.declared.UserRecord.{UserRecord}
 use Rattle.book_records.specs.declared.AdvanceRecord.{AdvanceRecord}
 use Rattle.book_records.specs.declared.ClosingRecord.{ClosingRecord}
-use Rattle.book_layout.specs.Fields.{Cell, ◌holds◌, image, get, used_field, first_user_field, next_field, kind_field, user_kind, class_field}
+use Rattle.book_layout.specs.Fields.{Cell, ◌holds◌, image, get, used_field, first_user_field, next_field, kind_field, user_kind}
+use Rattle.book_layout.specs.Fields.{class_field}
 use Rattle.book_layout.specs.Fields.{plant_field, option_field, number_field, first_entry_field, power_field, activation_year_field}
 use Rattle.book_layout.specs.Fields.{activation_month_field, island_field, open_year_field, runs_field, later_runs_field, credit_field}
-use Rattle.book_layout.specs.Fields.{advances_field, later_advances_field, half1_field, half2_field, charged_field, rest_field, advance_kind}
+use Rattle.book_layout.specs.Fields.{advances_field, later_advances_field, half1_field, half2_field, charged_field, rest_field}
+use Rattle.book_layout.specs.Fields.{advance_kind}
 use Rattle.book_layout.specs.Fields.{closing_kind, year_field, owner_field, run_field, ticks_field, booked_field, withheld_field}
 use Rattle.book_layout.specs.Fields.{closing_option_field, value_field, cost_field, flat_rate_field, contribution_field, liquidation_field}
 use Rattle.book_layout.specs.Fields.{lapsed_field, balance_field}

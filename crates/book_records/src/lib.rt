@@ -1,4 +1,6 @@
 // The records of the book by value: read from a record's bytes, and written as a whole image (document 01, "Book").
+#![tactic(auto)]
+
 ghost use Rattle.std.specs.Prelude.{◌≡◌, length};
 ghost use Rattle.units.specs.Limits.{record_length};
 ghost use Rattle.book_records.specs.Records.{head_image, user_image, advance_image, closing_image, account_in, advance_in, closing_in};
@@ -30,7 +32,7 @@ pub struct AdvanceRecord {
 }
 
 // A closing entry.
-#[derive(Drop)]
+#[derive(Clone, Copy)]
 pub struct ClosingRecord {
     pub next: RecordIndex,
     pub option: u8,

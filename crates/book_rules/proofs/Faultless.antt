@@ -10,8 +10,10 @@ use Rattle.units.proofs.Bools.{and_left, and_right}
 use Rattle.book_layout.specs.Fields.{get, kind_field, all_zero, unnamed_of_user, record_at, capacity, user_kind, advance_kind, closing_kind}
 use Rattle.account_steps.specs.declared.Account.{Account}
 use Rattle.book_records.specs.Records.{advance_in, closing_in}
-use Rattle.book_rules.specs.Book.{length_fits, used, used_fits, kind_at, has_kind, is_user, is_advance, is_closing, entry_kind, is_entry, account_at, owner_of, account_fits, advance_fits, closing_fits}
-use Rattle.book_rules.specs.Book.{entry_ranges, ranges_fit, unnamed_of, zero_bytes_fit, user_next_fits, number_is_new, first_entry_fits, first_in_order, owner_fits, entry_next_fits, next_in_order, pointed_once}
+use Rattle.book_rules.specs.Book.{length_fits, used, used_fits, kind_at, has_kind, is_user, is_advance, is_closing, entry_kind, is_entry, account_at, owner_of, account_fits, advance_fits}
+use Rattle.book_rules.specs.Book.{closing_fits}
+use Rattle.book_rules.specs.Book.{entry_ranges, ranges_fit, unnamed_of, zero_bytes_fit, user_next_fits, number_is_new, first_entry_fits, first_in_order, owner_fits, entry_next_fits, next_in_order}
+use Rattle.book_rules.specs.Book.{pointed_once}
 use Rattle.book_rules.specs.Book.{links_fit, good_record, good_head, sound}
 use Rattle.book_rules.proofs.RecordKinds.{kind-index, kind-is, entry-index, entry-no-user}
 use Rattle.book_rules.proofs.Lengths.{capacity-least}

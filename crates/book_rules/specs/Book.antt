@@ -1,7 +1,9 @@
 -- "Book" of document 01: which records of a book are faulty, sentence by sentence, and when a book is sound. Every string
 -- of bytes has an answer: a record past the end has zeros in all its fields.
-use Rattle.std.specs.Prelude.{ℕ, ◌+◌, ◌-◌, ◌*◌, ◌/◌, ◌%◌, ◌^◌, Bool, false, cond, not, ◌&&◌, ◌||◌, List, [], ◌∷◌, leb, ltb, eqb, length, replicate}
-use Rattle.units.specs.Limits.{record_length, max_year_ticks, max_flat_rate, max_contribution, max_charge, max_half_ticks, max_half_kwh, max_power}
+use Rattle.std.specs.Prelude.{ℕ, ◌+◌, ◌-◌, ◌*◌, ◌/◌, ◌%◌, ◌^◌, Bool, false, cond, not, ◌&&◌, ◌||◌, List, [], ◌∷◌, leb, ltb, eqb, length}
+use Rattle.std.specs.Prelude.{replicate}
+use Rattle.units.specs.Limits.{record_length, max_year_ticks, max_flat_rate, max_contribution, max_charge, max_half_ticks, max_half_kwh}
+use Rattle.units.specs.Limits.{max_power}
 use Rattle.units.specs.Limits.{first_activation}
 use Rattle.units.specs.Limits.{last_activation, last_open_year}
 use Rattle.units.specs.Folds.{sum_below, any_below, first_below}
@@ -9,9 +11,11 @@ use Rattle.calendar.specs.declared.Halves.{Halves}
 use Rattle.calendar.specs.ElectionAndAdvances.{june, october, january, halves_paid, due, halves_count}
 use Rattle.sheet_values.specs.declared.Details.{Details}
 use Rattle.account_steps.specs.declared.Account.{Account}
-use Rattle.book_layout.specs.Fields.{Field, get, all_zero, unnamed_of_head, unnamed_of_user, unnamed_of_advance, unnamed_of_closing, record_at}
+use Rattle.book_layout.specs.Fields.{Field, get, all_zero, unnamed_of_head, unnamed_of_user, unnamed_of_advance, unnamed_of_closing}
+use Rattle.book_layout.specs.Fields.{record_at}
 use Rattle.book_layout.specs.Fields.{capacity, used_field, first_user_field, next_field, kind_field, user_kind, number_field}
-use Rattle.book_layout.specs.Fields.{first_entry_field, activation_year_field, open_year_field, advance_kind, closing_kind, year_field, booked_field}
+use Rattle.book_layout.specs.Fields.{first_entry_field, activation_year_field, open_year_field, advance_kind, closing_kind, year_field}
+use Rattle.book_layout.specs.Fields.{booked_field}
 use Rattle.book_layout.specs.Fields.{owner_field}
 use Rattle.book_records.specs.declared.AdvanceRecord.{AdvanceRecord}
 use Rattle.book_records.specs.declared.ClosingRecord.{ClosingRecord}

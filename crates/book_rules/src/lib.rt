@@ -1,4 +1,6 @@
 // The rules of document 01, "Book", on a record by itself, and the length of a book.
+#![tactic(auto)]
+
 ghost use Rattle.std.specs.Prelude.{◌≡◌, true, ◌&&◌, ◌-◌, ◌*◌, ◌<◌, leb, length};
 ghost use Rattle.units.specs.Limits.{record_length, max_year_ticks};
 ghost use Rattle.units.specs.InnerWithin.{NumberWithin};

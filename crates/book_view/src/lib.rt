@@ -1,9 +1,12 @@
 // What a book holds, read from its bytes: the head, what each record is, and its fields (document 01, "Book"). Any bytes are a
 // book here: an index may lead anywhere, and a record past the end has zeros in all its fields.
+#![tactic(auto)]
+
 ghost use Rattle.std.specs.Prelude.{◌≡◌, ◌+◌, ◌*◌, ◌≤◌, length};
 ghost use Rattle.units.specs.Limits.{record_length};
 ghost use Rattle.units.specs.Units.{user_number, record_index};
-ghost use Rattle.book_rules.specs.Book.{first_user, used_fits, kind_at, has_kind, is_user, is_advance, is_closing, is_entry, owner_of, account_at};
+ghost use Rattle.book_rules.specs.Book.{first_user, used_fits, kind_at, has_kind, is_user, is_advance, is_closing, is_entry, owner_of};
+ghost use Rattle.book_rules.specs.Book.{account_at};
 ghost use Rattle.book_rules.specs.Book.{next_of, first_entry_of, number_of, level_of, activation_of, open_year_of};
 ghost use Rattle.book_rules.specs.Book.{used as usedIn};
 

@@ -1,4 +1,6 @@
 // "Election and advances" of document 01: the day of an election, the runs due in a year, the amount of a run.
+#![tactic(auto)]
+
 ghost use Rattle.std.specs.Prelude.{◌≡◌, cond, ◌*◌, ◌≤◌};
 ghost use Rattle.units.specs.Units.{ticks};
 ghost use Rattle.units.specs.Limits.{max_price, max_half_kwh, max_half_ticks};
@@ -147,8 +149,8 @@ fn share(paid: bool, energy: WideKwh, price: Rate) -> Ticks
 // "The amount is the rate times the last closed year's half, or times that half's estimate if no year is closed; a run due
 // for both halves pays their sum."
 pub fn amount_of(h: Halves, price: Rate, first: WideKwh, second: WideKwh) -> Ticks
-    requires price_le_max_price { price.0 ≤ max_price }
-    requires first_le_max_half_kwh { (first.0 ≤ max_half_kwh) × (second.0 ≤ max_half_kwh) }
+    requires price_bound { price.0 ≤ max_price }
+    requires halves_bound { (first.0 ≤ max_half_kwh) × (second.0 ≤ max_half_kwh) }
     ensures { TicksWithin (amount_of h price.0 first.0 second.0) (max_half_ticks * halves_count h) result }
 {
     let a = share(h.first, first, price);

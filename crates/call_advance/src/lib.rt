@@ -1,4 +1,6 @@
 // Advances (document 01, "Election and advances"): refusals 1 2 6 9 10 3, then the run's entry in front of the user's chain.
+#![tactic(auto)]
+
 ghost use Rattle.std.specs.Prelude.{◌≡◌, true, cond, ◌<◌, ◌^◌, eqb};
 ghost use Rattle.units.specs.Units.{ticks};
 ghost use Rattle.book_rules.specs.Book.{halves_fit};
@@ -40,7 +42,7 @@ fn run_amount(
     estimate2: WideKwh,
 ) -> Ticks
     requires year_bound { (year < 2 ^ 16) × (halves_fit a ≡ true) }
-    requires estimate2_value { order_fits price.0 estimate1.0 estimate2.0 ≡ true }
+    requires order { order_fits price.0 estimate1.0 estimate2.0 ≡ true }
     ensures { result ≡ ticks (run_amount a year run price.0 estimate1.0 estimate2.0) }
 {
     let first = half_or_estimate(a, a.half1, estimate1);

@@ -1,4 +1,6 @@
 // The reply of every call; and the look at a book that every call begins with.
+#![tactic(auto)]
+
 ghost use Rattle.std.specs.Prelude.{◌≡◌};
 ghost use Rattle.call_answers.specs.Replies.{refused_with};
 ghost use Rattle.call_answers.specs.InnerLooks.{LookedAt};
@@ -7,7 +9,7 @@ use check_book::Verdict;
 use units::{RecordIndex, UserNumber};
 
 // A refusal, 0 for none, and the record that it or the call names.
-#[derive(Drop)]
+#[derive(Clone, Copy)]
 pub struct Reply {
     pub refusal: u32,
     pub record: RecordIndex,

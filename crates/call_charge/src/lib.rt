@@ -1,4 +1,6 @@
 // The yearly charge (document 02, ticket 1): refusals 1 2 6 16, then the open year is charged and the rest grows.
+#![tactic(auto)]
+
 ghost use Rattle.book_rules.specs.Find.{find_user};
 ghost use Rattle.call_rules.specs.Calls.{charge};
 ghost use Rattle.call_answers.specs.Answers.{Answered};

@@ -1,4 +1,6 @@
 // Closing a year (document 01, "Closing"): refusals 1 2 11 6 12 13 19 14 3, then the year's entry in front of the user's chain.
+#![tactic(auto)]
+
 ghost use Rattle.std.specs.Prelude.{◌≡◌};
 ghost use Rattle.account_steps.specs.Account.{closed_of, settled};
 ghost use Rattle.account_steps.specs.declared.Account.{Account};

@@ -1,4 +1,6 @@
 // Election (document 01, "Election and advances"): refusals 1 2 6 7 8, then the option.
+#![tactic(auto)]
+
 ghost use Rattle.call_rules.specs.Calls.{elect};
 ghost use Rattle.call_answers.specs.Answers.{Answered};
 

@@ -1,4 +1,6 @@
 // Enrolment (document 01, "Book" and "Who brings which number"): refusals 1 2 4 5 3, then a new user in front of the users' chain.
+#![tactic(auto)]
+
 ghost use Rattle.std.specs.Prelude.{◌≡◌};
 ghost use Rattle.book_rules.specs.Book.{used};
 ghost use Rattle.call_rules.specs.Changes.{new_account};

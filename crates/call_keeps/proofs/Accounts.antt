@@ -19,7 +19,8 @@ use Rattle.account_steps.specs.Closing.{credit_after}
 use Rattle.account_steps.specs.Charges.{charge_of, account_charged, account_withheld}
 use Rattle.account_steps.proofs.Closing.{credit-capped}
 use Rattle.account_steps.proofs.TwoYears.{joined, joined_later, runs-open, advanced-open, runs-later, advanced-later}
-use Rattle.book_rules.specs.Book.{details_fit, open_year_fits, halves_of, is_made, run_made, due_if_made, runs_fit, halves_made, advances_fit, later_half, later_fits, charge_fits, credit_fits, halves_fit}
+use Rattle.book_rules.specs.Book.{details_fit, open_year_fits, halves_of, is_made, run_made, due_if_made, runs_fit, halves_made, advances_fit, later_half, later_fits, charge_fits, credit_fits}
+use Rattle.book_rules.specs.Book.{halves_fit}
 use Rattle.book_rules.specs.Book.{account_fits, is_run}
 use Rattle.call_rules.specs.Changes.{new_account}
 use Rattle.book_rules.proofs.Payments.{uncharged}

@@ -10,7 +10,8 @@ use lib.Dec.{eqb, ltb}
 use Rattle.units.proofs.Bools.{and_left, and_right, and_both}
 use Rattle.account_steps.specs.declared.Account.{Account}
 use Rattle.book_layout.specs.Fields.{capacity, user_kind}
-use Rattle.book_rules.specs.Book.{used, first_user, account_fits, account_at, is_user, is_entry, first_entry_of, owner_of, activation_of, open_year_of, first_entry_fits, first_in_order, in_order, next_in_order}
+use Rattle.book_rules.specs.Book.{used, first_user, account_fits, account_at, is_user, is_entry, first_entry_of, owner_of, activation_of, open_year_of, first_entry_fits, first_in_order, in_order}
+use Rattle.book_rules.specs.Book.{next_in_order}
 use Rattle.book_rules.specs.Book.{owner_fits, entry_next_fits, hits, pointers_from}
 use Rattle.book_rules.proofs.RecordKinds.{kind-index, entry-index}
 use Rattle.book_rules.proofs.Faultless.{UserGood, EntryLinks}

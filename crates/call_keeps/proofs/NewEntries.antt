@@ -14,7 +14,8 @@ use Rattle.book_layout.proofs.ByteRanges.{field_below}
 use Rattle.book_records.specs.declared.AdvanceRecord.{AdvanceRecord}
 use Rattle.book_records.specs.declared.ClosingRecord.{ClosingRecord}
 use Rattle.book_records.specs.Records.{advance_image, closing_image}
-use Rattle.book_rules.specs.Book.{used, first_user, account_fits, advance_fits, closing_fits, account_at, is_user, is_advance, is_closing, first_entry_of, level_from, level_of, open_year_of, activation_of, in_order}
+use Rattle.book_rules.specs.Book.{used, first_user, account_fits, advance_fits, closing_fits, account_at, is_user, is_advance, is_closing, first_entry_of, level_from, level_of, open_year_of}
+use Rattle.book_rules.specs.Book.{activation_of, in_order}
 use Rattle.book_rules.specs.Book.{kind_at, entry_ranges, zero_bytes_fit, unnamed_of, is_entry}
 use Rattle.book_rules.proofs.RecordKinds.{kind-index, advance-entry, closing-entry}
 use Rattle.book_rules.proofs.Faultless.{EntryGood, entry-ranges}

@@ -3,7 +3,8 @@ use Prim.Native.Nat.{ℕ}
 use mathlib.Core.Path.{◌≡◌, ap, ◌∙◌}
 use mathlib.Core.Bool.{true}
 use mathlib.Core.List.{List}
-use Rattle.book_layout.specs.Fields.{get, all_zero, unnamed_of_user, unnamed_of_advance, unnamed_of_closing, record_at, user_kind, advance_kind, closing_kind, next_field, kind_field, number_field, first_entry_field}
+use Rattle.book_layout.specs.Fields.{get, all_zero, unnamed_of_user, unnamed_of_advance, unnamed_of_closing, record_at, user_kind, advance_kind, closing_kind, next_field, kind_field, number_field}
+use Rattle.book_layout.specs.Fields.{first_entry_field}
 use Rattle.book_layout.specs.Fields.{activation_year_field, open_year_field, owner_field}
 use Rattle.book_records.specs.declared.UserRecord.{UserRecord}
 use Rattle.book_records.specs.declared.AdvanceRecord.{AdvanceRecord}

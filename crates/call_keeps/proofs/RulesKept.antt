@@ -14,8 +14,10 @@ use Rattle.book_layout.specs.Fields.{get, kind_field, record_at, user_kind, adva
 use Rattle.book_records.specs.declared.AdvanceRecord.{AdvanceRecord}
 use Rattle.book_records.specs.declared.ClosingRecord.{ClosingRecord}
 use Rattle.book_records.specs.Records.{account_in, advance_in, closing_in}
-use Rattle.book_rules.specs.Book.{is_user, is_advance, is_closing, is_entry, next_of, first_entry_of, owner_of, account_at, activation_of, open_year_of, level_of, year_fits, is_run, level_from, booked_fits}
-use Rattle.book_rules.specs.Book.{advance_fits, balance_fits, withheld_fits, closing_fits, entry_ranges, user_next_fits, number_is_new, first_entry_fits, entry_next_fits, owner_fits, in_order, first_in_order}
+use Rattle.book_rules.specs.Book.{is_user, is_advance, is_closing, is_entry, next_of, first_entry_of, owner_of, account_at, activation_of, open_year_of, level_of, year_fits, is_run, level_from}
+use Rattle.book_rules.specs.Book.{booked_fits}
+use Rattle.book_rules.specs.Book.{advance_fits, balance_fits, withheld_fits, closing_fits, entry_ranges, user_next_fits, number_is_new, first_entry_fits, entry_next_fits, owner_fits, in_order}
+use Rattle.book_rules.specs.Book.{first_in_order}
 use Rattle.book_rules.specs.Book.{next_in_order}
 use Rattle.book_rules.proofs.RecordKinds.{kind-index, user-index, advance-entry, closing-entry, entry-index}
 use Rattle.book_rules.proofs.Faultless.{owner-before}

@@ -15,7 +15,8 @@ use Rattle.book_records.proofs.Users.{UserFits}
 use Rattle.book_records.proofs.Advances.{AdvanceFits}
 use Rattle.book_records.proofs.Closings.{ClosingFits}
 use Rattle.calendar.specs.ElectionAndAdvances.{june, october, january}
-use Rattle.book_rules.specs.Book.{open_year_fits, runs_fit, advances_fit, later_half, later_fits, charge_fits, is_made, credit_fits, halves_fit, account_fits, halves_made, year_fits, is_run, level_from, booked_fits}
+use Rattle.book_rules.specs.Book.{open_year_fits, runs_fit, advances_fit, later_half, later_fits, charge_fits, is_made, credit_fits, halves_fit, account_fits, halves_made, year_fits, is_run}
+use Rattle.book_rules.specs.Book.{level_from, booked_fits}
 use Rattle.book_rules.specs.Book.{advance_fits, paid_balance, withheld_fits, closing_fits}
 use Rattle.call_keeps.proofs.Ranges.{conjuncts, account-good, DetailsWithin, details-within}
 use Rattle.call_keeps.proofs.Runs.{made-two-halves, is-run, Run, June, October, January}

@@ -20,7 +20,8 @@ use Rattle.sheet.proofs.Limits.{passed-energy, passed-price}
 use Rattle.sheet_prices.specs.ValueAndCost.{band_price, single_price, cost_in, cost_of, value_in, value_of}
 use Rattle.sheet_prices.proofs.SheetRows.{band-price-fits, single-price-fits}
 use Rattle.sheet_values.specs.declared.Details.{Details}
-use Rattle.sheet_values.specs.YearsValues.{month_exchanged, month_rate, annual_rate, month_flat_rate, annual_flat_rate, flat_rate_over, withdrawn_over, exchanged_over, some_month_above, half_of, year_values}
+use Rattle.sheet_values.specs.YearsValues.{month_exchanged, month_rate, annual_rate, month_flat_rate, annual_flat_rate, flat_rate_over, withdrawn_over, exchanged_over, some_month_above, half_of}
+use Rattle.sheet_values.specs.YearsValues.{year_values}
 use Rattle.sheet_values.specs.YearsValues.{on_island, is_photovoltaic, ValuesFit}
 use Rattle.sheet_values.proofs.SheetRates.{month-rate-capped, annual-rate-capped}
 use Rattle.sheet_values.proofs.Bounds.{sheets-bounded}

@@ -1,5 +1,7 @@
 // How much more sun (document 02, ticket 10), asked for the user of a sheet: refusals 1 2 11 6 13 19 23, then the least addition
 // to the injected field of a month and a band. The book is only read.
+#![tactic(auto)]
+
 ghost use Rattle.std.specs.Prelude.{◌≡◌, length};
 ghost use Rattle.sheet.specs.YearSheet.{sheet_length, Tells};
 ghost use Rattle.call_answers.specs.Answers.{AnsweredBy};

@@ -1,10 +1,13 @@
 // The refusals of each call once the book is sound (document 01, "Who brings which number").
+#![tactic(auto)]
+
 ghost use Rattle.std.specs.Prelude.{◌≡◌, ℕ, ◌<◌, ◌^◌, Bool, cond, false, not, ◌&&◌, length, leb};
 ghost use Rattle.account_steps.specs.declared.Account.{Account as AccountOf};
 ghost use Rattle.sheet.specs.YearSheet.{sheet_length};
 ghost use Rattle.sheet.specs.Objections.{FaultTold};
 ghost use Rattle.call_rules.specs.Rules.{refused_by};
-ghost use Rattle.call_rules.specs.Refusals.{look_of, has_room, day_and_option, election_open, is_open, run_open, order_fits, year_open, charge_open};
+ghost use Rattle.call_rules.specs.Refusals.{look_of, has_room, day_and_option, election_open, is_open, run_open, order_fits, year_open};
+ghost use Rattle.call_rules.specs.Refusals.{charge_open};
 ghost use Rattle.calendar.specs.ElectionAndAdvances.{halves_paid, due};
 ghost use Rattle.account_steps.specs.Account.{runs_in};
 ghost use Rattle.book_rules.specs.Book.{is_made, is_run};

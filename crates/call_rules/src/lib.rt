@@ -1,1 +1,2 @@
 // The five calls of document 01.
+#![tactic(auto)]

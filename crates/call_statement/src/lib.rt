@@ -1,4 +1,6 @@
 // The statement of a user (document 01, "Election and advances"): refusals 1 2 6, then the sums over its chain.
+#![tactic(auto)]
+
 ghost use Rattle.std.specs.Prelude.{◌≡◌};
 ghost use Rattle.call_rules.specs.Calls.{statement};
 ghost use Rattle.call_answers.specs.Answers.{Answered};

@@ -1,4 +1,6 @@
 // What an accepted call writes into the book: whole records, one after the other (document 01, "Book").
+#![tactic(auto)]
+
 ghost use Rattle.std.specs.Prelude.{◌≡◌, ◌+◌, ◌*◌, ◌≤◌, ◌<◌, ◌^◌, length};
 ghost use Rattle.units.specs.Limits.{record_length};
 ghost use Rattle.book_rules.specs.Book.{used};
@@ -28,9 +30,9 @@ pub fn write_account(book: &mut [u8], user: RecordIndex, account: Account)
 
 // A new entry in front of a user's chain, and the user's account after it.
 pub fn write_entry(book: &mut [u8], user: RecordIndex, account: Account, entry: [u8; RECORD_LENGTH])
-    requires record_length_in_bounds { record_length * user.0 + record_length ≤ length book.old }
-    requires record_length_in_bounds_2 { record_length * used book.old + record_length ≤ length book.old }
-    requires len { (length entry ≡ record_length) × (used book.old + 1 < 2 ^ 32) }
+    requires user_in_book { record_length * user.0 + record_length ≤ length book.old }
+    requires new_record_in_book { record_length * used book.old + record_length ≤ length book.old }
+    requires new_entry { (length entry ≡ record_length) × (used book.old + 1 < 2 ^ 32) }
     ensures { book.new ≡ with_entry user.0 account entry book.old }
 {
     let new = book_view::used(book);
@@ -56,8 +58,8 @@ pub fn write_entry(book: &mut [u8], user: RecordIndex, account: Account, entry: 
 
 // A new user in front of the users' chain.
 pub fn write_user(book: &mut [u8], account: Account)
-    requires record_length_in_bounds { record_length * used book.old + record_length ≤ length book.old }
-    requires book_bound { used book.old + 1 < 2 ^ 32 }
+    requires new_record_in_book { record_length * used book.old + record_length ≤ length book.old }
+    requires records_bound { used book.old + 1 < 2 ^ 32 }
     ensures { book.new ≡ enrolled_as account book.old }
 {
     let new = book_view::used(book);

@@ -1,5 +1,7 @@
 // The chain reader: a struct that holds the book's slice and the current index (document 01, "Book": chains run by a next
 // index, and zero ends the chain). The functions over it are few and thin: the work is done on the plain slice and the index.
+#![tactic(auto)]
+
 ghost use Rattle.std.specs.Prelude.{◌≡◌};
 ghost use Rattle.chain_reader.specs.InnerLink.{link_in, link_at};
 

@@ -17,7 +17,8 @@ use Rattle.book_layout.specs.Fields.{record_at}
 use Rattle.account_steps.specs.declared.ClosingSums.{ClosingSums}
 use Rattle.book_records.specs.declared.ClosingRecord.{ClosingRecord}
 use Rattle.book_records.specs.Records.{advance_in, closing_in}
-use Rattle.book_rules.specs.Book.{within, is_user, is_advance, is_closing, owner_of, account_at, account_fits, details_fit, open_year_fits, payments_fit, credit_fits, halves_fit, year_fits, level_from, booked_fits}
+use Rattle.book_rules.specs.Book.{within, is_user, is_advance, is_closing, owner_of, account_at, account_fits, details_fit, open_year_fits, payments_fit, credit_fits, halves_fit, year_fits}
+use Rattle.book_rules.specs.Book.{level_from, booked_fits}
 use Rattle.book_rules.specs.Book.{is_run, advance_fits, balance_fits, withheld_fits, closing_fits}
 use Rattle.book_rules.proofs.Faultless.{Faultless}
 use Rattle.book_rules.proofs.Faultless as book

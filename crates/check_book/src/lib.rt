@@ -1,5 +1,7 @@
 // The check that a book is sound, and the fresh book (document 01, "Book"). Any bytes are a book here: cycles, wild indexes and
 // unknown kinds are ordinary input.
+#![tactic(auto)]
+
 ghost use Rattle.std.specs.Prelude.{◌≡◌, true, ◌&&◌};
 ghost use Rattle.book_rules.specs.Book.{length_fits, used_fits, good_head, is_entry, owner_fits, number_is_new};
 ghost use Rattle.check_pass.specs.InnerSteps.{Broken};
@@ -43,8 +45,8 @@ fn is_new(book: &[u8], user: RecordIndex, known: bool) -> bool
 // at, since the owner of an entry stands before the entry. Each record is looked at once: the entries of a user are linked
 // beforehand, and its number is new where a table of the numbers of all users before it takes it in. An entry has no number.
 fn faulty_record(book: &[u8], broken: RecordIndex) -> RecordIndex
-    requires book_value { length_fits book.now ≡ true }
-    requires book_value_2 { used_fits book.now ≡ true }
+    requires book_length { length_fits book.now ≡ true }
+    requires records_used { used_fits book.now ≡ true }
     requires broken { Broken book.now broken.0 }
     ensures { RecordsJudged book.now result.0 }
 {
@@ -89,9 +91,9 @@ fn faulty_record(book: &[u8], broken: RecordIndex) -> RecordIndex
 
 // A book whose chains do not lead to all records is judged record by record.
 fn judge(book: &[u8], number: UserNumber, broken: RecordIndex) -> Verdict
-    requires book_value { length_fits book.now ≡ true }
-    requires book_value_2 { used_fits book.now ≡ true }
-    requires book_value_3 { good_head book.now ≡ true }
+    requires book_length { length_fits book.now ≡ true }
+    requires records_used { used_fits book.now ≡ true }
+    requires head { good_head book.now ≡ true }
     requires broken { Broken book.now broken.0 }
     ensures { BookJudged book.now number.0 result }
 {

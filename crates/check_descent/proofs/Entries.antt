@@ -10,7 +10,8 @@ use native.Mathlib.Omega.{arith}
 use borrow.Author.Tests.{eq-eqb, lt-ltb}
 use lib.Dec.{eqb, ltb}
 use Rattle.book_layout.specs.Fields.{user_kind}
-use Rattle.book_rules.specs.Book.{used, kind_at, is_user, is_entry, owner_of, next_of, first_entry_of, level_of, years_ended, in_order, activation_of, open_year_of, first_entry_fits, first_in_order, owner_fits}
+use Rattle.book_rules.specs.Book.{used, kind_at, is_user, is_entry, owner_of, next_of, first_entry_of, level_of, years_ended, in_order, activation_of, open_year_of, first_entry_fits, first_in_order}
+use Rattle.book_rules.specs.Book.{owner_fits}
 use Rattle.book_rules.specs.Book.{entry_next_fits, next_in_order}
 use Rattle.book_rules.proofs.RecordKinds.{kind-from-one, kind-below, not-both}
 use Rattle.book_rules.proofs.Levels.{entry-in-order}

@@ -1,1 +1,2 @@
 // What one pass from the last record down to the first meets: a crate of definitions and proofs.
+#![tactic(auto)]

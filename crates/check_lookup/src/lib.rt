@@ -1,4 +1,6 @@
 // The user with a number, found by a pass over the records in use.
+#![tactic(auto)]
+
 ghost use Rattle.std.specs.Prelude.{◌≡◌, ◌<◌, ◌&&◌, eqb};
 ghost use Rattle.units.specs.Units.{record_index};
 ghost use Rattle.book_rules.specs.Book.{used, is_user, number_of};

@@ -1,4 +1,6 @@
 // A set of user numbers, to tell whether a number was seen before. A number for which no place is found counts as seen.
+#![tactic(auto)]
+
 ghost use Rattle.std.specs.Prelude.{◌≡◌, true, ◌+◌, ◌%◌, ◌<◌, length};
 ghost use Rattle.check_numbers.specs.InnerHeld.{remixed, start_of, PlaceIs, Put};
 
@@ -48,7 +50,7 @@ fn place_after(places: usize, at: usize) -> usize
 
 // Adds a number that the table does not hold. The answer is false where it holds it, or where all places that are tried are taken.
 pub fn insert(table: &mut [u32], number: UserNumber) -> bool
-    requires table_nonzero { 0 < length table.old }
+    requires table_size { 0 < length table.old }
     requires number_nonzero { 0 < number.0 }
     ensures { Put table.old number.0 table.new result }
 {

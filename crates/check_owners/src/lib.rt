@@ -1,5 +1,7 @@
 // The entries of each owner, linked in one pass over the book, so that all of them are met without a look at the records of
 // others. Any bytes are a book here, as long as u is 1 to capacity and no more than a book can have: an owner may be no user.
+#![tactic(auto)]
+
 ghost use Rattle.std.specs.Prelude.{◌≡◌, true, ◌≤◌};
 ghost use Rattle.book_rules.specs.Book.{used, used_fits};
 ghost use Rattle.units.specs.Limits.{most_records};
@@ -17,8 +19,8 @@ pub struct Entries {
 // The records but the head are passed from the last one down, and each is read once. An entry whose owner is no record of the book
 // stands in no list.
 pub fn by_owner(book: &[u8]) -> Entries
-    requires book_bound { used book.now ≤ most_records }
-    requires book_value { used_fits book.now ≡ true }
+    requires records_bound { used book.now ≤ most_records }
+    requires records_used { used_fits book.now ≡ true }
     ensures { Linked book.now result }
 {
     let mut first = [RecordIndex(0); MOST_RECORDS];

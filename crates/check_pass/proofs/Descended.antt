@@ -14,7 +14,8 @@ use lib.Seq.{get_or-set_same, get_or-set_other}
 use Rattle.units.proofs.Bools.{and_left, and_right}
 use Rattle.units.proofs.Folds.{below_suc}
 use Rattle.book_layout.specs.Fields.{get, all_zero, unnamed_of_head, record_at, kind_field, number_field, next_field, owner_field, user_kind}
-use Rattle.book_rules.specs.Book.{used, used_fits, first_user, kind_at, is_user, is_entry, account_at, owner_of, next_of, first_entry_of, open_year_of, activation_of, number_of, level_in, level_of, years_ended}
+use Rattle.book_rules.specs.Book.{used, used_fits, first_user, kind_at, is_user, is_entry, account_at, owner_of, next_of, first_entry_of, open_year_of, activation_of, number_of, level_in, level_of}
+use Rattle.book_rules.specs.Book.{years_ended}
 use Rattle.book_rules.specs.Book.{entry_ranges, ranges_fit, zero_bytes_fit, own_rules_fit, sound}
 use Rattle.book_rules.proofs.RecordKinds.{has-kind, entry-of-kind, not-both}
 use Rattle.book_rules.proofs.Faultless.{ranges-entry}

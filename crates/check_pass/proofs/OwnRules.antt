@@ -11,7 +11,8 @@ use lib.Dec.{eqb, leb, ltb}
 use Rattle.units.proofs.Bools.{and_left, or_cases}
 use Rattle.book_layout.specs.Fields.{get, all_zero, unnamed_of_user, record_at, kind_field, number_field, owner_field, user_kind}
 use Rattle.book_records.specs.Records.{account_in}
-use Rattle.book_rules.specs.Book.{kind_at, has_kind, is_user, owner_of, owner_fits, account_fits, entry_ranges, ranges_fit, unnamed_of, zero_bytes_fit, own_rules_fit, good_record, details_fit, open_year_fits}
+use Rattle.book_rules.specs.Book.{kind_at, has_kind, is_user, owner_of, owner_fits, account_fits, entry_ranges, ranges_fit, unnamed_of, zero_bytes_fit, own_rules_fit, good_record, details_fit}
+use Rattle.book_rules.specs.Book.{open_year_fits}
 use Rattle.book_rules.specs.Book.{payments_fit, credit_fits, halves_fit}
 use Rattle.book_rules.proofs.Faults.{ownerless-bad}
 

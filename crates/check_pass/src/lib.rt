@@ -1,5 +1,7 @@
 // One pass over the records of a book, from the last one down (document 01, "Book"). It tests each record's own rules, tells
 // whether the chains lead to every record, and finds the user with a number on its way.
+#![tactic(auto)]
+
 ghost use Rattle.std.specs.Prelude.{◌≡◌, true, false, cond, ◌<◌};
 ghost use Rattle.units.specs.Units.{record_index};
 ghost use Rattle.book_layout.specs.Fields.{get, next_field, kind_field};
@@ -42,7 +44,7 @@ const YEARS: u32 = 65_536;
 
 // The state of a user: 0 until an entry of it is met, then the next of that entry and its level in one word. With the user's
 // record it tells the entry and the year that are due.
-#[derive(Drop)]
+#[derive(Clone, Copy)]
 struct State(u32);
 
 fn entry_due(r: &[u8], state: State) -> RecordIndex
@@ -67,8 +69,8 @@ fn year_due(r: &[u8], state: State) -> u16
 
 // The state of an owner once the entry is met.
 fn state_after(r: &[u8], level: u16) -> State
-    requires r_bound { get next_field r.now < years }
-    requires level_value { level ≡ level_in r.now }
+    requires years_bound { get next_field r.now < years }
+    requires entry_level { level ≡ level_in r.now }
     ensures { StateAfter r.now result.0 }
 {
     let both = book_layout::next_of(r).0 * YEARS + level as u32;
@@ -94,8 +96,8 @@ fn level_leads(
     level: u16,
     ended: u32,
 ) -> bool
-    requires level_value { level ≡ level_in r.now }
-    requires ended_value { ended ≡ years_ended (get kind_field r.now) }
+    requires entry_level { level ≡ level_in r.now }
+    requires ended_years { ended ≡ years_ended (get kind_field r.now) }
     ensures { result ≡ true → EntryLeads r.now owner.now index.0 state.0 }
 {
     let due = entry_due(owner, state).0 == index.0;
@@ -146,10 +148,10 @@ fn pass_over(
     chained: bool,
     below: u32,
 ) -> Passed
-    requires book_value { length_fits book.now ≡ true }
-    requires book_value_2 { used_fits book.now ≡ true }
-    requires book_value_3 { good_head book.now ≡ true }
-    requires tables { Tables (used book.now) chained states.old seen.old }
+    requires book_length { length_fits book.now ≡ true }
+    requires records_used { used_fits book.now ≡ true }
+    requires head { good_head book.now ≡ true }
+    requires pass_tables { Tables (used book.now) chained states.old seen.old }
     requires resumed { chained ≡ false → Resumed book.now below }
     ensures { PassMade book.now wanted.0 chained states.old states.new
         seen.old seen.new result }
@@ -219,10 +221,10 @@ fn pass_over(
 
 // By the chains; and where it was left, without them.
 fn pass_through(book: &[u8], wanted: UserNumber, states: &mut [u32], seen: &mut [u32]) -> Passed
-    requires book_value { length_fits book.now ≡ true }
-    requires book_value_2 { used_fits book.now ≡ true }
-    requires book_value_3 { good_head book.now ≡ true }
-    requires tables { Tables (used book.now) true states.old seen.old }
+    requires book_length { length_fits book.now ≡ true }
+    requires records_used { used_fits book.now ≡ true }
+    requires head { good_head book.now ≡ true }
+    requires pass_tables { Tables (used book.now) true states.old seen.old }
     ensures { PassedThrough book.now wanted.0 result }
 {
     let records = book_view::used(book);
@@ -236,9 +238,9 @@ fn pass_through(book: &[u8], wanted: UserNumber, states: &mut [u32], seen: &mut 
 
 // Tables for the records that the book uses: those for 800 take longer to clear than a small book to pass over.
 pub fn find(book: &[u8], wanted: UserNumber) -> Passed
-    requires book_value { length_fits book.now ≡ true }
-    requires book_value_2 { used_fits book.now ≡ true }
-    requires book_value_3 { good_head book.now ≡ true }
+    requires book_length { length_fits book.now ≡ true }
+    requires records_used { used_fits book.now ≡ true }
+    requires head { good_head book.now ≡ true }
     ensures { PassedThrough book.now wanted.0 result }
 {
     if book_view::used(book) as usize <= FEW_RECORDS {

@@ -1,6 +1,8 @@
 // How often each record is pointed to, counted in one pass over the book (document 01, "Book": "Each record but the head is
 // pointed to exactly once, by the head, a next or a first"). Any bytes are a book here, as long as u is 1 to capacity and no
 // more than a book can have.
+#![tactic(auto)]
+
 ghost use Rattle.std.specs.Prelude.{◌≡◌, true, ℕ, ◌+◌, ◌≤◌, ◌<◌, get_or, length};
 ghost use Rattle.units.specs.Limits.{most_records};
 ghost use Rattle.book_rules.specs.Book.{pointers_to, used, used_fits};
@@ -11,8 +13,8 @@ use units::{MOST_RECORDS, RecordIndex};
 
 // Counts a pointer at the record that it leads to. One that leads past the records of any book is not counted.
 fn count(counts: &mut [u16; MOST_RECORDS], pointer: RecordIndex)
-    requires counts_len { length counts.old ≡ most_records }
-    requires by_index { (m : ℕ) → m < most_records → get_or counts.old m 0 < 65535 }
+    requires counts_length { length counts.old ≡ most_records }
+    requires counts_room { (m : ℕ) → m < most_records → get_or counts.old m 0 < 65535 }
     ensures { PointerCounted pointer.0 counts.old counts.new }
 {
     let to = pointer.0 as usize;
@@ -23,8 +25,8 @@ fn count(counts: &mut [u16; MOST_RECORDS], pointer: RecordIndex)
 
 // A null pointer counts for the head, which nothing looks at. Each record is read once; a record of no known kind points nowhere.
 pub fn counts(book: &[u8]) -> [u16; MOST_RECORDS]
-    requires book_bound { used book.now ≤ most_records }
-    requires book_value { used_fits book.now ≡ true }
+    requires records_bound { used book.now ≤ most_records }
+    requires records_used { used_fits book.now ≡ true }
     ensures { (m : ℕ) → 1 ≤ m → m < most_records → get_or result m 0 ≡ pointers_to book.now m }
 {
     let mut counts = [0; MOST_RECORDS];

@@ -9,7 +9,8 @@ use borrow.Author.Tests.{ne_eqb, eqb-true, leb-true, lt-ltb, le-ltb}
 use lib.Dec.{eqb, leb, ltb}
 use Rattle.units.proofs.Bools.{or_cases}
 use Rattle.book_layout.specs.Fields.{get, record_at, kind_field, next_field, owner_field, activation_year_field, user_kind, advance_kind, closing_kind}
-use Rattle.book_rules.specs.Book.{used, kind_at, has_kind, is_user, is_advance, is_closing, entry_kind, is_entry, owner_of, next_of, activation_of, level_in, level_of, owner_fits, entry_next_fits, in_order}
+use Rattle.book_rules.specs.Book.{used, kind_at, has_kind, is_user, is_advance, is_closing, entry_kind, is_entry, owner_of, next_of, activation_of, level_in, level_of, owner_fits, entry_next_fits}
+use Rattle.book_rules.specs.Book.{in_order}
 use Rattle.book_rules.specs.Book.{next_in_order}
 use Rattle.book_rules.proofs.RecordKinds.{kind-decides}
 use Rattle.check_rules.specs.InnerFollows.{follows_entry}

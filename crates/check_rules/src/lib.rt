@@ -1,8 +1,12 @@
 // The rules of document 01, "Book", on where the links of a record lead. Any bytes are a book here.
+#![tactic(auto)]
+
 ghost use Rattle.std.specs.Prelude.{◌≡◌, true, ◌&&◌, ◌<◌, eqb};
 ghost use Rattle.book_layout.specs.Fields.{user_kind};
-ghost use Rattle.book_rules.specs.Book.{used, used_fits, kind_at, is_user, number_of, own_rules_fit, user_next_fits, number_is_new, first_entry_fits};
-ghost use Rattle.book_rules.specs.Book.{entry_next_fits, owner_fits, pointers_to, in_order, first_in_order, next_in_order, links_fit, good_record};
+ghost use Rattle.book_rules.specs.Book.{used, used_fits, kind_at, is_user, number_of, own_rules_fit, user_next_fits, number_is_new};
+ghost use Rattle.book_rules.specs.Book.{first_entry_fits};
+ghost use Rattle.book_rules.specs.Book.{entry_next_fits, owner_fits, pointers_to, in_order, first_in_order, next_in_order, links_fit};
+ghost use Rattle.book_rules.specs.Book.{good_record};
 ghost use Rattle.book_rules.specs.Book.{good_head};
 ghost use Rattle.check_rules.specs.InnerFollows.{follows_entry};
 
@@ -114,7 +118,7 @@ fn follows(r: &[u8], owner: RecordIndex, level: u16) -> bool
 
 // Owner, next and order together: each of the records that they name is read once, and only where its index is below the entry's.
 fn entry_links_fit(book: &[u8], index: RecordIndex) -> bool
-    requires book_value { used_fits book.now ≡ true }
+    requires records_used { used_fits book.now ≡ true }
     requires index_bound { index.0 < used book.now }
     ensures { result ≡ ((owner_fits book.now index.0 && entry_next_fits book.now index.0)
         && next_in_order book.now index.0) }
@@ -143,8 +147,8 @@ fn entry_links_fit(book: &[u8], index: RecordIndex) -> bool
 
 // Whether a user's number is new comes from the caller, who knows it of all users.
 fn links_fit(book: &[u8], index: RecordIndex, new: bool) -> bool
-    requires value { kind_at book.now index.0 ≡ user_kind → new ≡ number_is_new book.now index.0 }
-    requires book_value { used_fits book.now ≡ true }
+    requires new_number { kind_at book.now index.0 ≡ user_kind → new ≡ number_is_new book.now index.0 }
+    requires records_used { used_fits book.now ≡ true }
     requires index_bound { index.0 < used book.now }
     ensures { result ≡ links_fit book.now index.0 }
 {
@@ -159,10 +163,10 @@ fn links_fit(book: &[u8], index: RecordIndex, new: bool) -> bool
 // A record that keeps its own rules is judged with the number of pointers that lead to it and, if it is a user, with whether its
 // number is new: both are known of all records together at less cost than of each by itself.
 pub fn good_record(book: &[u8], index: RecordIndex, pointers: u16, new: bool) -> bool
-    requires pointers_value { pointers ≡ pointers_to book.now index.0 }
-    requires value { kind_at book.now index.0 ≡ user_kind → new ≡ number_is_new book.now index.0 }
-    requires index_value { own_rules_fit book.now index.0 ≡ true }
-    requires book_value { used_fits book.now ≡ true }
+    requires pointer_count { pointers ≡ pointers_to book.now index.0 }
+    requires new_number { kind_at book.now index.0 ≡ user_kind → new ≡ number_is_new book.now index.0 }
+    requires own_rules { own_rules_fit book.now index.0 ≡ true }
+    requires records_used { used_fits book.now ≡ true }
     requires index_bound { index.0 < used book.now }
     ensures { result ≡ good_record book.now index.0 }
 {

@@ -1,5 +1,7 @@
 // Little-endian numbers in byte strings (document 01, "Units"). A byte past the end of a string reads as 0, so that every
 // string of bytes is an ordinary input.
+#![tactic(auto)]
+
 ghost use Rattle.std.specs.Prelude.{◌≡◌, ◌+◌, ◌*◌, ◌≤◌, ◌<◌, ◌^◌, get_or, length};
 ghost use Rattle.units.specs.Limits.{record_length};
 ghost use Rattle.codec.specs.Bytes.{number, stored, bytes_of};

@@ -1,4 +1,6 @@
 // Decimal numbers as text, written and read: for the library and for programs. Every string of bytes is an ordinary input.
+#![tactic(auto)]
+
 ghost use Rattle.std.specs.Prelude.{◌≡◌, ◌+◌, ◌*◌, ◌≤◌, min, length};
 ghost use Rattle.decimals.specs.Decimals.{decimal, field, is_digit, RunRead, FieldRead};
 ghost use Rattle.decimals.specs.InnerWritten.{TextPut};

@@ -1,5 +1,7 @@
 // The ten figures of document 01, "Figures to prove, one table", as the proved functions work them: a figure a line, its
 // number and then its values.
+#![tactic(auto)]
+
 ghost use Rattle.std.specs.Prelude.{◌≡◌};
 ghost use Rattle.figures.specs.Accounts.{opened, year_with};
 

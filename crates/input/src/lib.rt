@@ -1,5 +1,7 @@
 // Standard input as every program reads it, a line at a time or a whole book, and a file by its name. A read that a signal
 // interrupted is made again, and one that failed is told from the end of the input.
+#![tactic(auto)]
+
 ghost use Rattle.std.specs.Prelude.{◌-◌, ◌≤◌, ◌<◌, ◌≡◌, length};
 ghost use Rattle.libc.specs.Io.{Moved};
 ghost use Rattle.input.specs.Input.{room_for_lines, room_for_book, Means, ReadOnce, ReadOn, RestRead};

@@ -1,1 +1,2 @@
 // What the book holds of each user, by value.
+#![tactic(auto)]

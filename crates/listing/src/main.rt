@@ -1,5 +1,7 @@
 // The listing program of document 01: it reads a book on standard input and prints its listing. The text is
 // `listing_text`'s; here it is only read and written.
+#![tactic(auto)]
+
 use input::Input;
 use listing_text::Listed;
 

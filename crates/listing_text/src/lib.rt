@@ -1,4 +1,6 @@
 // The text of the listing (document 01): from the bytes of a book to the bytes that are printed.
+#![tactic(auto)]
+
 ghost use Rattle.std.specs.Prelude.{◌≡◌, true, ◌+◌, ◌≤◌, length};
 ghost use Rattle.book_rules.specs.Book.{length_fits, sound};
 ghost use Rattle.book_rules.specs.Chains.{users_of};
@@ -55,9 +57,9 @@ fn line_at(out: &mut [u8], at: usize, account: Account) -> usize
 
 // Writes the lines of the users of a sound book in chain order, and answers how many bytes they are.
 fn lines_of(book: &[u8], out: &mut [u8]) -> usize
-    requires book_value { length_fits book.now ≡ true }
-    requires book_value_2 { sound book.now ≡ true }
-    requires longest_text_in_bounds { longest_text ≤ length out.old }
+    requires book_length { length_fits book.now ≡ true }
+    requires sound_book { sound book.now ≡ true }
+    requires text_room { longest_text ≤ length out.old }
     ensures { TextFirst (user_lines book.now (users_of book.now)) out.old out.new result }
 {
     let mut end = 0;

@@ -1,5 +1,7 @@
 // Checks the grid operator's text file on standard input (document 02, ticket 2). It prints the kWh withdrawn and injected in
 // each month, a line each, or which line is wrong and why. What is right is `sheet_text`'s; here it is only read and written.
+#![tactic(auto)]
+
 ghost use Rattle.std.specs.Prelude.{◌≡◌, ◌+◌, ◌≤◌, ◌<◌, get_or};
 
 use input::Input;

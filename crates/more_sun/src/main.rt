@@ -1,6 +1,8 @@
 // How much more sun, for whoever plans panels: the file of a year sheet as the argument, the book on standard input. For the user
 // of the sheet it prints a table of the twelve months by the bands of its reading: the least kWh that, added there, bring C to O
 // or above, or `-` where none do within the limit.
+#![tactic(auto)]
+
 ghost use Rattle.std.specs.Prelude.{◌≤◌};
 
 use call_answers::Reply;

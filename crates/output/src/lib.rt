@@ -1,5 +1,7 @@
 // Standard output as every program writes it: a row is made first and written at once, and a write that fails is reported on
 // standard error.
+#![tactic(auto)]
+
 ghost use Rattle.std.specs.Prelude.{◌≡◌, [], ◌∷◌};
 ghost use Rattle.io.specs.Digits.{last_digits};
 ghost use Rattle.decimals.specs.Decimals.{decimal};

@@ -1,5 +1,7 @@
 // Replays a script of calls on a book and on sheets: one call a line on standard input, one answer a line on standard output,
 // numbers in decimal with one blank between. A line that is no call is answered `error` and changes nothing.
+#![tactic(auto)]
+
 ghost use Rattle.std.specs.Prelude.{◌+◌, ◌*◌, ◌≤◌, length};
 ghost use Rattle.replay_script.specs.Requests.{longest_book};
 ghost use Rattle.replay.specs.InnerLines.{LineDone, FoundDone};
@@ -380,8 +382,8 @@ fn load_book(buffer: &mut [u8], len: usize, line: &[u8], at: usize) -> Step
 
 // Makes a call, on the book or on sheets, and prints its answer.
 fn call(request: Request, line: &[u8], book: &mut [u8], out: &mut [u8]) -> bool
-    requires book_in_bounds { 2 * length book.old + 1 ≤ length out.old }
-    requires longest_book_in_bounds { 2 * longest_book + 257 ≤ length out.old }
+    requires text_room { 2 * length book.old + 1 ≤ length out.old }
+    requires text_room { 2 * longest_book + 257 ≤ length out.old }
 {
     match request {
         Request::Fresh => say_fresh(check_book::fresh(book)),
@@ -464,8 +466,8 @@ fn call(request: Request, line: &[u8], book: &mut [u8], out: &mut [u8]) -> bool
 
 // Does what a line asks on the book in the first `len` bytes of the buffer.
 fn answer(line: &[u8], buffer: &mut [u8], len: usize, out: &mut [u8]) -> Step
-    requires longest_book_in_bounds { (longest_book ≤ length buffer.old) × (len ≤ length buffer.old) }
-    requires buffer_in_bounds { 2 * length buffer.old + 257 ≤ length out.old }
+    requires buffer_room { (longest_book ≤ length buffer.old) × (len ≤ length buffer.old) }
+    requires text_room { 2 * length buffer.old + 257 ≤ length out.old }
     ensures { LineDone line.now buffer.old buffer.new len result.len }
 {
     let request = replay_script::request_of(line);
@@ -488,8 +490,8 @@ fn answer(line: &[u8], buffer: &mut [u8], len: usize, out: &mut [u8]) -> Step
 
 // Answers what was found where a line was looked for. Only a whole line is made a call.
 fn answer_found(found: Found, line: &[u8], buffer: &mut [u8], len: usize, out: &mut [u8]) -> Step
-    requires longest_book_in_bounds { (longest_book ≤ length buffer.old) × (len ≤ length buffer.old) }
-    requires buffer_in_bounds { 2 * length buffer.old + 257 ≤ length out.old }
+    requires buffer_room { (longest_book ≤ length buffer.old) × (len ≤ length buffer.old) }
+    requires text_room { 2 * length buffer.old + 257 ≤ length out.old }
     ensures { FoundDone found line.now buffer.old buffer.new len result }
 {
     match found {
@@ -512,8 +514,8 @@ fn answer_found(found: Found, line: &[u8], buffer: &mut [u8], len: usize, out: &
 
 // A proved loop has to end, so the lines are counted to a number that no input reaches.
 fn run(held: &mut [u8], buffer: &mut [u8], out: &mut [u8])
-    requires longest_book_in_bounds { longest_book ≤ length buffer.old }
-    requires buffer_in_bounds { 2 * length buffer.old + 257 ≤ length out.old }
+    requires buffer_room { longest_book ≤ length buffer.old }
+    requires text_room { 2 * length buffer.old + 257 ≤ length out.old }
 {
     let mut line = input::start();
     let mut len = 0;

@@ -1,9 +1,12 @@
 // A line of a script of calls, from its bytes to what it asks. Every string of bytes is an ordinary input.
+#![tactic(auto)]
+
 ghost use Rattle.std.specs.Prelude.{◌≡◌, cond, ◌≤◌, length};
 ghost use Rattle.replay_script.specs.Requests.{begins, bytes_fit, NumbersRead, new_request, enrol_request, elect_request, advance_request};
 ghost use Rattle.replay_script.specs.Requests.{charge_request, statement_request, load_request, close_request, alone_request};
 ghost use Rattle.replay_script.specs.Requests.{call_request, book_request, request_of};
-ghost use Rattle.replay_script.specs.Requests.{is_no_bytes, is_some_bytes, word_at, words_at, archive_request, restore_request, raise_request};
+ghost use Rattle.replay_script.specs.Requests.{is_no_bytes, is_some_bytes, word_at, words_at, archive_request, restore_request};
+ghost use Rattle.replay_script.specs.Requests.{raise_request};
 ghost use Rattle.replay_script.specs.Requests.{sheet_request};
 ghost use Rattle.replay_script.specs.Requests.{read_measures_request, write_measures_request, text_request};
 ghost use Rattle.replay_script.specs.Requests.{more_sun_request, asking_request};

@@ -1,5 +1,7 @@
 // The year sheet of document 01, "Year sheet": its fields, and what refusals 11, 13, 14 and 19 look at. Every string of
 // bytes is an ordinary input.
+#![tactic(auto)]
+
 ghost use Rattle.std.specs.Prelude.{◌≡◌, not, ◌&&◌, ◌<◌, eqb, ltb, length};
 ghost use Rattle.units.specs.Units.{user_number, kwh};
 ghost use Rattle.units.specs.Folds.{any_below};
@@ -70,7 +72,7 @@ pub fn whole<'a>(s: &'a [u8]) -> &'a [u8]
 
 // The number at a place of a month, both counted from 0: of a sheet of the right length, and of any.
 pub fn number_at(s: &[u8], month: usize, place: usize) -> u32
-    requires s_len { length s.now ≡ sheet_length }
+    requires whole_sheet { length s.now ≡ sheet_length }
     requires month_bound { (month < 12) × (place < 24) }
     ensures { result ≡ word s.now month place }
 {

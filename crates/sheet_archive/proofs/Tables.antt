@@ -1,6 +1,7 @@
 -- A table's numbers are read back from its bytes, and a table is put together again from its numbers: a line is made of
 -- pieces of four bytes, and the table of pieces of a line.
-use Rattle.std.proofs.Common.{◌≡◌, ℕ, suc, ◌+◌, ◌*◌, ◌^◌, ◌<◌, ◌≤◌, List, ◌++◌, length, take, drop, sym, ap, ◌∙◌, mul-le-mul_left, mul-suc, arith, length-drop, take-append-drop, length-take-le, take_all, take_at}
+use Rattle.std.proofs.Common.{◌≡◌, ℕ, suc, ◌+◌, ◌*◌, ◌^◌, ◌<◌, ◌≤◌, List, ◌++◌, length, take, drop, sym, ap, ◌∙◌, mul-le-mul_left, mul-suc, arith, length-drop, take-append-drop, length-take-le}
+use Rattle.std.proofs.Common.{take_all, take_at}
 use Rattle.codec.specs.Bytes.{little_endian, bytes_of, part, number}
 use Rattle.codec.proofs.Numbers.{length-bytes, bytes-value, number-part}
 use Rattle.codec.proofs.ByteRanges.{Bytes, bytes_back}

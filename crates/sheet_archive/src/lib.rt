@@ -1,5 +1,7 @@
 // Sheets for the archive (document 02, ticket 14): "24 columns of twelve, each number after the first of its column replaced
 // by its difference from the one before, modulo 2^32", and the way back. Both work on any bytes.
+#![tactic(auto)]
+
 ghost use Rattle.std.specs.Prelude.{◌≡◌, ◌+◌, ◌*◌, ◌<◌, ◌≤◌, length};
 ghost use Rattle.codec.specs.Bytes.{stored};
 ghost use Rattle.sheet.specs.YearSheet.{sheet_length};
@@ -16,7 +18,7 @@ const COLUMNS: usize = 24;
 const HEADER_WORDS: usize = 8;
 
 // The numbers of four columns that stand side by side, in one month.
-#[derive(Drop)]
+#[derive(Clone, Copy)]
 struct Four {
     first: u32,
     second: u32,
@@ -49,16 +51,16 @@ fn archive_place(column: usize, month: usize) -> usize
 }
 
 fn in_sheet(sheet: &[u8], column: usize, month: usize) -> u32
-    requires sheet_len { length sheet.now ≡ sheet_length }
-    requires column_lt_sheet_columns { (column < sheet_columns) × (month < sheet_months) }
+    requires whole_sheet { length sheet.now ≡ sheet_length }
+    requires column_bound { (column < sheet_columns) × (month < sheet_months) }
     ensures { result ≡ in_sheet sheet_columns sheet.now column month }
 {
     codec::load_u32(sheet, sheet_place(column, month))
 }
 
 fn in_archive(archive: &[u8], column: usize, month: usize) -> u32
-    requires archive_len { length archive.now ≡ sheet_length }
-    requires column_lt_sheet_columns { (column < sheet_columns) × (month < sheet_months) }
+    requires whole_archive { length archive.now ≡ sheet_length }
+    requires column_bound { (column < sheet_columns) × (month < sheet_months) }
     ensures { result ≡ in_archive sheet_months archive.now column month }
 {
     codec::load_u32(archive, archive_place(column, month))
@@ -102,8 +104,8 @@ fn copy_header(from: &[u8], to: &mut [u8])
 // A column of the sheet goes to its line of the archive: "each number after the first of its column replaced by its
 // difference from the one before".
 fn archive_column(sheet: &[u8], archive: &mut [u8], column: usize)
-    requires sheet_len { (length sheet.now ≡ sheet_length) × (length archive.old ≡ sheet_length) }
-    requires column_lt_sheet_columns { column < sheet_columns }
+    requires whole_archive { (length sheet.now ≡ sheet_length) × (length archive.old ≡ sheet_length) }
+    requires column_bound { column < sheet_columns }
     ensures { archive.new ≡ column_written sheet.now column archive.old }
 {
     let mut last = in_sheet(sheet, column, 0);
@@ -121,7 +123,7 @@ fn archive_column(sheet: &[u8], archive: &mut [u8], column: usize)
 
 // The numbers of a month in four columns, each the one before it in its column with the archive's difference.
 fn next_four(archive: &[u8], last: Four, column: usize, month: usize) -> Four
-    requires archive_len { length archive.now ≡ sheet_length }
+    requires whole_archive { length archive.now ≡ sheet_length }
     requires column_bound { (column + 4 ≤ sheet_columns) × (month < sheet_months) }
     ensures { result ≡ next_four archive.now last column month }
 {
@@ -138,7 +140,7 @@ fn next_four(archive: &[u8], last: Four, column: usize, month: usize) -> Four
 }
 
 fn store_four(sheet: &mut [u8], column: usize, month: usize, numbers: Four)
-    requires sheet_len { length sheet.old ≡ sheet_length }
+    requires whole_sheet { length sheet.old ≡ sheet_length }
     requires column_bound { (column + 4 ≤ sheet_columns) × (month < sheet_months) }
     ensures { sheet.new ≡ four_stored column month numbers sheet.old }
 {
@@ -149,7 +151,7 @@ fn store_four(sheet: &mut [u8], column: usize, month: usize, numbers: Four)
 }
 
 fn restore_four(archive: &[u8], sheet: &mut [u8], column: usize)
-    requires archive_len { (length archive.now ≡ sheet_length) × (column + 4 ≤ sheet_columns) }
+    requires archive_column { (length archive.now ≡ sheet_length) × (column + 4 ≤ sheet_columns) }
     requires restored { Restored archive.now sheet.old column 0 0 }
     ensures { Restored archive.now sheet.new (column + 4) 0 0 }
 {

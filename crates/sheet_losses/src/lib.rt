@@ -1,5 +1,7 @@
 // Raw injected readings (document 02, ticket 12): "A preparation call raises each of these in a sheet by a factor of 0 to 200
 // thousandths." Every string of bytes and every factor is an ordinary input.
+#![tactic(auto)]
+
 ghost use Rattle.std.specs.Prelude.{◌≡◌, cond, ◌+◌, ◌≤◌, ◌<◌, ltb, length};
 ghost use Rattle.units.specs.Limits.{max_kwh};
 ghost use Rattle.codec.specs.Bytes.{stored};
@@ -56,7 +58,7 @@ struct WideBands {
     third: WideKwh,
 }
 
-#[derive(Drop)]
+#[derive(Clone, Copy)]
 struct Bands {
     first: Kwh,
     second: Kwh,
@@ -111,8 +113,8 @@ fn above(reading: WideKwh) -> bool
 
 // "The rest of the division by 1,000 passes to the same band of the next month."
 fn raised_month(sheet: &[u8], factor: u32, rests: Rests, month: usize) -> Month
-    requires sheet_len { (length sheet.now ≡ sheet_length) × (month < 12) }
-    requires factor_le_max_factor { (factor ≤ max_factor) × (rests ≡ rests_to factor sheet.now month) }
+    requires month_of_sheet { (length sheet.now ≡ sheet_length) × (month < 12) }
+    requires factor_and_rests { (factor ≤ max_factor) × (rests ≡ rests_to factor sheet.now month) }
     ensures { MonthRaised factor sheet.now month result }
 {
     let raw1 = sheet::number_at(sheet, month, INJECTED);

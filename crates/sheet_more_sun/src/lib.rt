@@ -1,5 +1,7 @@
 // How much more sun (document 02, ticket 10): the least energy that, added to one injected field of a sheet, brings C to O or
 // above.
+#![tactic(auto)]
+
 ghost use Rattle.std.specs.Prelude.{◌≡◌, ◌+◌, ◌-◌, ◌≤◌, ◌<◌};
 ghost use Rattle.units.specs.Limits.{max_kwh, max_price, max_year_ticks};
 ghost use Rattle.sheet.specs.YearSheet.{SheetPassed};

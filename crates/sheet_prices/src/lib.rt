@@ -1,5 +1,7 @@
 // What energy is worth: O, the purchase cost of the energy withdrawn, and C, the value of the energy injected (document
 // 01, "Year's values").
+#![tactic(auto)]
+
 ghost use Rattle.std.specs.Prelude.{◌≡◌, cond, [], ℕ, ◌*◌, ◌<◌, ◌^◌, length, get_or};
 ghost use Rattle.units.specs.Units.{rate};
 ghost use Rattle.units.specs.Limits.{max_kwh, max_price, max_year_ticks};
@@ -13,7 +15,7 @@ ghost use Rattle.sheet_prices.specs.InnerArrays.{energy_row, EnergyRows, price_r
 use units::{Kwh, Rate, Ticks};
 
 fn energy_row(s: &[u8], place: usize, month: usize) -> [Kwh; 3]
-    requires s_len { length s.now ≡ sheet_length }
+    requires whole_sheet { length s.now ≡ sheet_length }
     requires place_bound { (place < 22) × (month < 12) }
     ensures { result ≡ energy_row s.now place month }
 {
@@ -26,7 +28,7 @@ fn energy_row(s: &[u8], place: usize, month: usize) -> [Kwh; 3]
 
 // The energies of the year, by month and band, from a place of the month on.
 pub fn energies(s: &[u8], place: usize) -> [[Kwh; 3]; 12]
-    requires s_len { length s.now ≡ sheet_length }
+    requires whole_sheet { length s.now ≡ sheet_length }
     requires place_bound { place < 22 }
     ensures { EnergyRows (energy_row s.now place) result }
 {

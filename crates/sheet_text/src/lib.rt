@@ -1,5 +1,7 @@
 // "Grid operator's text file" (document 02, ticket 2): the kWh of a sheet from twelve lines of text, and the lines from a sheet.
 // Every string of bytes is an ordinary input.
+#![tactic(auto)]
+
 ghost use Rattle.std.specs.Prelude.{◌≡◌, true, false, ◌+◌, ◌*◌, ◌≤◌, ◌<◌, length};
 ghost use Rattle.sheet.specs.YearSheet.{sheet_length};
 ghost use Rattle.decimals.specs.InnerWritten.{TextPut};

@@ -9,7 +9,8 @@ use lib.Dec.{lit<, eqb}
 use Rattle.units.specs.Folds.{sum_below, all_below, any_below}
 use Rattle.units.proofs.Folds.{sum-capped, all-at}
 use Rattle.codec.specs.Bytes.{little_endian, bytes_of, part, number, zeros}
-use Rattle.sheet.specs.YearSheet.{withdrawn_reading, injected_reading, word, header_fits, last_words_fit, form_fits, refused11, limit_at, above_limit, unused_band, stray_band, at_fault, earliest, refused13}
+use Rattle.sheet.specs.YearSheet.{withdrawn_reading, injected_reading, word, header_fits, last_words_fit, form_fits, refused11, limit_at, above_limit, unused_band, stray_band, at_fault, earliest}
+use Rattle.sheet.specs.YearSheet.{refused13}
 use Rattle.sheet.specs.YearSheet.{refused19, month_withdrawn, Past13}
 use Rattle.sheet.proofs.Limits.{passed-energy, month-withdrawn-capped}
 use Rattle.sheet_values.specs.YearsValues.{month_injected, withdrawn_over, injected_over}

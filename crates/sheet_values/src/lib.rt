@@ -1,4 +1,6 @@
 // The year's values of document 01, "Year's values": C, O, F and the halves of a sheet that has passed 11, 13 and 14.
+#![tactic(auto)]
+
 ghost use Rattle.std.specs.Prelude.{◌≡◌, [], ℕ, ◌+◌, ◌*◌, ◌≤◌, ◌<◌, min, ltb, get_or};
 ghost use Rattle.units.specs.Units.{kwh, rate, units_per_euro_mwh};
 ghost use Rattle.units.specs.Limits.{max_kwh, max_price, max_tier_rate, max_flat_rate};
@@ -16,7 +18,7 @@ use units::{Kwh, Rate, Ticks};
 
 // What enrolment notes of a user: class and plant by document 01's numbers, power in watts, year and month of
 // activation, island 1 where the network is not interconnected, else 0.
-#[derive(Drop)]
+#[derive(Clone, Copy)]
 pub struct Details {
     pub class: u8,
     pub plant: u8,
@@ -27,7 +29,7 @@ pub struct Details {
 }
 
 // What a closing takes from a sheet: document 01's C, O and F, and the exchanged energy of the two halves.
-#[derive(Drop)]
+#[derive(Clone, Copy)]
 pub struct YearValues {
     pub value: Ticks,
     pub cost: Ticks,
@@ -123,7 +125,7 @@ fn rate_at(s: &[u8], month: usize, place: usize) -> Rate
 fn month_rates(s: &[u8], month: usize, plant: u8, power: u32, table: Rate) -> [Rate; 4]
     requires sheet_passed { SheetPassed s.now }
     requires month_bound { month < 12 }
-    requires table_value { table ≡ rate (units_per_euro_mwh * table_euro_per_mwh plant power) }
+    requires table_rate { table ≡ rate (units_per_euro_mwh * table_euro_per_mwh plant power) }
     ensures { Rates (month_rate s.now plant power month) result }
 {
     let mut rates = [Rate(0); 4];
@@ -138,8 +140,8 @@ fn month_rates(s: &[u8], month: usize, plant: u8, power: u32, table: Rate) -> [R
 // A rate of the sheet, summed over a stretch of months.
 fn rate_over(s: &[u8], place: usize, from: usize, count: usize) -> Rate
     requires sheet_passed { SheetPassed s.now }
-    requires le_place { (6 ≤ place) × (place < 23) }
-    requires count_bound { from + count ≤ 12 }
+    requires column_place { (6 ≤ place) × (place < 23) }
+    requires months_of_year { from + count ≤ 12 }
     ensures { RateWithin (sum_below count (λ i. word s.now (from + i) place)) (max_price * count) result }
 {
     let mut sum: u64 = 0;
@@ -153,8 +155,8 @@ fn rate_over(s: &[u8], place: usize, from: usize, count: usize) -> Rate
 // "each annual rate .. is the sum of twelve divided by 12, halves up".
 fn mean_over(s: &[u8], place: usize, from: usize, count: usize) -> Rate
     requires sheet_passed { SheetPassed s.now }
-    requires le_place { (6 ≤ place) × (place < 23) }
-    requires count_nonzero { (0 < count) × (from + count ≤ 12) }
+    requires column_place { (6 ≤ place) × (place < 23) }
+    requires months_of_year { (0 < count) × (from + count ≤ 12) }
     ensures { RateWithin (mean_rate count (sum_below count (λ i. word s.now (from + i) place))) max_price result }
 {
     tariff::mean_rate(rate_over(s, place, from, count), count as u64)
@@ -170,8 +172,8 @@ fn annual_rates(
     table: Rate,
 ) -> [Rate; 4]
     requires sheet_passed { SheetPassed s.now }
-    requires count_nonzero { (0 < count) × (from + count ≤ 12) }
-    requires table_value { table ≡ rate (units_per_euro_mwh * table_euro_per_mwh plant power) }
+    requires months_of_year { (0 < count) × (from + count ≤ 12) }
+    requires table_rate { table ≡ rate (units_per_euro_mwh * table_euro_per_mwh plant power) }
     ensures { Rates (annual_rate s.now plant power from count) result }
 {
     let mut rates = [Rate(0); 4];
@@ -195,8 +197,8 @@ fn month_flat_rate(
 ) -> Ticks
     requires sheet_passed { SheetPassed s.now }
     requires month_bound { month < 12 }
-    requires exchanged_le_withdrawn { (exchanged.0 ≤ withdrawn.0) × (withdrawn.0 ≤ 3 * max_kwh) }
-    requires table_value { table ≡ rate (units_per_euro_mwh * table_euro_per_mwh plant power) }
+    requires exchanged_bound { (exchanged.0 ≤ withdrawn.0) × (withdrawn.0 ≤ 3 * max_kwh) }
+    requires table_rate { table ≡ rate (units_per_euro_mwh * table_euro_per_mwh plant power) }
     ensures { NumberWithin (flat_rate_of (monthly_tiers withdrawn.0 exchanged.0) (month_rate s.now plant power month))
         (max_tier_rate * exchanged.0) result.0 }
 {
@@ -217,9 +219,9 @@ fn annual_flat_rate(
     table: Rate,
 ) -> Ticks
     requires sheet_passed { SheetPassed s.now }
-    requires count_nonzero { (0 < count) × (from + count ≤ 12) }
-    requires exchanged_le_withdrawn { (exchanged.0 ≤ withdrawn.0) × (withdrawn.0 ≤ 36 * max_kwh) }
-    requires table_value { table ≡ rate (units_per_euro_mwh * table_euro_per_mwh plant power) }
+    requires months_of_year { (0 < count) × (from + count ≤ 12) }
+    requires exchanged_bound { (exchanged.0 ≤ withdrawn.0) × (withdrawn.0 ≤ 36 * max_kwh) }
+    requires table_rate { table ≡ rate (units_per_euro_mwh * table_euro_per_mwh plant power) }
     ensures { NumberWithin (flat_rate_of (annual_tiers class withdrawn.0 exchanged.0)
         (annual_rate s.now plant power from count)) (max_tier_rate * exchanged.0) result.0 }
 {
@@ -239,9 +241,9 @@ fn monthly_flat_rate(
     table: Rate,
 ) -> Ticks
     requires sheet_passed { SheetPassed s.now }
-    requires count_bound { from + count ≤ 12 }
+    requires months_of_year { from + count ≤ 12 }
     requires months { Months (month_withdrawn s.now) withdrawn × Months (month_exchanged s.now) exchanged }
-    requires table_value { table ≡ rate (units_per_euro_mwh * table_euro_per_mwh plant power) }
+    requires table_rate { table ≡ rate (units_per_euro_mwh * table_euro_per_mwh plant power) }
     ensures { NumberWithin (sum_below count (λ i. month_flat_rate s.now plant power (from + i)))
         (max_tier_rate * (3 * max_kwh * count)) result.0 }
 {
@@ -275,7 +277,7 @@ fn flat_rate(
     power: u32,
 ) -> Ticks
     requires sheet_passed { SheetPassed s.now }
-    requires count_nonzero { (0 < count) × (from + count ≤ 12) }
+    requires months_of_year { (0 < count) × (from + count ≤ 12) }
     requires months { Months (month_withdrawn s.now) withdrawn × Months (month_injected s.now) injected }
     ensures { TicksWithin (flat_rate_over s.now from count class plant power) max_flat_rate result }
 {

@@ -1,5 +1,7 @@
 // The calls as other programs link them (include/ssp.h). Each answer is flat, of plain numbers, and is by definition the
 // answer of the call beneath it.
+#![tactic(auto)]
+
 ghost use Rattle.std.specs.Prelude.{◌≡◌};
 ghost use Rattle.sheet_archive.specs.Archive.{size_answer, archive_after, restored_after};
 ghost use Rattle.sheet_losses.specs.Losses.{answer_of, raised_after};

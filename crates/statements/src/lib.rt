@@ -1,4 +1,6 @@
 // A user's statement: a walk over its chain that sums the entries (document 01, "Election and advances").
+#![tactic(auto)]
+
 ghost use Rattle.std.specs.Prelude.{◌≡◌, ◌+◌, ◌*◌, ◌^◌, ◌<◌, ◌≤◌, true, length, ◌+ℤ◌};
 ghost use Rattle.std.specs.Int.Signed.{mag};
 ghost use Rattle.std.specs.Int.{w64};
@@ -17,7 +19,7 @@ use units::{RecordIndex, Ticks};
 
 // "Statement: open year, credit, and the sums over the chain of C, O, F, contribution, liquidation, lapsed, balance, all
 // advances, advances of closed years."
-#[derive(Drop)]
+#[derive(Clone, Copy)]
 pub struct Sums {
     pub open_year: u64,
     pub credit: Ticks,
@@ -79,10 +81,10 @@ impl Sums {
 
 // The sums with the entry at an index, whose kind its link shows.
 fn with_entry(book: &[u8], at: RecordIndex, kind: u8, sums: Sums) -> Sums
-    requires at_value { is_entry book.now at.0 ≡ true }
-    requires kind_value { kind ≡ kind_at book.now at.0 }
+    requires entry_record { is_entry book.now at.0 ≡ true }
+    requires record_kind { kind ≡ kind_at book.now at.0 }
     requires entry_room { EntryRoom book.now at.0 sums }
-    requires record_length_in_bounds { record_length * at.0 + record_length ≤ length book.now }
+    requires entry_in_book { record_length * at.0 + record_length ≤ length book.now }
     ensures { result ≡ entry_added book.now at.0 sums }
 {
     let r = book_layout::whole_record(book, at.0 as usize);
@@ -114,9 +116,9 @@ fn sums_before(account: Account) -> Sums
 }
 
 pub fn statement_of(book: &[u8], user: RecordIndex) -> Sums
-    requires book_value { length_fits book.now ≡ true }
-    requires book_value_2 { sound book.now ≡ true }
-    requires user_value { is_user book.now user.0 ≡ true }
+    requires book_length { length_fits book.now ≡ true }
+    requires sound_book { sound book.now ≡ true }
+    requires user_record { is_user book.now user.0 ≡ true }
     ensures { result ≡ sums_of (statement_at book.now user.0) }
 {
     let r = book_layout::record(book, user);

@@ -1,4 +1,6 @@
 // The part of "Year's values" of document 01 that needs no sheet: methods, tiers and rates.
+#![tactic(auto)]
+
 mod table1;
 
 ghost use Rattle.std.specs.Prelude.{◌≡◌, ℕ, ◌-◌, ◌*◌, ◌≤◌, ◌<◌, min, max, get_or};
@@ -69,8 +71,8 @@ fn above(low: Kwh, high: Kwh, a: Kwh) -> Kwh
 // The exchanged energy cut at three rising bounds: "Withdrawal beyond E fills the lowest tiers, so E lies from W − E to W
 // and is cut at the bounds."
 fn cut(withdrawn: Kwh, exchanged: Kwh, first: Kwh, second: Kwh, third: Kwh) -> [Kwh; 4]
-    requires exchanged_le_withdrawn { exchanged.0 ≤ withdrawn.0 }
-    requires first_le_second { (first.0 ≤ second.0) × (second.0 ≤ third.0) }
+    requires exchanged_bound { exchanged.0 ≤ withdrawn.0 }
+    requires thresholds_rise { (first.0 ≤ second.0) × (second.0 ≤ third.0) }
     ensures { TiersCut (tiers first.0 second.0 third.0 withdrawn.0 exchanged.0) exchanged.0 result }
 {
     let low = Kwh(withdrawn.0 - exchanged.0);
@@ -161,8 +163,8 @@ fn limit_of(table: Rate, net: Rate) -> Rate
 // "Tier rate: cogeneration net; renewable up to 20,000 W net + system; above, net + the smaller of system and the limit".
 // `table` is Table 1 for the plant and its power, which the caller looks up once for all its tiers.
 pub fn tier_rate(plant: u8, power: u32, table: Rate, net: Rate, system: Rate) -> Rate
-    requires table_value { table ≡ rate (units_per_euro_mwh * table_euro_per_mwh plant power) }
-    requires net_le_max_price { (net.0 ≤ max_price) × (system.0 ≤ max_price) }
+    requires table_rate { table ≡ rate (units_per_euro_mwh * table_euro_per_mwh plant power) }
+    requires prices_bound { (net.0 ≤ max_price) × (system.0 ≤ max_price) }
     ensures { RateWithin (tier_rate plant power net.0 system.0) max_tier_rate result }
 {
     if plant == COGENERATION {
@@ -177,7 +179,7 @@ pub fn tier_rate(plant: u8, power: u32, table: Rate, net: Rate, system: Rate) ->
 
 // "F, the flat-rate part: the sum of tier energy times tier rate."
 pub fn flat_rate_of(energies: [Kwh; 4], rates: [Rate; 4]) -> Ticks
-    requires by_index { (t : ℕ) → t < 4 → (get_or rates t (rate 0)).0 ≤ max_tier_rate }
+    requires tier_rates { (t : ℕ) → t < 4 → (get_or rates t (rate 0)).0 ≤ max_tier_rate }
     requires energies_bound { tier_sum (numbers energies) ≤ max_year_kwh }
     ensures { NumberWithin (flat_rate_of (numbers energies) (λ t. (get_or rates t (rate 0)).0))
         (max_tier_rate * tier_sum (numbers energies)) result.0 }

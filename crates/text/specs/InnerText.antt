@@ -1,6 +1,7 @@
 -- What a text holds: decimal numbers, bytes in hexadecimal. A text is a list of bytes in ASCII; a byte past its end reads as
 -- 0, which is no digit and no blank.
-use Rattle.std.specs.Prelude.{ℕ, zero, suc, ◌+◌, ◌-◌, ◌*◌, ◌^◌, ◌/◌, ◌%◌, ◌≤◌, ◌<◌, ◌≡◌, Bool, true, false, cond, ◌&&◌, ◌||◌, List, [], ◌∷◌, leb, ltb, eqb, length, get_or, drop}
+use Rattle.std.specs.Prelude.{ℕ, zero, suc, ◌+◌, ◌-◌, ◌*◌, ◌^◌, ◌/◌, ◌%◌, ◌≤◌, ◌<◌, ◌≡◌, Bool, true, false, cond, ◌&&◌, ◌||◌, List, [], ◌∷◌}
+use Rattle.std.specs.Prelude.{leb, ltb, eqb, length, get_or, drop}
 use Rattle.units.specs.Folds.{all_below}
 use Rattle.decimals.specs.Decimals.{is_digit, digits, value}
 use Rattle.text.specs.declared.Number.{Number}

@@ -1,5 +1,7 @@
 // Text as programs read it: decimal numbers with one blank before each, bytes in hexadecimal. Every string of bytes is an
 // ordinary input.
+#![tactic(auto)]
+
 ghost use Rattle.std.specs.Prelude.{◌≡◌, true, ◌+◌, ◌*◌, ◌^◌, ◌≤◌, length, get_or, take, drop};
 ghost use Rattle.units.specs.InnerWithin.{NumberWithin};
 ghost use Rattle.text.specs.InnerText.{narrow, is_hex_digit, hex_digit, hex_byte, is_hex, number_at, field_at};

@@ -13,7 +13,8 @@ use Rattle.units.specs.Folds.{sum_below, all_below, any_below}
 use Rattle.codec.specs.Bytes.{little_endian, bytes_of, part, number, stored, zeros}
 use Rattle.tariff.specs.Tariff.{domestic, monthly_method, between, above, tiers, annual_tiers, mean_rate, tier_rate, flat_rate_of}
 use Rattle.calendar.specs.ElectionAndAdvances.{days_in, is_day, not_after, in_window, halves_paid, due, halves_count, paid_of, amount_of}
-use Rattle.sheet.specs.YearSheet.{withdrawn_reading, injected_reading, word, header_fits, last_words_fit, form_fits, refused11, limit_at, above_limit, unused_band, stray_band, at_fault, earliest, refused13}
+use Rattle.sheet.specs.YearSheet.{withdrawn_reading, injected_reading, word, header_fits, last_words_fit, form_fits, refused11, limit_at, above_limit, unused_band, stray_band, at_fault, earliest}
+use Rattle.sheet.specs.YearSheet.{refused13}
 use Rattle.sheet.specs.YearSheet.{refused19, month_withdrawn, refused14}
 use Rattle.sheet_prices.specs.ValueAndCost.{cost_in, cost_of, single_price, value_in, value_of}
 use Rattle.sheet_values.specs.YearsValues.{month_injected, withdrawn_over, injected_over, exchanged_over, month_exchanged, annual_rate, annual_flat_rate, flat_rate_over, half_of, year_values}
@@ -22,10 +23,14 @@ use Rattle.account_steps.specs.Charges.{charge_of, withheld_from, positive_part,
 use Rattle.account_steps.specs.Closing.{contribution_of, liquidation_of, lapsed_of, credit_after, balance_of}
 use Rattle.book_layout.specs.Fields.{get, record_at, put_record, written, all_zero}
 use Rattle.book_records.specs.Records.{head_image, user_image, advance_image, closing_image, account_in, advance_in, closing_in}
-use Rattle.book_rules.specs.Book.{length_fits, fresh_book, used, first_user, used_fits, kind_at, has_kind, is_entry, details_fit, open_year_fits, halves_of, is_made, due_if_made, runs_fit, halves_made, advances_fit}
-use Rattle.book_rules.specs.Book.{later_half, later_fits, credit_fits, halves_fit, charge_fits, account_fits, year_fits, is_run, level_from, booked_fits, advance_fits, balance_fits, paid_balance, withheld_fits}
-use Rattle.book_rules.specs.Book.{closing_fits, owner_of, ranges_fit, zero_bytes_fit, next_of, first_entry_of, number_of, user_next_fits, number_is_new, first_entry_fits, entry_next_fits, owner_fits, hits}
-use Rattle.book_rules.specs.Book.{pointers_from, pointers_to, pointed_once, level_of, in_order, activation_of, open_year_of, first_in_order, next_in_order, links_fit, good_record, good_head, faulty, sound}
+use Rattle.book_rules.specs.Book.{length_fits, fresh_book, used, first_user, used_fits, kind_at, has_kind, is_entry, details_fit, open_year_fits, halves_of, is_made, due_if_made, runs_fit}
+use Rattle.book_rules.specs.Book.{halves_made, advances_fit}
+use Rattle.book_rules.specs.Book.{later_half, later_fits, credit_fits, halves_fit, charge_fits, account_fits, year_fits, is_run, level_from, booked_fits, advance_fits, balance_fits, paid_balance}
+use Rattle.book_rules.specs.Book.{withheld_fits}
+use Rattle.book_rules.specs.Book.{closing_fits, owner_of, ranges_fit, zero_bytes_fit, next_of, first_entry_of, number_of, user_next_fits, number_is_new, first_entry_fits, entry_next_fits, owner_fits}
+use Rattle.book_rules.specs.Book.{hits}
+use Rattle.book_rules.specs.Book.{pointers_from, pointers_to, pointed_once, level_of, in_order, activation_of, open_year_of, first_in_order, next_in_order, links_fit, good_record, good_head, faulty}
+use Rattle.book_rules.specs.Book.{sound}
 use Rattle.book_rules.specs.Book.{entry_kind, entry_ranges, unnamed_of, level_in}
 use Rattle.call_rules.specs.Changes.{new_account, enrolled_as, with_account, with_entry, applied, booked_in, run_amount}
 use Rattle.book_records.specs.Entries.{entry_image}

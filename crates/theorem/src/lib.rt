@@ -1,1 +1,2 @@
 // The third demand over the functions themselves: a crate of definitions and proofs.
+#![tactic(auto)]

@@ -1,6 +1,7 @@
 -- Which limits follow from which: each is the most that the sentences before it allow.
 use Rattle.std.specs.Prelude.{◌+◌, ◌*◌, suc, ◌≡◌}
-use Rattle.units.specs.Limits.{max_kwh, max_price, max_tier_rate, max_year_ticks, max_flat_rate, max_contribution, max_half_ticks, max_half_kwh}
+use Rattle.units.specs.Limits.{max_kwh, max_price, max_tier_rate, max_year_ticks, max_flat_rate, max_contribution, max_half_ticks}
+use Rattle.units.specs.Limits.{max_half_kwh}
 use Rattle.units.specs.Limits.{last_activation, last_open_year}
 
 pub record DerivedLimits : Type 0 where

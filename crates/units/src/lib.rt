@@ -1,31 +1,33 @@
 // The units of document 01, "Units": each quantity is a type of its own, and a product is made only here.
+#![tactic(auto)]
+
 ghost use Rattle.std.specs.Prelude.{◌≡◌, ◌*◌, ◌≤◌, min, max};
 ghost use Rattle.units.specs.Units.{ticks};
 ghost use Rattle.units.specs.Limits.{max_price, max_tier_rate, max_half_kwh};
 
 // Whole kWh: a number of the year sheet, or a sum of such numbers over at most twelve months.
-#[derive(Drop)]
+#[derive(Clone, Copy)]
 pub struct Kwh(pub u32);
 
 // Whole kWh of any size that a caller brings: an estimate, a half as the amount of an advance takes it, and a reading as it is raised
 // for losses.
-#[derive(Drop)]
+#[derive(Clone, Copy)]
 pub struct WideKwh(pub u64);
 
 // A price or a rate, in hundred-thousandths of a euro per kWh.
-#[derive(Drop)]
+#[derive(Clone, Copy)]
 pub struct Rate(pub u64);
 
 // Hundred-thousandths of a euro (document 01's tick).
-#[derive(Drop)]
+#[derive(Clone, Copy)]
 pub struct Ticks(pub u64);
 
 // The number by which callers name a user.
-#[derive(Drop)]
+#[derive(Clone, Copy)]
 pub struct UserNumber(pub u32);
 
 // The place of a record in the book.
-#[derive(Drop)]
+#[derive(Clone, Copy)]
 pub struct RecordIndex(pub u32);
 
 // THE LIMITS, in the order of specs/Limits.antt, which quotes their sentences. Those that follow from others are worked from them.
@@ -92,8 +94,8 @@ pub fn priced(energy: Kwh, price: Rate) -> Ticks
 
 // The energy of a half year, times the rate of an advance.
 pub fn priced_half(energy: WideKwh, price: Rate) -> Ticks
-    requires energy_le_max_half_kwh { energy.0 ≤ max_half_kwh }
-    requires price_le_max_price { price.0 ≤ max_price }
+    requires energy_bound { energy.0 ≤ max_half_kwh }
+    requires price_bound { price.0 ≤ max_price }
     ensures { result ≡ ticks (energy.0 * price.0) }
 {
     Ticks(energy.0 * price.0)

@@ -1,5 +1,7 @@
 // Answers the lines of outside vectors on standard input; the argument names what they ask: `values`, `table1`, `verdicts` or
 // `listings`. A line that does not ask it is answered `error`.
+#![tactic(auto)]
+
 ghost use Rattle.std.specs.Prelude.{length};
 ghost use Rattle.vectors.specs.InnerRequests.{SheetWithin};
 
