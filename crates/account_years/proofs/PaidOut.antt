@@ -94,7 +94,8 @@ module _ (b : List ℕ) (f : Faultless b) where
       by-closing false h = none-few
 
       by-advance : (t : Bool) → (is_advance b e && within first last (advance_in (record_at b e)).year) ≡ t
-          → Few (cond t (by_advance (advance_in (record_at b e))) (cond (is_closing b e && within first last (closing_in (record_at b e)).year) (by_closing (closing_in (record_at b e))) (payments_are 0 0 0)))
+          → Few (cond t (by_advance (advance_in (record_at b e)))
+          (cond (is_closing b e && within first last (closing_in (record_at b e)).year) (by_closing (closing_in (record_at b e))) (payments_are 0 0 0)))
       by-advance true h = by-advance-few e (and_left (is_advance b e) (within first last (advance_in (record_at b e)).year) h)
       by-advance false h = by-closing (is_closing b e && within first last (closing_in (record_at b e)).year) refl
 

@@ -42,7 +42,8 @@ by_closing c = payments_are 0 c.withheld.0 (paid_balance c.sums.balance.0 + c.su
 unfoldable pub payments_by : List ℕ → ℕ → ℕ → ℕ → Payments
 payments_by b first last e =
     cond (is_advance b e && within first last (advance_in (record_at b e)).year) (by_advance (advance_in (record_at b e)))
-    (cond (is_closing b e && within first last (closing_in (record_at b e)).year) (by_closing (closing_in (record_at b e))) (payments_are 0 0 0))
+    (cond (is_closing b e && within first last (closing_in (record_at b e)).year) (by_closing (closing_in (record_at b e)))
+    (payments_are 0 0 0))
 
 -- .. and of all entries of the user i
 unfoldable pub payments_of : List ℕ → ℕ → ℕ → ℕ → Payments

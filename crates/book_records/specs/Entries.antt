@@ -42,5 +42,6 @@ closing_record next owner year option s withheld =
     record { next = record_index next; option = option; year = year; sums = s; owner = record_index owner; withheld = withheld }
 
 unfoldable pub entry_image : ℕ → ℕ → Entry → List ℕ
-entry_image next owner (advance_entry year booked run paid withheld) = advance_image (advance_record next owner year booked run paid withheld)
+entry_image next owner (advance_entry year booked run paid withheld) =
+    advance_image (advance_record next owner year booked run paid withheld)
 entry_image next owner (closing_entry year option s withheld) = closing_image (closing_record next owner year option s withheld)

@@ -190,11 +190,13 @@ entry_ranges owner r =
     (cond (eqb (get kind_field r) closing_kind) (closing_fits owner (closing_in r)) false)
 
 unfoldable pub ranges_fit : List ℕ → ℕ → Bool
-ranges_fit b i = cond (eqb (kind_at b i) user_kind) (account_fits (account_at b i)) (entry_ranges (account_at b (owner_of b i)) (record_at b i))
+ranges_fit b i =
+    cond (eqb (kind_at b i) user_kind) (account_fits (account_at b i)) (entry_ranges (account_at b (owner_of b i)) (record_at b i))
 
 unfoldable pub unnamed_of : ℕ → List Field
 unnamed_of kind =
-    cond (eqb kind user_kind) unnamed_of_user (cond (eqb kind advance_kind) unnamed_of_advance (cond (eqb kind closing_kind) unnamed_of_closing []))
+    cond (eqb kind user_kind) unnamed_of_user
+    (cond (eqb kind advance_kind) unnamed_of_advance (cond (eqb kind closing_kind) unnamed_of_closing []))
 
 unfoldable pub zero_bytes_fit : List ℕ → ℕ → Bool
 zero_bytes_fit b i = all_zero (unnamed_of (kind_at b i)) (record_at b i)

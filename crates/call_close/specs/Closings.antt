@@ -33,7 +33,8 @@ abbrev pub refused_closing : Reply → Position → Closed
 refused_closing reply position = record { reply = reply; position = position; sums = no_sums }
 
 unfoldable pub sums_answered : List ℕ → List ℕ → ℕ → ClosingSums
-sums_answered b s refusal = cond (eqb refusal 0) (settled (user_at b (sheet_user s)) (year_values s (user_at b (sheet_user s)).details)) no_sums
+sums_answered b s refusal =
+    cond (eqb refusal 0) (settled (user_at b (sheet_user s)) (year_values s (user_at b (sheet_user s)).details)) no_sums
 
 -- what the closing of an account's open year with these values changes
 unfoldable pub year_booked : Account → YearValues → Change

@@ -93,10 +93,10 @@ pub record RunBooked (a : Account) (year run paid withheld : ℕ) : Type 0 where
 pub run-booked : (a : Account) (year run rate estimate1 estimate2 : ℕ) → account_fits a ≡ true → run_open a year run ≡ true → order_fits rate estimate1 estimate2 ≡ true
     → RunBooked a year run (run_amount a year run rate estimate1 estimate2) (withheld_from a.charge.rest.0 (run_amount a year run rate estimate1 estimate2))
 unfolding advance_fits year_fits account_advanced account_withheld
-run-booked a year run rate estimate1 estimate2 before is_open order =
+run-booked a year run rate estimate1 estimate2 before opened order =
     let paid = run_amount a year run rate estimate1 estimate2 in
     let withheld = withheld_from a.charge.rest.0 paid in
-    let d = run-due a year run is_open in
+    let d = run-due a year run opened in
     let most = run-at-most a year run rate estimate1 estimate2 before order in
     let two = halves-at-most (halves_paid a.details.year a.details.month year run) in
     let w = account-within a before in

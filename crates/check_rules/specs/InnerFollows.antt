@@ -6,4 +6,5 @@ use Rattle.book_rules.specs.Book.{entry_kind, level_in}
 unfoldable pub follows_entry : List ℕ → ℕ → ℕ → Bool
 follows_entry r owner level =
     (entry_kind (get kind_field r) && eqb (get owner_field r) owner)
-    && ((eqb (get kind_field r) advance_kind && eqb (level_in r) level) || (eqb (get kind_field r) closing_kind && eqb (level_in r + 1) level))
+    && ((eqb (get kind_field r) advance_kind && eqb (level_in r) level)
+    || (eqb (get kind_field r) closing_kind && eqb (level_in r + 1) level))

@@ -8,8 +8,8 @@ use Rattle.account_steps.specs.Closing.{contribution_of, liquidation_of, lapsed_
 use Rattle.figures.specs.Figures.{Figures}
 
 pub figures : Figures
-unfolding sum_below table1 rows_of_kind reaches first_reaching table_euro_per_mwh domestic between above tiers annual_tiers flat_rate_of mean_rate limit tier_rate paid_of contribution_of liquidation_of lapsed_of
-    credit_after
+unfolding sum_below table1 rows_of_kind reaches first_reaching table_euro_per_mwh domestic between above tiers annual_tiers flat_rate_of mean_rate limit tier_rate paid_of contribution_of
+    liquidation_of lapsed_of credit_after
 figures =
     record {
       figure1 = refl;

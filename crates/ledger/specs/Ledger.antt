@@ -188,7 +188,8 @@ unfoldable pub sheet_flat_rate : Details → List ℕ → ℕ
 sheet_flat_rate d s = flat_rate_over s 0 12 d.class d.plant d.power
 
 unfoldable pub figures_of : Details → List ℕ → Figures
-figures_of d s = record { value = sheet_value d s; cost = cost_of s; flat_rate = sheet_flat_rate d s; half1 = half_of s 0; half2 = half_of s 1 }
+figures_of d s =
+    record { value = sheet_value d s; cost = cost_of s; flat_rate = sheet_flat_rate d s; half1 = half_of s 0; half2 = half_of s 1 }
 
 unfoldable pub closed : List ℕ → Ledger → Ledger
 closed s l = closed_with (sheet_year s) (figures_of l.details s) l

@@ -56,10 +56,12 @@ advances_of (closing_entry y o s w ∷ es) = advances_of es
 data Told (b : List ℕ) (e : ℕ) : Type 0 where
   an-advance : is_advance b e ≡ true → is_closing b e ≡ false
       → entry_in (record_at b e)
-      ≡ advance_entry (advance_in (record_at b e)).year (advance_in (record_at b e)).booked (advance_in (record_at b e)).run (advance_in (record_at b e)).ticks (advance_in (record_at b e)).withheld → Told b
+      ≡ advance_entry (advance_in (record_at b e)).year (advance_in (record_at b e)).booked (advance_in (record_at b e)).run (advance_in (record_at b e)).ticks (advance_in (record_at b e)).withheld
+      → Told b
       e
   a-closing : is_advance b e ≡ false → is_closing b e ≡ true
-      → entry_in (record_at b e) ≡ closing_entry (closing_in (record_at b e)).year (closing_in (record_at b e)).option (closing_in (record_at b e)).sums (closing_in (record_at b e)).withheld → Told b e
+      → entry_in (record_at b e) ≡ closing_entry (closing_in (record_at b e)).year (closing_in (record_at b e)).option (closing_in (record_at b e)).sums (closing_in (record_at b e)).withheld
+      → Told b e
 
 told : (b : List ℕ) (e : ℕ) → is_entry b e ≡ true → Told b e
 unfolding entry_in kind_at
@@ -87,7 +89,8 @@ module _ (b : List ℕ) where
   sum-balances (e ∷ es) a = by_kind (told b e a.0) (sum-balances es a.1)
     where
       by_kind : Told b e → sum_over_ℤ (balance_part b) es ≡ sum_balances (items_of (entries_in b es))
-          → cond (is_closing b e) (to_z w64 (closing_in (record_at b e)).sums.balance.0) (pos 0) +ℤ sum_over_ℤ (balance_part b) es ≡ sum_balances (items_of (entry_in (record_at b e) ∷ entries_in b es))
+          → cond (is_closing b e) (to_z w64 (closing_in (record_at b e)).sums.balance.0) (pos 0) +ℤ sum_over_ℤ (balance_part b) es
+          ≡ sum_balances (items_of (entry_in (record_at b e) ∷ entries_in b es))
       by_kind (an-advance p q r) rest = rw (q, r) (+ℤ_idl (sum_over_ℤ (balance_part b) es) ∙ rest)
       by_kind (a-closing p q r) rest = rw (q, r) (ap (λ (z : ℤ). to_z w64 (closing_in (record_at b e)).sums.balance.0 +ℤ z) rest)
 

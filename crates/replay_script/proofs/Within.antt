@@ -76,7 +76,8 @@ text-fits line =
     (either (begins line write_measures_word) _ _ (either (words_at line (length write_measures_word)).fit _ _ tt tt) tt)
 
 call_fits : (line : List ℕ) → NewFits (call_request line)
-unfolding call_request enrol_request elect_request advance_request close_request charge_request statement_request asking_request more_sun_request sheet_request archive_request restore_request raise_request
+unfolding call_request enrol_request elect_request advance_request close_request charge_request statement_request asking_request more_sun_request sheet_request archive_request
+    restore_request raise_request
 call_fits line =
     either (begins line enrol_word) _ _ (either (numbers_fit line (length enrol_word) enrol_most) _ _ tt tt)
     (either (begins line elect_word) _ _ (either (numbers_fit line (length elect_word) elect_most) _ _ tt tt)
@@ -87,7 +88,8 @@ call_fits line =
     (either (begins line more_sun_word) _ _ (either ((word_at line (length more_sun_word)).fit && numbers_fit line (word_at line (length more_sun_word)).digits.to (most32 ∷ most32 ∷ [])) _ _ tt tt)
     (either (begins line archive_word) _ _ (either (words_at line (length archive_word)).fit _ _ tt tt)
     (either (begins line restore_word) _ _ (either (words_at line (length restore_word)).fit _ _ tt tt)
-    (either (begins line raise_word) _ _ (either ((word_at line (length raise_word)).fit && numbers_fit line (word_at line (length raise_word)).digits.to (most32 ∷ [])) _ _ tt tt) (text-fits line))))))))))
+    (either (begins line raise_word) _ _
+    (either ((word_at line (length raise_word)).fit && numbers_fit line (word_at line (length raise_word)).digits.to (most32 ∷ [])) _ _ tt tt) (text-fits line))))))))))
 
 pub new-fits : (line : List ℕ) → NewFits (request_of line)
 unfolding request_of book_request load_request

@@ -171,7 +171,8 @@ advance_request line =
 
 unfoldable pub statement_request : List ℕ → Request
 statement_request line =
-    cond (numbers_fit line (length statement_word) (most32 ∷ [])) (request.Statement (argument_at line (length statement_word) 0)) request.Wrong
+    cond (numbers_fit line (length statement_word) (most32 ∷ []))
+    (request.Statement (argument_at line (length statement_word) 0)) request.Wrong
 
 unfoldable pub charge_request : List ℕ → Request
 charge_request line =
@@ -236,7 +237,8 @@ sheet_request line =
 
 unfoldable pub asking_request : List ℕ → Request
 asking_request line =
-    cond (begins line statement_word) (statement_request line) (cond (begins line more_sun_word) (more_sun_request line) (sheet_request line))
+    cond (begins line statement_word) (statement_request line)
+    (cond (begins line more_sun_word) (more_sun_request line) (sheet_request line))
 
 unfoldable pub call_request : List ℕ → Request
 call_request line =

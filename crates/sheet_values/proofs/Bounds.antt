@@ -45,7 +45,8 @@ unfolding full_sheet months numbers all_below little_endian bytes_of part number
 past11 = refl
 
 past13 : Past13 full_sheet
-unfolding full_sheet months numbers all_below any_below little_endian bytes_of part number withdrawn_reading injected_reading word limit_at above_limit unused_band stray_band at_fault earliest refused13 refused19
+unfolding full_sheet months numbers all_below any_below little_endian bytes_of part number withdrawn_reading injected_reading word limit_at above_limit unused_band stray_band at_fault
+    earliest refused13 refused19
 past13 = (refl, refl)
 
 withdrawn-full : all_below 12 (λ m. eqb (month_withdrawn full_sheet m) month_bound) ≡ true

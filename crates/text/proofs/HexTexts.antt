@@ -49,5 +49,10 @@ module _ (t : List ℕ) (room : ℕ) (h : is_hex t room ≡ true) where
   hex-turn s at k e l =
       let count = hex-count in
       let size = ap length e ∙ length-drop at s in
-      let next : at + 2 * k + 1 ≡ at + (2 * k + 1) = omega arith in
-      ((omega arith, omega (arith, hex-room)), (rw (← get_or-drop at s (2 * k) 0, ← e) (hex-at (2 * k) (omega arith)), rw (next, ← get_or-drop at s (2 * k + 1) 0, ← e) (hex-at (2 * k + 1) (omega arith))))
+      let next : at + 2 * k + 1 ≡ at + (2 * k + 1) = omega arith in (
+        (omega arith, omega (arith, hex-room)),
+        (
+          rw (← get_or-drop at s (2 * k) 0, ← e) (hex-at (2 * k) (omega arith)),
+          rw (next, ← get_or-drop at s (2 * k + 1) 0, ← e) (hex-at (2 * k + 1) (omega arith)),
+        ),
+      )

@@ -84,16 +84,18 @@ others =
     ∷ made (enrol 7 details 0) 4 ∷ []
 
 answered : made_of (fresh_book 480) calls ≡ made (enrol 7 details 0) 0 ∷ others
-unfolding made_of calls others sum_below all_below any_below little_endian bytes_of part number stored domestic monthly_method between above tiers annual_tiers mean_rate tier_rate flat_rate_of days_in is_day
-    not_after in_window withdrawn_reading injected_reading word header_fits last_words_fit form_fits refused11 limit_at above_limit unused_band stray_band at_fault earliest refused13 refused19 month_withdrawn
-    refused14 cost_in cost_of single_price value_in value_of month_injected withdrawn_over injected_over exchanged_over month_exchanged annual_rate annual_flat_rate flat_rate_over half_of year_values halves_paid due
-    halves_count paid_of amount_of account_elected runs_in account_advanced account_closed contribution_of liquidation_of lapsed_of credit_after balance_of charge_of withheld_from positive_part withheld_at_closing
-    closing_withheld account_charged account_withheld get zeros record_at put_record written head_image user_image advance_image closing_image account_in advance_in closing_in length_fits fresh_book used first_user
-    used_fits kind_at has_kind entry_kind entry_ranges unnamed_of all_zero level_in is_entry details_fit open_year_fits halves_of is_made due_if_made runs_fit halves_made advances_fit later_half later_fits credit_fits
-    halves_fit charge_fits account_fits year_fits is_run level_from booked_fits advance_fits balance_fits paid_balance withheld_fits closing_fits owner_of ranges_fit zero_bytes_fit next_of first_entry_of number_of
-    user_next_fits number_is_new first_entry_fits entry_next_fits owner_fits hits pointers_from pointers_to pointed_once level_of in_order activation_of open_year_of first_in_order next_in_order links_fit good_record
-    good_head faulty sound find_below find_user new_account enrolled_as with_account with_entry applied booked_in run_amount entry_image settled refusal_of change_of booked book_after refused_by rules_of named_by
-    look_at has_room day_and_option election_open charge_open is_open run_open order_fits year_open words month months sheet_of
+unfolding made_of calls others sum_below all_below any_below little_endian bytes_of part number stored domestic monthly_method between above tiers annual_tiers mean_rate tier_rate
+    flat_rate_of days_in is_day not_after in_window withdrawn_reading injected_reading word header_fits last_words_fit form_fits refused11 limit_at above_limit unused_band stray_band
+    at_fault earliest refused13 refused19 month_withdrawn refused14 cost_in cost_of single_price value_in value_of month_injected withdrawn_over injected_over exchanged_over month_exchanged
+    annual_rate annual_flat_rate flat_rate_over half_of year_values halves_paid due halves_count paid_of amount_of account_elected runs_in account_advanced account_closed contribution_of
+    liquidation_of lapsed_of credit_after balance_of charge_of withheld_from positive_part withheld_at_closing closing_withheld account_charged account_withheld get zeros record_at
+    put_record written head_image user_image advance_image closing_image account_in advance_in closing_in length_fits fresh_book used first_user used_fits kind_at has_kind entry_kind
+    entry_ranges unnamed_of all_zero level_in is_entry details_fit open_year_fits halves_of is_made due_if_made runs_fit halves_made advances_fit later_half later_fits credit_fits halves_fit
+    charge_fits account_fits year_fits is_run level_from booked_fits advance_fits balance_fits paid_balance withheld_fits closing_fits owner_of ranges_fit zero_bytes_fit next_of
+    first_entry_of number_of user_next_fits number_is_new first_entry_fits entry_next_fits owner_fits hits pointers_from pointers_to pointed_once level_of in_order activation_of open_year_of
+    first_in_order next_in_order links_fit good_record good_head faulty sound find_below find_user new_account enrolled_as with_account with_entry applied booked_in run_amount entry_image
+    settled refusal_of change_of booked book_after refused_by rules_of named_by look_at has_room day_and_option election_open charge_open is_open run_open order_fits year_open words month
+    months sheet_of
 answered = refl
 
 -- every byte of the sheets is one
