@@ -220,23 +220,20 @@ fn flat_sun(answer: call_more_sun::MoreSun) -> Sun
 }
 
 // Header and library belong together: a program asks the library for the number that its header has.
-#[unsafe(no_mangle)]
-pub extern "C" fn ssp_interface() -> u32
+pub fn ssp_interface() -> u32
     ensures { result ≡ interface_number }
 {
     INTERFACE
 }
 
-#[unsafe(no_mangle)]
-pub extern "C" fn ssp_fresh(book: &mut [u8]) -> u32
+pub fn ssp_fresh(book: &mut [u8]) -> u32
     ensures answer { result ≡ fresh_answer book.old }
     ensures after { book.new ≡ fresh_after book.old }
 {
     check_book::fresh(book)
 }
 
-#[unsafe(no_mangle)]
-pub extern "C" fn ssp_enrol(
+pub fn ssp_enrol(
     book: &mut [u8],
     number: u32,
     user_class: u8,
@@ -265,8 +262,7 @@ pub extern "C" fn ssp_enrol(
     }
 }
 
-#[unsafe(no_mangle)]
-pub extern "C" fn ssp_elect(
+pub fn ssp_elect(
     book: &mut [u8],
     number: u32,
     option: u8,
@@ -283,8 +279,7 @@ pub extern "C" fn ssp_elect(
     }
 }
 
-#[unsafe(no_mangle)]
-pub extern "C" fn ssp_charge(book: &mut [u8], number: u32) -> Booked
+pub fn ssp_charge(book: &mut [u8], number: u32) -> Booked
     ensures { Answered book.old (charge number) (find_user book.old number) result.refusal result.record
         book.new }
 {
@@ -295,8 +290,7 @@ pub extern "C" fn ssp_charge(book: &mut [u8], number: u32) -> Booked
     }
 }
 
-#[unsafe(no_mangle)]
-pub extern "C" fn ssp_advance(
+pub fn ssp_advance(
     book: &mut [u8],
     number: u32,
     year: u32,
@@ -325,8 +319,7 @@ pub extern "C" fn ssp_advance(
     }
 }
 
-#[unsafe(no_mangle)]
-pub extern "C" fn ssp_close(book: &mut [u8], sheet: &[u8]) -> Closed
+pub fn ssp_close(book: &mut [u8], sheet: &[u8]) -> Closed
     ensures reply { Answered book.old (close sheet.now) 0 result.refusal result.record book.new }
     ensures position { Tells sheet.now result.refusal (position_of result.month result.place) }
     ensures flat { result ≡ flat_closed result.refusal result.record (position_of result.month result.place)
@@ -335,56 +328,49 @@ pub extern "C" fn ssp_close(book: &mut [u8], sheet: &[u8]) -> Closed
     flat_closed(call_close::close(book, sheet))
 }
 
-#[unsafe(no_mangle)]
-pub extern "C" fn ssp_statement(book: &[u8], number: u32) -> Sums
+pub fn ssp_statement(book: &[u8], number: u32) -> Sums
     ensures reply { Answered book.now (statement number) 0 result.refusal result.record book.now }
     ensures flat { result ≡ flat_sums result.refusal result.record (sums_stated book.now number result.refusal) }
 {
     flat_sums(call_statement::statement(book, UserNumber(number)))
 }
 
-#[unsafe(no_mangle)]
-pub extern "C" fn ssp_archive(sheet: &[u8], archive: &mut [u8]) -> u32
+pub fn ssp_archive(sheet: &[u8], archive: &mut [u8]) -> u32
     ensures answer { result ≡ size_answer sheet.now archive.old }
     ensures after { archive.new ≡ archive_after sheet.now archive.old }
 {
     sheet_archive::archive(sheet, archive)
 }
 
-#[unsafe(no_mangle)]
-pub extern "C" fn ssp_restore(archive: &[u8], sheet: &mut [u8]) -> u32
+pub fn ssp_restore(archive: &[u8], sheet: &mut [u8]) -> u32
     ensures answer { result ≡ size_answer archive.now sheet.old }
     ensures after { sheet.new ≡ restored_after archive.now sheet.old }
 {
     sheet_archive::restore(archive, sheet)
 }
 
-#[unsafe(no_mangle)]
-pub extern "C" fn ssp_raise(sheet: &mut [u8], factor: u32) -> Raised
+pub fn ssp_raise(sheet: &mut [u8], factor: u32) -> Raised
     ensures answer { result ≡ flat_raised (answer_of factor sheet.old) }
     ensures after { sheet.new ≡ raised_after factor sheet.old }
 {
     flat_raised(sheet_losses::raise(sheet, factor))
 }
 
-#[unsafe(no_mangle)]
-pub extern "C" fn ssp_read_measures(sheet: &mut [u8], text: &[u8]) -> Read
+pub fn ssp_read_measures(sheet: &mut [u8], text: &[u8]) -> Read
     ensures answer { result ≡ flat_read (read_answer sheet.old text.now) }
     ensures after { sheet.new ≡ read_after sheet.old text.now }
 {
     flat_read(sheet_text::read_measures(sheet, text))
 }
 
-#[unsafe(no_mangle)]
-pub extern "C" fn ssp_write_measures(sheet: &[u8], text: &mut [u8]) -> Written
+pub fn ssp_write_measures(sheet: &[u8], text: &mut [u8]) -> Written
     ensures answer { result ≡ flat_written (write_answer sheet.now text.old) }
     ensures after { text.new ≡ buffer_after sheet.now text.old }
 {
     flat_written(sheet_text::write_measures(sheet, text))
 }
 
-#[unsafe(no_mangle)]
-pub extern "C" fn ssp_more_sun(book: &[u8], sheet: &[u8], month: u32, band: u32) -> Sun
+pub fn ssp_more_sun(book: &[u8], sheet: &[u8], month: u32, band: u32) -> Sun
     ensures reply { AnsweredBy book.now (more_sun_order book.now sheet.now month band) 0 result.refusal
         result.record }
     ensures position { Tells sheet.now result.refusal (position_of result.month result.place) }
