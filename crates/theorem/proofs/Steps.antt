@@ -15,6 +15,7 @@ use Rattle.theorem.specs.Runs.{Calls, enrols, elects, advances, closes, charges,
 use mathlib.Core.Bool.{Bool, true, false, cond, not}
 use lib.Dec.{eqb}
 use denote.Ref.{Bor}
+use denote.MutBor.{MutBor}
 use Rattle.units.specs.Units.{user_number, ticks}
 use Rattle.units.specs.declared.Rate.{Rate}
 use Rattle.units.specs.declared.WideKwh.{WideKwh}
@@ -69,9 +70,13 @@ run-answers (and_then b b' b'' m ms c t rest) =
 
 -- THAT A CALL CAN BE MADE
 
--- a buffer that holds these bytes
-abbrev pub lent : List ℕ → Bor (List ℕ)
-lent b = record { ref_ptr = (0, 0); now = b }
+-- a buffer that holds these bytes, lent to be written
+abbrev pub lent : List ℕ → MutBor (List ℕ)
+lent b = record { ref_ptr = (0, 0); ghost_name = 0; now = b }
+
+-- .. and lent to be read only
+abbrev shown : List ℕ → Bor (List ℕ)
+shown b = record { ref_ptr = (0, 0); now = b }
 
 -- an answer that tells no position
 record Other (n : ℕ) : Type 0 where
@@ -134,9 +139,9 @@ module _ (b : List ℕ) where
   performed (close s) =
       let c = close s in
       let at = telling s (refusal_of b c) (others s) in
-      closes ([], ([], tt)) (lent b, (lent s, tt))
+      closes ([], ([], tt)) (lent b, (shown s, tt))
       (record { reply = unnamed c; position = at.position; sums = sums_answered b s (refusal_of b c) })
-      (lent (book_after b c), (lent s, tt)) (right c 0, (at.told, refl))
+      (lent (book_after b c), (shown s, tt)) (right c 0, (at.told, refl))
   performed (charge n) =
       let c = charge n in
       charges ([], tt) (lent b, (user_number n, tt)) (reply_of (refusal_of b c) (record_named b (refusal_of b c) (find_user b n))) (lent (book_after b c), (user_number n, tt))
@@ -145,9 +150,9 @@ module _ (b : List ℕ) where
       let c = statement n in
       let same = stated-left n in
       rw same
-      (states ([], tt) (lent b, (user_number n, tt))
+      (states ([], tt) (shown b, (user_number n, tt))
       (record { reply = unnamed c; sums = sums_stated b n (refusal_of b c) })
-      (lent b, (user_number n, tt))
+      (shown b, (user_number n, tt))
       (subst (Answered b c 0 (refusal_of b c) (record_named b (refusal_of b c) 0)) same (right c 0), refl))
 
 pub possible : (b : List ℕ) (cs : List Call) → AllTyped cs → Runs Calls b (made_of b cs) (book_after_all b cs)
