@@ -1,0 +1,12 @@
+-- `prices` is held to `PriceRows`: the rows are filled month by month.
+use Prim.Native.Nat.{◌-◌}
+use mathlib.Core.List.{[]}
+use Rattle.units.proofs.Filled.{Filling}
+use Rattle.sheet_prices.specs.InnerArrays.{price_row}
+use Rattle.sheet_prices.proofs.prices.Given as goal
+
+abbrev pub invariant-loop-month : goal.invariant-loop-month
+invariant-loop-month l = Filling [] (price_row l.s l.bands l.island l.photovoltaic) 12 l.month l.rows
+
+abbrev pub decreases-loop-month : goal.decreases-loop-month
+decreases-loop-month l = 12 - l.month

@@ -1,0 +1,29 @@
+-- `year_value` is held to `sum_below`: a running sum of the months.
+use mathlib.Core.Path.{ap, sym}
+use mathlib.Core.List.{[]}
+use native.Mathlib.Omega.{arith}
+use lib.ListN.{get_or}
+use Rattle.units.specs.declared.Ticks.{Ticks}
+use Rattle.units.proofs.Folds.{sum-zero, sum-next}
+use Rattle.sheet_prices.specs.InnerArrays.{row_value}
+use Rattle.std.proofs.Common.{rules}
+use Rattle.sheet_prices.proofs.year_value.Goals as goal
+
+pub loop-month-init : goal.loop-month-init
+loop-month-init c = record {
+  within = search rules;
+  bounded = search rules;
+  sums = sym (sum-zero (λ m. row_value (get_or c.args.energy m []) (get_or c.args.prices m [])));
+}
+
+pub loop-month-preserved : goal.loop-month-preserved
+loop-month-preserved c =
+    let l = c.loop-month in
+    let a = c.args in
+    let value = c.row_value-value.ensures in
+    record {
+      within = search rules;
+      bounded = omega arith;
+      sums = sum-next l.month (λ m. row_value (get_or a.energy m []) (get_or a.prices m [])) l.invariant.sums (ap (λ (t : Ticks).
+          t.0) value.is);
+    }
