@@ -3,7 +3,7 @@
  * much more sun is needed, a sheet to its archive and back, raw injected readings, and a sheet to the grid operator's text and
  * back: every field of every answer is printed.
  *
- *     gcc -std=c11 -Wall -Wextra -Werror -Iinclude include/example.c target/staticlib/libssp.a -o example
+ *     gcc -std=c11 -Wall -Wextra -Werror -Iinclude include/example.c lib/libssp.a -o example
  *
  * example.out has what it prints. Its figures do not come from the library: the Python program that made tests/vectors (its
  * README.md) was given the same calls, and its answers were written out in this form. The arguments of a call, and the sums of

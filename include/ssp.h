@@ -1,7 +1,7 @@
 /*
  * ssp.h: a net metering account book (scambio sul posto, by the GSE's rules of May 2013) in one buffer that the caller lends.
  *
- * Link with libssp.a, which `rt staticlib ssp` writes to target/staticlib/. It is for x86-64, keeps no state, allocates nothing,
+ * Link with libssp.a, which scripts/library proves and writes to lib/. It is for x86-64, keeps no state, allocates nothing,
  * does no input or output, and takes only memcpy and memset from the C library. Every call returns.
  *
  * UNITS
