@@ -1,0 +1,18 @@
+-- Place by place.
+use Prim.Native.Nat.{ℕ, ◌+◌, ◌-◌, ◌*◌}
+use mathlib.Core.Path.{◌≡◌, refl, ap, ◌∙◌}
+use native.Mathlib.Omega.{arith}
+use Rattle.codec.specs.Bytes.{bytes_of, stored}
+use Rattle.sheet_text.specs.Lines.{readings}
+use Rattle.sheet_text.specs.Reading.{month_filled}
+use Rattle.sheet_text.specs.InnerSteps.{kwh_of_year}
+use Rattle.sheet_text.proofs.Filling.{month-none, month-next}
+use Rattle.units.proofs.Filled.{Written}
+use Rattle.sheet_text.proofs.fill_month.Given as goal
+
+abbrev pub invariant-loop-place : goal.invariant-loop-place
+invariant-loop-place l = Written readings l.place l.initial.sheet l.sheet (month_filled (kwh_of_year l.year l.month) l.month
+    l.place l.initial.sheet)
+
+abbrev pub decreases-loop-place : goal.decreases-loop-place
+decreases-loop-place l = readings - l.place

@@ -1,0 +1,16 @@
+-- The numbers are read one by one.
+use Prim.Native.Nat.{◌-◌}
+use mathlib.Core.Path.{◌≡◌, refl}
+use native.Mathlib.Nat.{not-suc-le-zero}
+use native.Mathlib.Omega.{arith}
+use lib.ListN.{length-set}
+use Rattle.units.proofs.Filled.{Filling, filled_next}
+use Rattle.sheet.specs.YearSheet.{word}
+use Rattle.sheet_text.specs.Lines.{readings}
+use Rattle.sheet_text.proofs.month_of.Given as goal
+
+abbrev pub invariant-loop-place : goal.invariant-loop-place
+invariant-loop-place l = Filling 0 (word l.sheet l.month) readings l.place l.kwh
+
+abbrev pub decreases-loop-place : goal.decreases-loop-place
+decreases-loop-place l = readings - l.place
