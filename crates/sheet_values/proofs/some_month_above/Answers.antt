@@ -1,0 +1,18 @@
+-- A running test.
+use Prim.Native.Nat.{◌+◌}
+use mathlib.Core.Path.{refl, sym}
+use lib.Dec.{ltb}
+use Rattle.units.proofs.Folds.{any-zero, any_next}
+use Rattle.tariff.specs.Tariff.{monthly_threshold}
+use Rattle.sheet_prices.specs.InnerArrays.{energy_at}
+use Rattle.std.proofs.Common.{rules}
+use Rattle.sheet_values.proofs.some_month_above.Goals as goal
+
+pub loop-i-init : goal.loop-i-init
+loop-i-init c = (search rules, sym (any-zero (λ j. ltb monthly_threshold (energy_at (c.args.from + j) c.args.months))))
+
+pub loop-i-preserved : goal.loop-i-preserved
+loop-i-preserved c =
+    let l = c.loop-i in
+    let a = c.args in
+    (search rules, any_next l.i (λ j. ltb monthly_threshold (energy_at (a.from + j) a.months)) l.invariant.1 refl)
