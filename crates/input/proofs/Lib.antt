@@ -1,4 +1,3 @@
-pub mod Answers
 pub mod Full
 pub mod LinesFound
 pub mod Repeated

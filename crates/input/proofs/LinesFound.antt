@@ -109,7 +109,7 @@ found_passed before kept after r found.Whole p = absurd p
 found_passed before kept after r found.Long p = p
 found_passed before kept after r found.Half p = p
 found_passed before kept after r found.End p = absurd p
-found_passed before kept after r found.Failed p = p
+found_passed before kept after r (found.Failed e) p = p
 
 pub read-passed : (before between after : List ℕ) (kept : ℕ) (r : Line) → length between ≡ length before → LinePassed between after r
     → LineRead before kept after r
@@ -149,7 +149,7 @@ module _ (before middle after : List ℕ) (line : Line) (kept : ℕ) (h : LineHe
   found_after r found.Long p = (p, none)
   found_after r found.Half p = (none, p)
   found_after r found.End p = (omega (arith, h.next, p.0), p.1)
-  found_after r found.Failed p = (none, p)
+  found_after r (found.Failed e) p = (none, p)
 
   pub after_read : (r : Line) → LineRead middle kept after r → LineAfter before line after r
   after_read r p = record { same = p.same ∙ rest.same; held = p.held; found = found_after r r.found p.found }

@@ -55,7 +55,7 @@ FoundPassed after r found.Whole = ⊥
 FoundPassed after r found.Long = WholeLine after r
 FoundPassed after r found.Half = r ≡ nothing_held found.Half
 FoundPassed after r found.End = ⊥
-FoundPassed after r found.Failed = r ≡ nothing_held found.Failed
+FoundPassed after r (found.Failed e) = r ≡ nothing_held (found.Failed e)
 
 pub record LinePassed (before after : List ℕ) (r : Line) : Type 0 where
   pub same : length after ≡ length before
@@ -69,7 +69,7 @@ FoundRead before kept after r found.Whole =
 FoundRead before kept after r found.Long = WholeLine after r
 FoundRead before kept after r found.Half = r ≡ nothing_held found.Half
 FoundRead before kept after r found.End = (kept ≡ 0) × (r ≡ nothing_held found.End)
-FoundRead before kept after r found.Failed = r ≡ nothing_held found.Failed
+FoundRead before kept after r (found.Failed e) = r ≡ nothing_held (found.Failed e)
 
 pub record LineRead (before : List ℕ) (kept : ℕ) (after : List ℕ) (r : Line) : Type 0 where
   pub same : length after ≡ length before
@@ -88,7 +88,7 @@ FoundAfter before line after r found.Whole = WholeLine after r × Continued befo
 FoundAfter before line after r found.Long = WholeLine after r × NoFeed before line.next line.filled
 FoundAfter before line after r found.Half = NoFeed before line.next line.filled × (r ≡ nothing_held found.Half)
 FoundAfter before line after r found.End = (line.next ≡ line.filled) × (r ≡ nothing_held found.End)
-FoundAfter before line after r found.Failed = NoFeed before line.next line.filled × (r ≡ nothing_held found.Failed)
+FoundAfter before line after r (found.Failed e) = NoFeed before line.next line.filled × (r ≡ nothing_held (found.Failed e))
 
 pub record LineAfter (before : List ℕ) (line : Line) (after : List ℕ) (r : Line) : Type 0 where
   pub same : length after ≡ length before

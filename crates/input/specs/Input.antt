@@ -1,5 +1,8 @@
 -- What reads bring: bytes after those that are held, which stay as they are.
-use Rattle.std.specs.Prelude.{ℕ, ◌+◌, ◌≤◌, ◌<◌, ◌≡◌, List, length, take, ℤ, pos, negsuc}
+use Rattle.std.specs.Prelude.{ℕ, ◌+◌, ◌≤◌, ◌<◌, ◌≡◌, ◌≢◌, List, length, take, Result, Ok, Err}
+use Rattle.std.specs.IoError.{error_kind}
+use Rattle.std.specs.declared.io.Error.{Error}
+use Rattle.std.specs.declared.io.ErrorKind.TheVariants.{Interrupted}
 use Rattle.input.specs.declared.Got.{Got}
 use Rattle.input.specs.declared.Got.TheVariants as got
 use Rattle.input.specs.declared.Read.{Read}
@@ -14,28 +17,23 @@ room_for_lines = 262144
 abbrev pub room_for_book : ℕ
 room_for_book = 64001
 
--- the number of the error of a call that a signal interrupted
-abbrev pub interrupted : ℤ
-interrupted = pos 4
-
--- a read that failed answers -1
-abbrev pub ReadFailed : ℤ → Type 0
-ReadFailed (pos n) = ⊥
-ReadFailed (negsuc k) = Unit {0}
-
--- what a read answered and the error that it left mean: the end is the answer 0, and an interruption is no failure
-abbrev pub Means : ℤ → ℤ → Got → Type 0
-Means answer error (got.Bytes n) = (answer ≡ pos n) × (0 < n)
-Means answer error got.End = answer ≡ pos 0
-Means answer error got.Interrupted = ReadFailed answer × (error ≡ interrupted)
-Means answer error got.Failed = ReadFailed answer × (error ≡ interrupted → ⊥)
+-- what a read answered means: the end is the answer 0, an interruption is no failure, and a failure has the read's own error
+abbrev pub Means : Result ℕ Error → Got → Type 0
+Means (Ok n) (got.Bytes m) = (n ≡ m) × (0 < m)
+Means (Ok n) got.End = n ≡ 0
+Means (Ok n) got.Interrupted = ⊥
+Means (Ok n) (got.Failed e) = ⊥
+Means (Err f) (got.Bytes m) = ⊥
+Means (Err f) got.End = ⊥
+Means (Err f) got.Interrupted = error_kind f ≡ Interrupted
+Means (Err f) (got.Failed e) = (e ≡ f) × (error_kind f ≢ Interrupted)
 
 -- the bytes that a read brought fit into the room after those that are held
 abbrev pub GotWithin : ℕ → ℕ → Got → Type 0
 GotWithin filled room (got.Bytes n) = (0 < n) × (filled + n ≤ room)
 GotWithin filled room got.End = Unit {0}
 GotWithin filled room got.Interrupted = Unit {0}
-GotWithin filled room got.Failed = Unit {0}
+GotWithin filled room (got.Failed e) = Unit {0}
 
 pub record ReadOnce (before : List ℕ) (filled : ℕ) (after : List ℕ) (r : Got) : Type 0 where
   pub same : length after ≡ length before
@@ -46,7 +44,7 @@ pub record ReadOnce (before : List ℕ) (filled : ℕ) (after : List ℕ) (r : G
 abbrev pub MoreWithin : ℕ → ℕ → Read → Type 0
 MoreWithin filled room (read.More n) = (filled < n) × (n ≤ room)
 MoreWithin filled room read.End = Unit {0}
-MoreWithin filled room read.Failed = Unit {0}
+MoreWithin filled room (read.Failed e) = Unit {0}
 
 pub record ReadOn (before : List ℕ) (filled : ℕ) (after : List ℕ) (r : Read) : Type 0 where
   pub same : length after ≡ length before
@@ -56,7 +54,7 @@ pub record ReadOn (before : List ℕ) (filled : ℕ) (after : List ℕ) (r : Rea
 -- what was read to the end stands after what was held
 abbrev pub AllWithin : ℕ → ℕ → Input → Type 0
 AllWithin kept room (input.Read n) = (kept ≤ n) × (n ≤ room)
-AllWithin kept room input.Failed = Unit {0}
+AllWithin kept room (input.Failed e) = Unit {0}
 
 pub record RestRead (before : List ℕ) (kept : ℕ) (after : List ℕ) (r : Input) : Type 0 where
   pub same : length after ≡ length before

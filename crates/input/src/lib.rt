@@ -1,15 +1,15 @@
-// Standard input as every program reads it, a line at a time or a whole book, and a file by its name. A read that a signal
+// Input as every program reads it, a line at a time or a whole book, and a file by its name. A read that a signal
 // interrupted is made again, and one that failed is told from the end of the input.
 #![tactic(auto)]
 
 ghost use Rattle.std.specs.Prelude.{◌-◌, ◌≤◌, ◌<◌, ◌≡◌, length};
-ghost use Rattle.libc.specs.Io.{Moved};
 ghost use Rattle.input.specs.Input.{room_for_lines, room_for_book, Means, ReadOnce, ReadOn, RestRead};
 ghost use Rattle.input.specs.InnerLines.{LineEnd, NoFeed, nothing_held, line_at, at_end, LineHeld, LinePassed, LineRead};
 ghost use Rattle.input.specs.InnerLines.{LineAfter, RestMoved};
 
 use book_rules::LONGEST;
-use libc::{EINTR, STDIN_FILENO};
+use std::rt::Files;
+use std::{fs, io, str};
 
 // What a program holds of its lines at once, more than the longest line that is no error.
 const LINES: usize = 262_144;
@@ -19,24 +19,24 @@ const LINES: usize = 262_144;
 pub const BOOK: usize = LONGEST + 1;
 
 // What the answer of one read means.
-#[derive(Drop)]
+#[derive(Clone, Copy)]
 enum Got {
     Bytes(usize),
     End,
     Interrupted,
-    Failed,
+    Failed(io::Error),
 }
 
 // What reading on brings: so many bytes are held then, or the input has ended, or it cannot be read.
-#[derive(Drop)]
+#[derive(Clone, Copy)]
 enum Read {
     More(usize),
     End,
-    Failed,
+    Failed(io::Error),
 }
 
 // What was found where a line was looked for.
-#[derive(Drop)]
+#[derive(Clone, Copy)]
 pub enum Found {
     // A line, without its line feed.
     Whole,
@@ -47,12 +47,12 @@ pub enum Found {
     // The input ended, and nothing was left of it.
     End,
     // The input cannot be read; what was read of a line is not handed out.
-    Failed,
+    Failed(io::Error),
 }
 
 // What was found, and where: the bytes of a whole line stand from `from` to `to`; what comes after it stands from `next` to
 // `filled`.
-#[derive(Drop)]
+#[derive(Clone, Copy)]
 pub struct Line {
     pub found: Found,
     pub from: usize,
@@ -62,10 +62,10 @@ pub struct Line {
 }
 
 // What was read of the input: so many bytes, all of it where they do not fill the buffer; or it cannot be read.
-#[derive(Drop)]
+#[derive(Clone, Copy)]
 pub enum Input {
     Read(usize),
-    Failed,
+    Failed(io::Error),
 }
 
 pub fn line_buffer() -> [u8; LINES]
@@ -80,58 +80,59 @@ pub fn book_buffer() -> [u8; BOOK]
     [0; BOOK]
 }
 
-// What a read into `rest` answered, and the error that it left, mean.
-fn meaning(got: isize, error: i32, rest: &[u8]) -> Got
-    requires { Moved (length rest.now) got }
-    ensures { Means got error result }
+// What a read answered means.
+fn meaning(got: io::Result<usize>) -> Got
+    ensures { Means got result }
 {
-    if got < 0 {
-        if error == EINTR {
-            return Got::Interrupted;
+    match got {
+        Ok(0) => Got::End,
+        Ok(count) => Got::Bytes(count),
+        Err(e) => {
+            if e.kind() == io::ErrorKind::Interrupted {
+                return Got::Interrupted;
+            }
+            Got::Failed(e)
         }
-        return Got::Failed;
     }
-    let count = io::count(got, rest);
-    if count == 0 {
-        return Got::End;
-    }
-    Got::Bytes(count)
 }
 
-// One read of an open file after the bytes that are held.
-fn read_once(held: &mut [u8], filled: usize, from: i32) -> Got
+// One read after the bytes that are held.
+fn read_once<R: io::Read>(from: &mut R, held: &mut [u8], filled: usize) -> Got
     requires { filled ≤ length held.old }
     ensures { ReadOnce held.old filled held.new result }
 {
-    let rest = &mut held[filled..];
-    let got = libc::read(from, rest);
-    meaning(got, os::errno(), rest)
+    meaning(from.read(&mut held[filled..]))
 }
 
-// Reads on after the bytes that are held. A proved loop has to end: the reads are counted to a number that no input needs.
-fn read_on(held: &mut [u8], filled: usize, from: i32) -> Read
+// A proved loop has to end: the reads are counted to a number that no input needs, and this is the failure behind it.
+fn too_many_reads() -> io::Error {
+    io::Error::from(io::ErrorKind::Interrupted)
+}
+
+// Reads on after the bytes that are held.
+fn read_on<R: io::Read>(from: &mut R, held: &mut [u8], filled: usize) -> Read
     requires { filled ≤ length held.old }
     ensures { ReadOn held.old filled held.new result }
 {
     for turn in 0..u64::MAX {
-        match read_once(held, filled, from) {
+        match read_once(from, held, filled) {
             Got::Bytes(count) => {
                 return Read::More(filled + count);
             }
             Got::End => {
                 return Read::End;
             }
-            Got::Failed => {
-                return Read::Failed;
+            Got::Failed(error) => {
+                return Read::Failed(error);
             }
             Got::Interrupted => {}
         }
     }
-    Read::Failed
+    Read::Failed(too_many_reads())
 }
 
 // Reads on after the bytes that are held, to the end of the input or until the buffer is full.
-fn read_rest(held: &mut [u8], kept: usize, from: i32) -> Input
+fn read_rest<R: io::Read>(from: &mut R, held: &mut [u8], kept: usize) -> Input
     requires { kept ≤ length held.old }
     ensures { RestRead held.old kept held.new result }
 {
@@ -140,39 +141,39 @@ fn read_rest(held: &mut [u8], kept: usize, from: i32) -> Input
         if filled == held.len() {
             return Input::Read(filled);
         }
-        match read_on(held, filled, from) {
+        match read_on(from, held, filled) {
             Read::More(more) => {
                 filled = more;
             }
             Read::End => {
                 return Input::Read(filled);
             }
-            Read::Failed => {
-                return Input::Failed;
+            Read::Failed(error) => {
+                return Input::Failed(error);
             }
         }
     }
-    Input::Failed
+    Input::Failed(too_many_reads())
 }
 
 // Reads a book: what is read stands at the front of the buffer.
-pub fn read_book(book: &mut [u8]) -> Input
+pub fn read_book<R: io::Read>(from: &mut R, book: &mut [u8]) -> Input
     ensures { RestRead book.old 0 book.new result }
 {
-    read_rest(book, 0, STDIN_FILENO)
+    read_rest(from, book, 0)
 }
 
-// Reads a file by its name in the same way.
-pub fn read_file(path: &[u8], held: &mut [u8]) -> Input
+// Reads a file by its name in the same way. A name that is no text is no file's.
+pub fn read_file<F: Files>(files: &F, path: &[u8], held: &mut [u8]) -> Input
     ensures { RestRead held.old 0 held.new result }
 {
-    let file = os::open_read(path);
-    if file < 0 {
-        return Input::Failed;
+    let Ok(name) = str::from_utf8(path) else {
+        return Input::Failed(io::Error::from(io::ErrorKind::InvalidFilename));
+    };
+    match fs::open(files, name) {
+        Ok(mut file) => read_rest(&mut file, held, 0),
+        Err(error) => Input::Failed(error),
     }
-    let read = read_rest(held, 0, file);
-    libc::close(file);
-    read
 }
 
 // Where the line that a place stands in ends: at its line feed, or where the text ends.
@@ -246,11 +247,11 @@ fn ended(kept: usize) -> Line
 }
 
 // Passes over the rest of a line that fills all that can be held.
-fn pass_line(held: &mut [u8]) -> Line
+fn pass_line<R: io::Read>(from: &mut R, held: &mut [u8]) -> Line
     ensures { LinePassed held.old held.new result }
 {
     for turn in 0..u64::MAX {
-        match read_on(held, 0, STDIN_FILENO) {
+        match read_on(from, held, 0) {
             Read::More(more) => {
                 let to = line_end(&held[..more], 0);
                 if to < more {
@@ -260,26 +261,26 @@ fn pass_line(held: &mut [u8]) -> Line
             Read::End => {
                 return nothing_held(Found::Half);
             }
-            Read::Failed => {
-                return nothing_held(Found::Failed);
+            Read::Failed(error) => {
+                return nothing_held(Found::Failed(error));
             }
         }
     }
-    nothing_held(Found::Failed)
+    nothing_held(Found::Failed(too_many_reads()))
 }
 
 // Reads on after what is kept, in which no line ends, until one does. So whoever types a line gets its answer before typing
 // the next.
-fn read_line(held: &mut [u8], kept: usize) -> Line
+fn read_line<R: io::Read>(from: &mut R, held: &mut [u8], kept: usize) -> Line
     requires { (kept ≤ length held.old) × NoFeed held.old 0 kept }
     ensures { LineRead held.old kept held.new result }
 {
     let mut filled = kept;
     for turn in 0..u64::MAX {
         if filled == held.len() {
-            return pass_line(held);
+            return pass_line(from, held);
         }
-        match read_on(held, filled, STDIN_FILENO) {
+        match read_on(from, held, filled) {
             Read::More(more) => {
                 let to = line_end(&held[..more], filled);
                 if to < more {
@@ -290,16 +291,16 @@ fn read_line(held: &mut [u8], kept: usize) -> Line
             Read::End => {
                 return ended(filled);
             }
-            Read::Failed => {
-                return nothing_held(Found::Failed);
+            Read::Failed(error) => {
+                return nothing_held(Found::Failed(error));
             }
         }
     }
-    nothing_held(Found::Failed)
+    nothing_held(Found::Failed(too_many_reads()))
 }
 
 // What comes after a line. Where no line ends in what is held, that moves to the front and more is read.
-pub fn next_line(held: &mut [u8], line: Line) -> Line
+pub fn next_line<R: io::Read>(from: &mut R, held: &mut [u8], line: Line) -> Line
     requires { LineHeld held.old line }
     ensures { LineAfter held.old line held.new result }
 {
@@ -310,5 +311,5 @@ pub fn next_line(held: &mut [u8], line: Line) -> Line
         return line_at(Found::Whole, next, to, filled);
     }
     let kept = keep_rest(held, next, filled);
-    read_line(held, kept)
+    read_line(from, held, kept)
 }

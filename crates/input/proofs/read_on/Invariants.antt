@@ -1,0 +1,6 @@
+-- What was held before the reads stays.
+use Rattle.input.proofs.Repeated.{Kept}
+use Rattle.input.proofs.read_on.Given as goal
+
+abbrev pub invariant-loop-turn : goal.invariant-loop-turn
+invariant-loop-turn g l = Kept l.initial.held l.filled l.held
