@@ -55,9 +55,9 @@ module _ (kwh : ℕ → ℕ) where
   unfolding some_kwh_above
   all-within h = none_of readings (λ i. ltb max_kwh (kwh i)) (λ p l. le-ltb max_kwh (kwh p) (h p l))
 
-  first_above : some_kwh_above kwh ≡ true → first_above kwh < readings
+  first-above-within : some_kwh_above kwh ≡ true → first_above kwh < readings
   unfolding some_kwh_above first_above
-  first_above some = first-within readings (λ i. ltb max_kwh (kwh i)) some
+  first-above-within some = first-within readings (λ i. ltb max_kwh (kwh i)) some
 
   -- what the place that was found says
   pub found-place : place_above kwh < readings → (some_kwh_above kwh ≡ true) × (place_above kwh ≡ first_above kwh)
@@ -73,7 +73,7 @@ module _ (kwh : ℕ → ℕ) where
   none_found h = by-test (some_kwh_above kwh) refl h
     where
       by-test : (t : Bool) → some_kwh_above kwh ≡ t → readings ≤ cond t (first_above kwh) readings → t ≡ false
-      by-test true e l = let first = first_above e in let z : ⊥ = omega arith in absurd z
+      by-test true e l = let first = first-above-within e in let z : ⊥ = omega arith in absurd z
       by-test false e l = refl
 
 first-same : (n : ℕ) (p q : ℕ → Bool) → ((i : ℕ) → i < n → p i ≡ q i) → first_below n p ≡ first_below n q

@@ -1,12 +1,9 @@
 -- `fill` is held to `filled`: month by month.
-use Prim.Native.Nat.{ℕ, ◌-◌}
-use mathlib.Core.Path.{◌≡◌, refl, ap, ◌∙◌}
-use native.Mathlib.Omega.{arith}
-use Rattle.sheet_text.specs.Lines.{months, readings}
-use Rattle.sheet_text.specs.Reading.{month_filled, months_filled}
+use mathlib.Core.Path.{refl, ap, ◌∙◌}
+use Rattle.sheet_text.specs.Lines.{readings}
+use Rattle.sheet_text.specs.Reading.{month_filled}
 use Rattle.sheet_text.specs.InnerSteps.{kwh_of_year}
 use Rattle.sheet_text.proofs.Filling.{months-none, months-next}
-use Rattle.units.proofs.Filled.{Written}
 use Rattle.std.proofs.Common.{rules}
 use Rattle.sheet_text.proofs.fill.Goals as goal
 

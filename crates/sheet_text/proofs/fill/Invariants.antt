@@ -1,11 +1,8 @@
 -- `fill` is held to `filled`: month by month.
-use Prim.Native.Nat.{ℕ, ◌-◌}
-use mathlib.Core.Path.{◌≡◌, refl, ap, ◌∙◌}
-use native.Mathlib.Omega.{arith}
-use Rattle.sheet_text.specs.Lines.{months, readings}
-use Rattle.sheet_text.specs.Reading.{month_filled, months_filled}
+use Prim.Native.Nat.{◌-◌}
+use Rattle.sheet_text.specs.Lines.{months}
+use Rattle.sheet_text.specs.Reading.{months_filled}
 use Rattle.sheet_text.specs.InnerSteps.{kwh_of_year}
-use Rattle.sheet_text.proofs.Filling.{months-none, months-next}
 use Rattle.units.proofs.Filled.{Written}
 use Rattle.sheet_text.proofs.fill.Given as goal
 

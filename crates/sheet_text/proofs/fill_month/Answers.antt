@@ -1,13 +1,9 @@
 -- Place by place.
-use Prim.Native.Nat.{ℕ, ◌+◌, ◌-◌, ◌*◌}
-use mathlib.Core.Path.{◌≡◌, refl, ap, ◌∙◌}
-use native.Mathlib.Omega.{arith}
+use Prim.Native.Nat.{◌+◌, ◌*◌}
+use mathlib.Core.Path.{refl, ap, ◌∙◌}
 use Rattle.codec.specs.Bytes.{bytes_of, stored}
-use Rattle.sheet_text.specs.Lines.{readings}
-use Rattle.sheet_text.specs.Reading.{month_filled}
 use Rattle.sheet_text.specs.InnerSteps.{kwh_of_year}
 use Rattle.sheet_text.proofs.Filling.{month-none, month-next}
-use Rattle.units.proofs.Filled.{Written}
 use Rattle.std.proofs.Common.{rules}
 use Rattle.sheet_text.proofs.fill_month.Goals as goal
 

@@ -1,12 +1,8 @@
 -- Place by place.
-use Prim.Native.Nat.{ℕ, ◌+◌, ◌-◌, ◌*◌}
-use mathlib.Core.Path.{◌≡◌, refl, ap, ◌∙◌}
-use native.Mathlib.Omega.{arith}
-use Rattle.codec.specs.Bytes.{bytes_of, stored}
+use Prim.Native.Nat.{◌-◌}
 use Rattle.sheet_text.specs.Lines.{readings}
 use Rattle.sheet_text.specs.Reading.{month_filled}
 use Rattle.sheet_text.specs.InnerSteps.{kwh_of_year}
-use Rattle.sheet_text.proofs.Filling.{month-none, month-next}
 use Rattle.units.proofs.Filled.{Written}
 use Rattle.sheet_text.proofs.fill_month.Given as goal
 

@@ -1,10 +1,6 @@
 -- The numbers are read one by one.
 use Prim.Native.Nat.{◌-◌}
-use mathlib.Core.Path.{◌≡◌, refl}
-use native.Mathlib.Nat.{not-suc-le-zero}
-use native.Mathlib.Omega.{arith}
-use lib.ListN.{length-set}
-use Rattle.units.proofs.Filled.{Filling, filled_next}
+use Rattle.units.proofs.Filled.{Filling}
 use Rattle.sheet.specs.YearSheet.{word}
 use Rattle.sheet_text.specs.Lines.{readings}
 use Rattle.sheet_text.proofs.month_of.Given as goal

@@ -1,10 +1,9 @@
 -- None of the places passed has a number above its limit.
-use Prim.Native.Nat.{◌-◌, ◌≤◌}
 use mathlib.Core.Path.{◌≡◌}
 use native.Mathlib.Omega.{arith}
 use Rattle.sheet_text.specs.Lines.{readings}
 use Rattle.sheet_text.specs.InnerSteps.{kwh_of}
-use Rattle.sheet_text.proofs.Above.{NoneBefore, none-before-first, none_more, above-found, above-none}
+use Rattle.sheet_text.proofs.Above.{none-before-first, none_more, above-found, above-none}
 use Rattle.std.proofs.Common.{rules}
 use Rattle.sheet_text.proofs.place_above.Goals as goal
 

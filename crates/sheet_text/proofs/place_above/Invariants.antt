@@ -1,10 +1,8 @@
 -- None of the places passed has a number above its limit.
 use Prim.Native.Nat.{◌-◌, ◌≤◌}
-use mathlib.Core.Path.{◌≡◌}
-use native.Mathlib.Omega.{arith}
 use Rattle.sheet_text.specs.Lines.{readings}
 use Rattle.sheet_text.specs.InnerSteps.{kwh_of}
-use Rattle.sheet_text.proofs.Above.{NoneBefore, none-before-first, none_more, above-found, above-none}
+use Rattle.sheet_text.proofs.Above.{NoneBefore}
 use Rattle.sheet_text.proofs.place_above.Given as goal
 
 abbrev pub invariant-loop-place : goal.invariant-loop-place

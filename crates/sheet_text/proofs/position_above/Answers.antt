@@ -1,9 +1,8 @@
 -- No month passed has a kWh above its limit.
-use Prim.Native.Nat.{◌-◌, ◌≤◌}
 use mathlib.Core.Path.{◌≡◌}
 use native.Mathlib.Omega.{arith}
 use Rattle.sheet_text.specs.Lines.{months}
-use Rattle.sheet_text.proofs.SheetAbove.{NoneAbove, none_yet, month-within, month-found, none-found-at-all}
+use Rattle.sheet_text.proofs.SheetAbove.{none_yet, month-within, month-found, none-found-at-all}
 use Rattle.std.proofs.Common.{rules}
 use Rattle.sheet_text.proofs.position_above.Goals as goal
 

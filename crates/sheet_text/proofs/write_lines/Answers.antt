@@ -1,5 +1,5 @@
 -- Line by line, each where the one before it ends; the twelve of a sheet past 13 fit.
-use Prim.Native.Nat.{ℕ, ◌+◌, ◌-◌}
+use Prim.Native.Nat.{ℕ, ◌+◌}
 use mathlib.Core.Path.{◌≡◌, refl, sym, ap, ap₂, ◌∙◌}
 use mathlib.Core.List.{List}
 use native.Mathlib.Omega.{arith}
@@ -9,7 +9,7 @@ use Rattle.codec.proofs.Pieces.{stored-none}
 use Rattle.sheet.specs.YearSheet.{word}
 use Rattle.sheet_text.specs.Lines.{months, line, lines}
 use Rattle.sheet_text.specs.InnerSteps.{kwh_of}
-use Rattle.sheet_text.proofs.LineWriting.{TextWritten, line_same, lines_none, lines-length, lines-room, year-room, lines-written}
+use Rattle.sheet_text.proofs.LineWriting.{line_same, lines_none, lines-length, lines-room, year-room, lines-written}
 use Rattle.sheet_text.proofs.SheetAbove.{sizes-of, sheet-within}
 use Rattle.std.proofs.Common.{rules}
 use Rattle.sheet_text.proofs.write_lines.Goals as goal

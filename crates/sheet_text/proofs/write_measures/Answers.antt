@@ -1,6 +1,5 @@
 -- Sizes and kWh are looked at before the first byte is written.
 use native.Mathlib.Omega.{arith}
-use Rattle.sheet_text.proofs.SheetAbove.{sizes-of}
 use Rattle.sheet_text.proofs.WriteCalls.{sizes-right, sizes-answered, none_told, above-answered, text-answered}
 use Rattle.sheet_text.proofs.write_measures.Goals as goal
 

@@ -1,5 +1,5 @@
 -- Field by field, each where the one before it ends.
-use Prim.Native.Nat.{ℕ, ◌+◌, ◌-◌}
+use Prim.Native.Nat.{ℕ}
 use mathlib.Core.Path.{◌≡◌, refl, sym, ap, ap₂, ◌∙◌}
 use mathlib.Core.List.{List}
 use native.Mathlib.Omega.{arith}
@@ -7,9 +7,8 @@ use lib.ListN.{length}
 use Rattle.codec.specs.Bytes.{stored}
 use Rattle.codec.proofs.Pieces.{stored-none}
 use Rattle.decimals.specs.Decimals.{field}
-use Rattle.sheet_text.specs.Lines.{readings}
-use Rattle.sheet_text.specs.InnerSteps.{kwh_of, stop_at, numbers_to}
-use Rattle.sheet_text.proofs.LineWriting.{TextWritten, numbers-none, numbers-room, numbers-length, numbers-written}
+use Rattle.sheet_text.specs.InnerSteps.{kwh_of, stop_at}
+use Rattle.sheet_text.proofs.LineWriting.{numbers-none, numbers-room, numbers-length, numbers-written}
 use Rattle.std.proofs.Common.{rules}
 use Rattle.sheet_text.proofs.write_numbers.Goals as goal
 
