@@ -108,9 +108,9 @@ module _ (b : List ℕ) (n y r p e₁ e₂ : ℕ) where
     unfolding test_of rules_of look_at named_by
     order-fits = fact b call (none-refused b call j none) 10
 
-    has_room : has_room b ≡ true
+    room-left : has_room b ≡ true
     unfolding test_of rules_of look_at named_by
-    has_room = fact b call (none-refused b call j none) 3
+    room-left = fact b call (none-refused b call j none) 3
 
     module _ (paid : Ticks) (amount : paid ≡ ticks (run_amount account y r p e₁ e₂)) where
       paid-is : paid.0 ≡ run_amount (account_at b (find_user b n)) y r p e₁ e₂
@@ -124,7 +124,7 @@ module _ (b : List ℕ) (n y r p e₁ e₂ : ℕ) where
       run_fits =
           let w = sums-within account y r p e₁ e₂ fits is_open order-fits in
           record {
-            entry = entry-fits b j.sound user.0 account j.read (rw j.there is-user) has_room;
+            entry = entry-fits b j.sound user.0 account j.read (rw j.there is-user) room-left;
             year-below = halves-fit.0;
             runs = w.0;
             advances = rw amount w.1;

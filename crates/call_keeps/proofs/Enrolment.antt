@@ -67,9 +67,9 @@ module _ (b b' : List ℕ) (a : Account) (g : Good b) (new : NewAccount b a) (ro
   unfolding first_entry_fits
   first_fits = rw user.first
 
-  in_order : first_in_order b' (used b) ≡ true
+  order-good : first_in_order b' (used b) ≡ true
   unfolding first_in_order in_order
-  in_order = rw (user.first, user.open_year, user.activation) (eq-eqb a.open_year a.details.year new.no-year)
+  order-good = rw (user.first, user.open_year, user.activation) (eq-eqb a.open_year a.details.year new.no-year)
 
   user-good : UserGood b' (used b)
   user-good =
@@ -79,7 +79,7 @@ module _ (b b' : List ℕ) (a : Account) (g : Good b) (new : NewAccount b a) (ro
         next = next_fits;
         number = number-is-new;
         first = first_fits;
-        order = in_order;
+        order = order-good;
         pointed = new-pointed b b' g.faultless pointers;
       }
 
