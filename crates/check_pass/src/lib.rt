@@ -69,7 +69,7 @@ fn year_due(r: &[u8], state: State) -> u16
 
 // The state of an owner once the entry is met.
 fn state_after(r: &[u8], level: u16) -> State
-    requires years_bound { get next_field r.now < years }
+    requires link_bound { get next_field r.now < years }
     requires entry_level { level ≡ level_in r.now }
     ensures { StateAfter r.now result.0 }
 {
