@@ -7,9 +7,7 @@ use lib.ListN.{length}
 use Rattle.replay_script.specs.declared.Words.{Words}
 use Rattle.replay_script.specs.declared.Request.TheVariants as request
 use Rattle.replay_script.specs.Requests.{read_measures_word, words_at, read_measures_request}
-use borrow.Author.Rules.{rules}
-use Rattle.replay_script.proofs.read_measures_request.Statement.{statement}
-use Rattle.replay_script.proofs.read_measures_request.Tie as tie
+use Rattle.replay_script.proofs.read_measures_request.Goals as goal
 
 module _ (line : List ℕ) (words : Words) (e : words ≡ words_at line (length read_measures_word)) where
   words-fit : words.fit ≡ true → request.ReadMeasures words.first words.second ≡ read_measures_request line
@@ -20,15 +18,12 @@ module _ (line : List ℕ) (words : Words) (e : words ≡ words_at line (length 
   unfolding read_measures_request
   words-wrong f = rw (sym e, f)
 
-returns : tie.Need-returns
-returns c =
-    let w = c.before.before.before.words-at in
-    words-fit c.before.before.before.before.before.args.line.now w.result w.ensures c.if1.true
+pub returns-then-words : goal.returns-then-words
+returns-then-words c =
+    let w = c.words_at-words in
+    words-fit c.args.line.now w.result w.ensures c.if-words.true
 
-returns-2 : tie.Need-returns-2
-returns-2 c =
-    let w = c.before.before.before.words-at in
-    words-wrong c.before.before.before.before.before.args.line.now w.result w.ensures c.if1.false
-
-pub read-measures-request-spec : {M : Type 1} → statement M
-read-measures-request-spec = tie.close (tie.spec (search rules) returns returns-2)
+pub returns-else-words : goal.returns-else-words
+returns-else-words c =
+    let w = c.words_at-words in
+    words-wrong c.args.line.now w.result w.ensures c.if-words.false

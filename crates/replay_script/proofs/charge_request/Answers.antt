@@ -1,0 +1,16 @@
+-- The number of the user that is charged.
+use mathlib.Core.Path.{sym, ◌∙◌}
+use native.Mathlib.Omega.{arith}
+use Rattle.replay_script.specs.Requests.{charge_request}
+use Rattle.replay_script.proofs.charge_request.Goals as goal
+
+pub returns-then-read : goal.returns-then-read
+unfolding charge_request
+returns-then-read c =
+    let read = c.numbers_at-read.ensures in
+    let same = read.same c.if-read.true in
+    rw (same 0 (omega arith), sym read.fit ∙ c.if-read.true)
+
+pub returns-else-read : goal.returns-else-read
+unfolding charge_request
+returns-else-read c = rw (sym c.numbers_at-read.ensures.fit ∙ c.if-read.false)

@@ -1,0 +1,12 @@
+-- `close_request` is held to `close_request`: a blank and hexadecimal digits, or nothing.
+use mathlib.Core.Path.{sym, ◌∙◌}
+use Rattle.replay_script.specs.Requests.{close_request}
+use Rattle.replay_script.proofs.close_request.Goals as goal
+
+pub returns-then-bytes_fit : goal.returns-then-bytes_fit
+unfolding close_request
+returns-then-bytes_fit c = rw (sym c.bytes_fit.ensures ∙ c.if-bytes_fit.true, c.after_blank.ensures.place)
+
+pub returns-else-bytes_fit : goal.returns-else-bytes_fit
+unfolding close_request
+returns-else-bytes_fit c = rw (sym c.bytes_fit.ensures ∙ c.if-bytes_fit.false)
