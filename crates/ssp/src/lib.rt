@@ -1,5 +1,5 @@
-// The calls as other programs link them (include/ssp.h). Each answer is flat, of plain numbers, and is by definition the
-// answer of the call beneath it.
+// The calls as other programs link them (include/ssp.h; `ssp_c` exports them). Each answer is flat, of plain numbers, and is by
+// definition the answer of the call beneath it.
 #![tactic(auto)]
 
 ghost use Rattle.std.specs.Prelude.{◌≡◌};

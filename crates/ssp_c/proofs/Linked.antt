@@ -1,6 +1,8 @@
--- THE LINK: what the contract of an exported function says of a call is what the contract of the function of `ssp` with its name
--- says of it (`Post κs a r s`: a the arguments, r the answer, s the arguments at the end). So the third demand, and whatever else is
--- claimed in `theorem_ssp` of calls of which no more is known than their contracts, holds of what other programs link.
+-- THE LINK: the contract of an exported function is the contract of the function of `ssp` with its name (`Post κs a r s`: a the
+-- arguments, r the answer, s the arguments at the end). So what `theorem_ssp` claims of calls of those, of which no more is known
+-- than their contracts, the third demand first, it claims of what other programs link.
+use Rattle.std.specs.Prelude.{◌≡◌}
+use Rattle.std.proofs.Common.{refl}
 use Rattle.ssp.proofs.ssp_interface.Reads as of-interface
 use Rattle.ssp.proofs.ssp_fresh.Reads as of-fresh
 use Rattle.ssp.proofs.ssp_enrol.Reads as of-enrol
@@ -30,44 +32,44 @@ use Rattle.ssp_c.proofs.ssp_read_measures.Reads as linked-read-measures
 use Rattle.ssp_c.proofs.ssp_write_measures.Reads as linked-write-measures
 use Rattle.ssp_c.proofs.ssp_more_sun.Reads as linked-more-sun
 
-pub interface-linked : (κs : _) (a : _) (r : _) (s : _) → linked-interface.Post κs a r s → of-interface.Post κs a r s
-interface-linked κs a r s said = said
+pub interface-linked : (κs : _) (a : _) (r : _) (s : _) → linked-interface.Post κs a r s ≡ of-interface.Post κs a r s
+interface-linked κs a r s = refl
 
-pub fresh-linked : (κs : _) (a : _) (r : _) (s : _) → linked-fresh.Post κs a r s → of-fresh.Post κs a r s
-fresh-linked κs a r s said = said
+pub fresh-linked : (κs : _) (a : _) (r : _) (s : _) → linked-fresh.Post κs a r s ≡ of-fresh.Post κs a r s
+fresh-linked κs a r s = refl
 
-pub enrol-linked : (κs : _) (a : _) (r : _) (s : _) → linked-enrol.Post κs a r s → of-enrol.Post κs a r s
-enrol-linked κs a r s said = said
+pub enrol-linked : (κs : _) (a : _) (r : _) (s : _) → linked-enrol.Post κs a r s ≡ of-enrol.Post κs a r s
+enrol-linked κs a r s = refl
 
-pub elect-linked : (κs : _) (a : _) (r : _) (s : _) → linked-elect.Post κs a r s → of-elect.Post κs a r s
-elect-linked κs a r s said = said
+pub elect-linked : (κs : _) (a : _) (r : _) (s : _) → linked-elect.Post κs a r s ≡ of-elect.Post κs a r s
+elect-linked κs a r s = refl
 
-pub charge-linked : (κs : _) (a : _) (r : _) (s : _) → linked-charge.Post κs a r s → of-charge.Post κs a r s
-charge-linked κs a r s said = said
+pub charge-linked : (κs : _) (a : _) (r : _) (s : _) → linked-charge.Post κs a r s ≡ of-charge.Post κs a r s
+charge-linked κs a r s = refl
 
-pub advance-linked : (κs : _) (a : _) (r : _) (s : _) → linked-advance.Post κs a r s → of-advance.Post κs a r s
-advance-linked κs a r s said = said
+pub advance-linked : (κs : _) (a : _) (r : _) (s : _) → linked-advance.Post κs a r s ≡ of-advance.Post κs a r s
+advance-linked κs a r s = refl
 
-pub close-linked : (κs : _) (a : _) (r : _) (s : _) → linked-close.Post κs a r s → of-close.Post κs a r s
-close-linked κs a r s said = said
+pub close-linked : (κs : _) (a : _) (r : _) (s : _) → linked-close.Post κs a r s ≡ of-close.Post κs a r s
+close-linked κs a r s = refl
 
-pub statement-linked : (κs : _) (a : _) (r : _) (s : _) → linked-statement.Post κs a r s → of-statement.Post κs a r s
-statement-linked κs a r s said = said
+pub statement-linked : (κs : _) (a : _) (r : _) (s : _) → linked-statement.Post κs a r s ≡ of-statement.Post κs a r s
+statement-linked κs a r s = refl
 
-pub archive-linked : (κs : _) (a : _) (r : _) (s : _) → linked-archive.Post κs a r s → of-archive.Post κs a r s
-archive-linked κs a r s said = said
+pub archive-linked : (κs : _) (a : _) (r : _) (s : _) → linked-archive.Post κs a r s ≡ of-archive.Post κs a r s
+archive-linked κs a r s = refl
 
-pub restore-linked : (κs : _) (a : _) (r : _) (s : _) → linked-restore.Post κs a r s → of-restore.Post κs a r s
-restore-linked κs a r s said = said
+pub restore-linked : (κs : _) (a : _) (r : _) (s : _) → linked-restore.Post κs a r s ≡ of-restore.Post κs a r s
+restore-linked κs a r s = refl
 
-pub raise-linked : (κs : _) (a : _) (r : _) (s : _) → linked-raise.Post κs a r s → of-raise.Post κs a r s
-raise-linked κs a r s said = said
+pub raise-linked : (κs : _) (a : _) (r : _) (s : _) → linked-raise.Post κs a r s ≡ of-raise.Post κs a r s
+raise-linked κs a r s = refl
 
-pub read-measures-linked : (κs : _) (a : _) (r : _) (s : _) → linked-read-measures.Post κs a r s → of-read-measures.Post κs a r s
-read-measures-linked κs a r s said = said
+pub read-measures-linked : (κs : _) (a : _) (r : _) (s : _) → linked-read-measures.Post κs a r s ≡ of-read-measures.Post κs a r s
+read-measures-linked κs a r s = refl
 
-pub write-measures-linked : (κs : _) (a : _) (r : _) (s : _) → linked-write-measures.Post κs a r s → of-write-measures.Post κs a r s
-write-measures-linked κs a r s said = said
+pub write-measures-linked : (κs : _) (a : _) (r : _) (s : _) → linked-write-measures.Post κs a r s ≡ of-write-measures.Post κs a r s
+write-measures-linked κs a r s = refl
 
-pub more-sun-linked : (κs : _) (a : _) (r : _) (s : _) → linked-more-sun.Post κs a r s → of-more-sun.Post κs a r s
-more-sun-linked κs a r s said = said
+pub more-sun-linked : (κs : _) (a : _) (r : _) (s : _) → linked-more-sun.Post κs a r s ≡ of-more-sun.Post κs a r s
+more-sun-linked κs a r s = refl

@@ -1,6 +1,6 @@
--- "Sheets for the archive" (document 02, ticket 14), over the functions that other programs link: what one of two accepted
--- calls wrote, the other turns back, byte by byte. In a call `a` are the arguments, `r` the answer, `s` the arguments at the
--- end; the source is the first, the buffer that is written the second.
+-- "Sheets for the archive" (document 02, ticket 14), over the functions of `ssp`, under whose contracts other programs link them
+-- (`Rattle.ssp_c.proofs.Linked`): what one of two accepted calls wrote, the other turns back, byte by byte. In a call `a` are the
+-- arguments, `r` the answer, `s` the arguments at the end; the source is the first, the buffer that is written the second.
 use Rattle.std.specs.Prelude.{ℕ, ◌<◌, ◌≡◌, List, get_or}
 use Rattle.ssp.proofs.ssp_archive.Reads as archive-of
 use Rattle.ssp.proofs.ssp_restore.Reads as restore-of

@@ -1,6 +1,6 @@
--- THE THIRD DEMAND, over the functions that other programs link. One call is a call of an exported function, of which no more is
--- known than its contract (`Post κs a r s`, as in `Rattle.theorem.specs.Runs`); a list of calls, and what is claimed of it, are as
--- there.
+-- THE THIRD DEMAND, over the functions that other programs link, as `ssp` has them: what is exported has the same contracts
+-- (`Rattle.ssp_c.proofs.Linked`). One call is a call of such a function, of which no more is known than its contract
+-- (`Post κs a r s`, as in `Rattle.theorem.specs.Runs`); a list of calls, and what is claimed of it, are as there.
 use Rattle.std.specs.Prelude.{ℕ, ◌≡◌, List}
 use Rattle.std.proofs.Math.Option.{none, some}
 use Rattle.std.specs.Borrow.{Bor}

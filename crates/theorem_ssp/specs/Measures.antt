@@ -1,6 +1,6 @@
--- "Grid operator's text file" (document 02, ticket 2), over the functions that other programs link: what the writer wrote, the
--- reader reads back. In a call `a` are the arguments, `r` the answer, `s` the arguments at the end; the writer's are the sheet
--- and the text, the reader's too.
+-- "Grid operator's text file" (document 02, ticket 2), over the functions of `ssp`, under whose contracts other programs link them
+-- (`Rattle.ssp_c.proofs.Linked`): what the writer wrote, the reader reads back. In a call `a` are the arguments, `r` the answer, `s`
+-- the arguments at the end; the writer's are the sheet and the text, the reader's too.
 use Rattle.std.specs.Prelude.{ℕ, ◌<◌, ◌≡◌, length, take}
 use Rattle.sheet.specs.YearSheet.{sheet_length, word}
 use Rattle.sheet_text.specs.Lines.{months, readings}

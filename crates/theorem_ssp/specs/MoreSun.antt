@@ -1,6 +1,6 @@
--- "How much more sun" (document 02, ticket 10), over the function that other programs link: what it finds is the least, and where
--- it finds nothing there is nothing. In a call `a` are the arguments, `r` the answer, `s` the arguments at the end; months and
--- bands are counted from 1.
+-- "How much more sun" (document 02, ticket 10), over the function of `ssp`, under whose contract other programs link it
+-- (`Rattle.ssp_c.proofs.Linked`): what it finds is the least, and where it finds nothing there is nothing. In a call `a` are the
+-- arguments, `r` the answer, `s` the arguments at the end; months and bands are counted from 1.
 use Rattle.std.specs.Prelude.{ℕ, ◌+◌, ◌-◌, ◌≤◌, ◌<◌, ◌≡◌, Bool, true, false, List}
 use Rattle.units.specs.Limits.{max_kwh}
 use Rattle.sheet.specs.YearSheet.{sheet_user, injected}

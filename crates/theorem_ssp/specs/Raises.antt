@@ -1,5 +1,6 @@
--- RAW INJECTED READINGS (document 02, ticket 12), over the exported function. Of a call of it no more is known than its contract
--- (`Post κs a r s`: a the arguments, r the answer, s the arguments at the end).
+-- RAW INJECTED READINGS (document 02, ticket 12), over the function of `ssp`, under whose contract other programs link it
+-- (`Rattle.ssp_c.proofs.Linked`). Of a call of it no more is known than its contract (`Post κs a r s`: a the arguments, r the
+-- answer, s the arguments at the end).
 use Rattle.std.specs.Prelude.{ℕ, ◌+◌, ◌*◌, ◌≡◌, List, get_or}
 use Rattle.units.specs.Folds.{sum_below}
 use Rattle.sheet.specs.YearSheet.{injected}
