@@ -8,9 +8,7 @@ use Rattle.units.specs.Limits.{max_year_ticks}
 use Rattle.account_steps.specs.declared.Account.{Account}
 use Rattle.book_records.specs.declared.AdvanceRecord.{AdvanceRecord}
 use Rattle.book_rules.specs.Book.{within, year_fits, is_run, level_from, booked_fits, advance_fits}
-use borrow.Author.Rules.{rules}
-use Rattle.book_rules.proofs.advance_fits.Statement.{statement}
-use Rattle.book_rules.proofs.advance_fits.Tie as tie
+use Rattle.book_rules.proofs.advance_fits.Goals as goal
 
 module _ (owner : Account) (a : AdvanceRecord) {run : Bool} (is-run : run ≡ is_run a.run) where
   abbrev paid : Bool
@@ -19,7 +17,8 @@ module _ (owner : Account) (a : AdvanceRecord) {run : Bool} (is-run : run ≡ is
   unpaid : not paid ≡ true → false ≡ advance_fits owner a
   unfolding advance_fits
   unpaid t =
-      let none : ((is_run a.run && leb a.ticks.0 max_year_ticks) && leb a.withheld.0 a.ticks.0) ≡ false = rw is-run at (not-true paid t) in
+      let none : ((is_run a.run && leb a.ticks.0 max_year_ticks) && leb a.withheld.0 a.ticks.0) ≡ false = rw is-run at (not-true
+      paid t) in
       rw (none, and-false (year_fits owner (level_from a.year a.booked) && booked_fits a.year a.booked))
 
   module _ (left : not paid ≡ false) where
@@ -31,25 +30,21 @@ module _ (owner : Account) (a : AdvanceRecord) {run : Bool} (is-run : run ≡ is
       unfolding advance_fits year_fits level_from booked_fits
       unnoted none {dated} d = rw (all_paid, none, f, t, and-true (within from to a.year), and-true (within from to a.year)) d
 
-      noted : (a.booked ≡ 0 → ⊥) → {dated booked : Bool} → dated ≡ within from to a.booked → booked ≡ booked_fits a.year a.booked → (dated && booked) ≡ advance_fits owner a
+      noted : (a.booked ≡ 0 → ⊥) → {dated booked : Bool} → dated ≡ within from to a.booked → booked ≡ booked_fits a.year a.booked
+          → (dated && booked) ≡ advance_fits owner a
       unfolding advance_fits year_fits level_from
       noted some {dated} {booked} d b =
           let there = ne_eqb a.booked 0 some in
           rw (all_paid, there, f, t, d, b, and-true (within from to a.booked && booked_fits a.year a.booked))
 
-returns : tie.Need-returns
-returns c owner from to = unpaid owner c.before.before.before.before.args.a c.before.before.before.is-run.ensures c.if1.true
+pub returns-then-not-is_run-a : goal.returns-then-not-is_run-a
+returns-then-not-is_run-a c owner from to = unpaid owner c.args.a c.is_run.ensures c.if-not-is_run-a.true
 
-returns-2 : tie.Need-returns-2
-returns-2 c owner from to =
-    let l = c.before.before.before in
-    unnoted owner l.before.before.before.before.args.a l.before.before.before.is-run.ensures l.if1.false from to c.before.if2.true c.year-fits.ensures
+pub returns-then-a-eq0 : goal.returns-then-a-eq0
+returns-then-a-eq0 c owner from to =
+    unnoted owner c.args.a c.is_run.ensures c.if-not-is_run-a.false from to c.if-a-eq0.true c.year_fits.ensures
 
-returns-3 : tie.Need-returns-3
-returns-3 c owner from to =
-    let l = c.before.before.before.before in
-    noted owner l.before.before.before.before.args.a l.before.before.before.is-run.ensures l.if1.false from to c.before.before.if2.false c.before.year-fits2.ensures
-    c.booked-fits.ensures
-
-pub advance-fits-spec : {M : Type 1} → statement M
-advance-fits-spec = tie.close (tie.spec (search rules) returns (search rules) (search rules) (search rules) returns-2 returns-3)
+pub returns-else-a-eq0 : goal.returns-else-a-eq0
+returns-else-a-eq0 c owner from to =
+    noted owner c.args.a c.is_run.ensures c.if-not-is_run-a.false from to c.if-a-eq0.false c.year_fits-else-a-eq0.ensures
+    c.booked_fits.ensures
