@@ -1,8 +1,8 @@
 -- What is paid first; then the year, by whether a year of booking is noted.
 use Prim.Native.Nat.{ℕ}
 use mathlib.Core.Path.{◌≡◌}
-use mathlib.Core.Bool.{Bool, true, false, not, ◌&&◌, and-true, and-false}
-use borrow.Author.Tests.{ne_eqb, not-true, not-false}
+use mathlib.Core.Bool.{Bool, true, false, ◌&&◌, and-true, and-false}
+use borrow.Author.Tests.{ne_eqb}
 use lib.Dec.{leb}
 use Rattle.units.specs.Limits.{max_year_ticks}
 use Rattle.account_steps.specs.declared.Account.{Account}
@@ -14,16 +14,15 @@ module _ (owner : Account) (a : AdvanceRecord) {run : Bool} (is-run : run ≡ is
   abbrev paid : Bool
   paid = (run && leb a.ticks.0 max_year_ticks) && leb a.withheld.0 a.ticks.0
 
-  unpaid : not paid ≡ true → false ≡ advance_fits owner a
+  unpaid : paid ≡ false → false ≡ advance_fits owner a
   unfolding advance_fits
   unpaid t =
-      let none : ((is_run a.run && leb a.ticks.0 max_year_ticks) && leb a.withheld.0 a.ticks.0) ≡ false = rw is-run at (not-true
-      paid t) in
+      let none : ((is_run a.run && leb a.ticks.0 max_year_ticks) && leb a.withheld.0 a.ticks.0) ≡ false = rw is-run at t in
       rw (none, and-false (year_fits owner (level_from a.year a.booked) && booked_fits a.year a.booked))
 
-  module _ (left : not paid ≡ false) where
+  module _ (left : paid ≡ true) where
     all_paid : ((is_run a.run && leb a.ticks.0 max_year_ticks) && leb a.withheld.0 a.ticks.0) ≡ true
-    all_paid = rw is-run at (not-false paid left)
+    all_paid = rw is-run at left
 
     module _ {from to : ℕ} (f : owner.details.year ≡ from) (t : owner.open_year ≡ to) where
       unnoted : a.booked ≡ 0 → {dated : Bool} → dated ≡ within from to a.year → dated ≡ advance_fits owner a

@@ -1,9 +1,8 @@
 -- By the kind: its row of ranges, by the years of the owner's record, and of unnamed bytes.
 use Prim.Native.Nat.{ℕ}
-use mathlib.Core.Path.{◌≡◌, sym, ap, subst, ◌∙◌}
+use mathlib.Core.Path.{◌≡◌, sym, subst, ◌∙◌}
 use mathlib.Core.Bool.{Bool, false, ◌&&◌}
 use mathlib.Core.List.{List}
-use lib.ListN.{length}
 use borrow.Author.Tests.{ne_eqb}
 use Rattle.book_layout.specs.Fields.{get, kind_field, advance_kind, closing_kind, all_zero, unnamed_of_advance}
 use Rattle.book_layout.specs.Fields.{unnamed_of_closing}

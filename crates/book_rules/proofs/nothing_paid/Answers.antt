@@ -1,5 +1,4 @@
 -- Each test of it is that something is 0.
-use mathlib.Core.Bool.{false≢true}
 use Rattle.book_rules.proofs.Payments.{nothing-fits}
 use Rattle.book_rules.proofs.nothing_paid.Goals as goal
 

@@ -1,7 +1,6 @@
 -- By whether anything is paid or charged, and whether the charge fits.
 use mathlib.Core.Path.{sym, ap₂, ◌∙◌}
 use mathlib.Core.Bool.{◌&&◌}
-use borrow.Author.Tests.{not-true, not-false}
 use Rattle.book_rules.specs.Book.{runs_fit, advances_fit, later_fits}
 use Rattle.book_rules.proofs.Guards.{tested, untested}
 use Rattle.book_rules.proofs.payments_fit.Goals as goal
