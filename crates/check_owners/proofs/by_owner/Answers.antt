@@ -1,0 +1,102 @@
+-- The entries passed so far are linked.
+use Prim.Native.Nat.{ℕ, ◌+◌, ◌-◌, ◌≤◌, ◌<◌}
+use mathlib.Core.Path.{◌≡◌, refl, sym, ap, subst, ◌∙◌}
+use mathlib.Core.Bool.{Bool, true, ◌&&◌}
+use mathlib.Core.List.{List}
+use native.Mathlib.Omega.{arith}
+use borrow.Author.Tests.{ltb-true, lt-ltb}
+use lib.Dec.{ltb}
+use lib.ListN.{length-set}
+use Rattle.units.proofs.Bools.{and_left, and_right}
+use Rattle.units.specs.declared.RecordIndex.{RecordIndex}
+use Rattle.units.specs.Units.{record_index}
+use Rattle.book_layout.specs.Fields.{get, record_at, kind_field, owner_field}
+use Rattle.book_rules.specs.Book.{used, kind_at, entry_kind, is_entry, owner_of}
+use Rattle.book_rules.proofs.Faults.{used-whole}
+use Rattle.check_owners.proofs.Lists.{LinkedFrom, linked-none, linked-entry, linked-other, linked-all}
+use Rattle.std.proofs.Common.{rules}
+use Rattle.check_owners.proofs.by_owner.Goals as goal
+use Rattle.check_owners.proofs.by_owner.Goals.{After-is_entry_kind, Then-is_entry_kind-owner}
+
+found : (entry : Bool) (owner records : ℕ) → (entry && ltb owner records) ≡ true → (entry ≡ true) × (owner < records)
+found entry owner records told =
+    (and_left entry (ltb owner records) told, ltb-true owner records (and_right entry (ltb owner records) told))
+
+-- the record n, whose bytes are r
+module _ (b : List ℕ) (n : ℕ) {r : List ℕ} (whole : r ≡ record_at b n) where
+  entry_here : {kind : ℕ} {entry : Bool} → 1 ≤ n → n < used b → kind ≡ get kind_field r → entry ≡ entry_kind kind → entry ≡
+      is_entry b n
+  unfolding is_entry kind_at
+  entry_here lo hi k e = rw (lt-ltb 0 n lo, lt-ltb n (used b) hi) (e ∙ ap entry_kind (k ∙ ap (get kind_field) whole))
+
+  owner_here : {owner : RecordIndex} → owner ≡ record_index (get owner_field r) → owner.0 ≡ owner_of b n
+  unfolding owner_of
+  owner_here w = ap (λ (i : RecordIndex). i.0) w ∙ ap (get owner_field) whole
+
+-- the record before `left`
+one_down : (b : List ℕ) (left : ℕ) (firsts laters : List RecordIndex) → 1 < left → LinkedFrom b left firsts laters → LinkedFrom b
+    (left - 1 + 1) firsts laters
+one_down b left firsts laters some linked = let same : left ≡ left - 1 + 1 = omega arith in
+    subst (λ n. LinkedFrom b n firsts laters) same linked
+
+found_here : (c : goal.Then-is_entry_kind-owner)
+    → (c.is_entry_kind.result ≡ true) × (c.owner_of-owner.result.0 < c.used-records.result)
+found_here c =
+    found c.is_entry_kind.result c.owner_of-owner.result.0 c.used-records.result c.if-is_entry_kind-owner.true
+
+-- what is read of the record
+read_here : (c : goal.After-is_entry_kind)
+    → (c.is_entry_kind.result ≡ is_entry c.args.book.now (c.loop-left.left - 1))
+    × (c.owner_of-owner.result.0
+    ≡ owner_of c.args.book.now (c.loop-left.left - 1))
+read_here c =
+    let b = c.args.book.now in
+    let n = c.loop-left.left - 1 in
+    let whole = c.whole_record-r.ensures in (
+      entry_here b n whole (omega arith) (omega arith) c.kind_of.ensures c.is_entry_kind.ensures,
+      owner_here b n whole
+          c.owner_of-owner.ensures,
+    )
+
+pub loop-left-init : goal.loop-left-init
+loop-left-init c =
+    record {
+      within = search rules;
+      firsts = refl;
+      laters = refl;
+      linked = linked-none c.args.book.now _ _ c.used-records.ensures
+          c.requires.records_bound;
+    }
+
+pub whole_record-r-requires : goal.whole_record-r-requires
+whole_record-r-requires c =
+    used-whole c.args.book.now c.requires.records_used (c.loop-left.left - 1) (omega arith)
+
+pub loop-left-preserved-then-is_entry_kind-owner : goal.loop-left-preserved-then-is_entry_kind-owner
+loop-left-preserved-then-is_entry_kind-owner c =
+    let b = c.args.book.now in
+    let f = found_here (goal.at.loop-left-preserved-then-is_entry_kind-owner c).Then-is_entry_kind-owner in
+    let is = read_here (goal.at.loop-left-preserved-then-is_entry_kind-owner c).After-is_entry_kind in
+    let linked = one_down b c.loop-left.left _ _ c.loop-left-test.true c.loop-left.invariant.linked in
+    record {
+      within = search rules;
+      firsts = simp length-set c.loop-left.invariant.firsts;
+      laters = simp length-set c.loop-left.invariant.laters;
+      linked = linked-entry b (c.loop-left.left - 1) linked (sym is.0 ∙ f.0) is.1 (omega arith) (omega arith);
+    }
+
+pub loop-left-preserved : goal.loop-left-preserved
+loop-left-preserved c =
+    let b = c.args.book.now in
+    let is = read_here (goal.at.loop-left-preserved c).After-is_entry_kind in
+    let linked = one_down b c.loop-left.left _ _ c.loop-left-test.true c.loop-left.invariant.linked in
+    record {
+      within = search rules;
+      firsts = c.loop-left.invariant.firsts;
+      laters = c.loop-left.invariant.laters;
+      linked = linked-other b (c.loop-left.left - 1) linked is.0 is.1 c.used-records.ensures c.if-is_entry_kind-owner.false;
+    }
+
+pub returns : goal.returns
+returns c =
+    linked-all c.args.book.now c.loop-left.left _ (omega (arith, c.loop-left-test.false)) c.loop-left.invariant.linked
