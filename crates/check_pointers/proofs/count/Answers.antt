@@ -9,9 +9,7 @@ use native.Mathlib.Omega.{arith}
 use lib.ListN.{length, get_or, set, length-set}
 use lib.Seq.{get_or-set_same, get_or-set_other}
 use Rattle.book_rules.proofs.Hits.{hits-same, hits-other}
-use borrow.Author.Rules.{rules}
-use Rattle.check_pointers.proofs.count.Statement.{statement}
-use Rattle.check_pointers.proofs.count.Tie as tie
+use Rattle.check_pointers.proofs.count.Goals as goal
 
 counted : (xs : List ℕ) (p m : ℕ) → p < length xs → get_or (set xs p (get_or xs p 0 + 1)) m 0 ≡ get_or xs m 0 + hits p m
 counted xs p m l = by-target (ℕ_discrete p m)
@@ -24,33 +22,13 @@ counted xs p m l = by-target (ℕ_discrete p m)
 uncounted : (xs : List ℕ) (p m : ℕ) → m < p → get_or xs m 0 ≡ get_or xs m 0 + hits p m
 uncounted xs p m l = rw (hits-other p m (omega arith)) (omega arith)
 
-add-counts : tie.Need-overflow-add-counts
-add-counts c =
-    let s = c.before.before.before in
-    omega (arith, s.requires.1 s.args.pointer.0 (omega arith))
-
-returns : tie.Need-returns
-returns c =
-    let s = c.before.before.before in
+pub returns-then-to-lt-MOST_RECORDS : goal.returns-then-to-lt-MOST_RECORDS
+returns-then-to-lt-MOST_RECORDS c =
     record {
-      size = length-set s.args.counts.now s.args.pointer.0 _ ∙ s.requires.0;
-      counted = λ m h. counted s.args.counts.now s.args.pointer.0 m (omega arith);
+      size = length-set c.args.counts.now c.args.pointer.0 _ ∙ c.requires.counts_length;
+      counted = λ m h. counted c.args.counts.now c.args.pointer.0 m (omega arith);
     }
 
-returns-2 : tie.Need-returns-2
-returns-2 c =
-    let s = c.before.before in
-    record { size = s.requires.0; counted = λ m h. uncounted s.args.counts.now s.args.pointer.0 m (omega arith) }
-
-pub count_spec : {M : Type 1} → statement M
-count_spec =
-    tie.close
-    (tie.spec
-    (search rules)
-    (search rules)
-    (search rules)
-    add-counts
-    (search rules)
-    (search rules)
-    returns
-    returns-2)
+pub returns-else-to-lt-MOST_RECORDS : goal.returns-else-to-lt-MOST_RECORDS
+returns-else-to-lt-MOST_RECORDS c =
+    record { size = c.requires.counts_length; counted = λ m h. uncounted c.args.counts.now c.args.pointer.0 m (omega arith) }

@@ -1,0 +1,119 @@
+-- The counts so far are the sums over the records passed.
+use Prim.Native.Nat.{ℕ, ◌<◌}
+use mathlib.Core.Path.{◌≡◌, refl, ap, ◌∙◌}
+use native.Mathlib.Omega.{arith}
+use lib.ListN.{get_or, get_or-replicate}
+use Rattle.units.specs.Limits.{most_records}
+use Rattle.units.specs.Folds.{sum_below}
+use Rattle.book_rules.specs.Book.{used, pointers_from, pointers_to}
+use Rattle.book_rules.proofs.Faults.{used-within, used-whole}
+use Rattle.book_rules.proofs.Hits.{hits-at-most}
+use Rattle.check_pointers.proofs.Counted.{counted-bound, counted-head, counted-user, counted-entry, counted-unknown}
+use Rattle.std.proofs.Common.{rules}
+use Rattle.check_pointers.proofs.counts.Goals as goal
+use Rattle.check_pointers.proofs.counts.Goals.{In-loop-j, else-kind-eq-USER+else-is_entry_kind}
+use Rattle.check_pointers.proofs.counts.Goals.{else-kind-eq-USER+then-is_entry_kind, then-kind-eq-USER}
+
+-- there is room for two more in each count
+room : (c : goal.In-loop-j) (m : ℕ) → m < most_records → get_or c.loop-j.counts m 0 < 65534
+room c m h =
+    omega (arith, c.requires.records_bound, c.loop-j.invariant.counted m h, counted-bound c.args.book.now m c.loop-j.j)
+
+pub count-requires : goal.count-requires
+count-requires c = record {
+  counts_length = refl;
+  counts_room = λ m h. omega (
+    arith,
+    get_or-replicate {A = ℕ} most_records m 0 0
+        h,
+  );
+}
+
+pub loop-j-init : goal.loop-j-init
+loop-j-init c =
+    let b = c.args.book.now in record {
+      from = omega arith;
+      within = omega (arith, (used-within b c.requires.records_used).0, c.used-records.ensures);
+      long = c.count.ensures.size;
+      counted = λ m h. counted-head b m c.first_user.ensures (get_or-replicate most_records m 0 0 h) (c.count.ensures.counted m
+          h);
+    }
+
+pub whole_record-r-requires : goal.whole_record-r-requires
+whole_record-r-requires c =
+    used-whole c.args.book.now c.requires.records_used c.loop-j.j (omega arith)
+
+pub count-requires-then-kind-eq-USER : goal.count-requires-then-kind-eq-USER
+count-requires-then-kind-eq-USER c =
+    record {
+      counts_length = c.loop-j.invariant.long;
+      counts_room = λ m h. omega (
+        arith,
+        room
+            (goal.at.count-requires-then-kind-eq-USER c).In-loop-j m h,
+      );
+    }
+
+pub count-requires-then-kind-eq-USER-2 : goal.count-requires-then-kind-eq-USER-2
+count-requires-then-kind-eq-USER-2 c =
+    let e = c.count-then-kind-eq-USER.ensures in
+    record {
+      counts_length = e.size;
+      counts_room = λ m h. omega (
+        arith,
+        e.counted m h,
+        hits-at-most c.next_of.result.0 m,
+        room
+            (goal.at.count-requires-then-kind-eq-USER-2 c).In-loop-j m h,
+      );
+    }
+
+pub count-requires-then-is_entry_kind : goal.count-requires-then-is_entry_kind
+count-requires-then-is_entry_kind c =
+    record {
+      counts_length = c.loop-j.invariant.long;
+      counts_room = λ m h. omega (
+        arith,
+        room
+            (goal.at.count-requires-then-is_entry_kind c).In-loop-j m h,
+      );
+    }
+
+pub loop-j-preserved : goal.loop-j-preserved
+loop-j-preserved c =
+    let b = c.args.book.now in
+    let j = c.loop-j.j in
+    let inv = c.loop-j.invariant in
+    let whole = c.whole_record-r.ensures in
+    let kind = c.kind_of-kind.ensures in
+    elim c.if-kind-eq-USER.branch [
+      | then-kind-eq-USER w ↦ rw w.counts-is (record {
+        from = search rules;
+        within = search rules;
+        long = w.count-then-kind-eq-USER-2.ensures.size;
+        counted = λ m h. counted-user b m j inv.from whole kind (inv.counted m h) w.if-kind-eq-USER.true w.next_of.ensures
+            w.first_entry_of.ensures (w.count-then-kind-eq-USER.ensures.counted m h) (w.count-then-kind-eq-USER-2.ensures.counted m
+            h);
+      })
+      | else-kind-eq-USER+then-is_entry_kind w ↦ rw w.counts-is (record {
+        from = search rules;
+        within = search rules;
+        long = w.count-then-is_entry_kind.ensures.size;
+        counted = λ m h. counted-entry b m j inv.from whole kind (inv.counted m h) w.if-kind-eq-USER.false w.is_entry_kind.ensures
+            w.if-is_entry_kind.true w.next_of-then-is_entry_kind.ensures (w.count-then-is_entry_kind.ensures.counted m h);
+      })
+      | else-kind-eq-USER+else-is_entry_kind w ↦ rw w.counts-is (record {
+        from = search rules;
+        within = search rules;
+        long = inv.long;
+        counted = λ m h. counted-unknown b m j inv.from whole kind (inv.counted m h) w.if-kind-eq-USER.false w.is_entry_kind.ensures
+            w.if-is_entry_kind.false;
+      })
+    ]
+
+pub returns : goal.returns
+unfolding pointers_to
+returns c = λ m p h.
+    let b = c.args.book.now in
+    let end : c.loop-j.j ≡ used b = omega arith in
+    c.loop-j.invariant.counted m h ∙ ap (λ (j : ℕ). sum_below j (pointers_from b m)) end
