@@ -9,9 +9,7 @@ use Rattle.units.specs.Units.{record_index}
 use Rattle.book_rules.specs.Book.{is_user, first_user, good_head}
 use Rattle.book_layout.specs.Fields.{all_zero, unnamed_of_head, record_at}
 use Rattle.book_rules.specs.Book.{good_head}
-use borrow.Author.Rules.{rules}
-use Rattle.check_rules.proofs.good_head.Statement.{statement}
-use Rattle.check_rules.proofs.good_head.Tie as tie
+use Rattle.check_rules.proofs.good_head.Goals as goal
 
 of-tests : (b : List ℕ) {first : RecordIndex} {user rest : Bool} {bytes : List ℕ} → first ≡ record_index (first_user b)
     → user ≡ is_user b first.0 → bytes ≡ record_at b 0 → rest ≡ all_zero unnamed_of_head bytes
@@ -19,12 +17,7 @@ of-tests : (b : List ℕ) {first : RecordIndex} {user rest : Bool} {bytes : List
 unfolding good_head
 of-tests b f u r z = rw (z, r, u, f)
 
-returns : tie.Need-returns
+pub returns : goal.returns
 returns c =
-    let b = c.before.before.before.before.before.before.args.book.now in
-    of-tests b c.before.before.before.before.first-user.ensures c.before.before.is-user.ensures c.before.«record».ensures c.head-rest-zero.ensures
-
-pub good-head-spec : {M : Type 1} → statement M
-good-head-spec =
-    tie.close
-    (tie.spec (search rules) (search rules) (search rules) (search rules) returns)
+    let b = c.args.book.now in
+    of-tests b c.first_user-first.ensures c.is_user.ensures c.«record».ensures c.head_rest_zero.ensures

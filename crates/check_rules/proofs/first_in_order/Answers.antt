@@ -7,9 +7,7 @@ use Rattle.units.specs.declared.RecordIndex.{RecordIndex}
 use Rattle.units.specs.Units.{record_index}
 use Rattle.book_rules.specs.Book.{in_order, activation_of, open_year_of, first_entry_of, first_in_order}
 use Rattle.book_rules.specs.Book.{first_in_order}
-use borrow.Author.Rules.{rules}
-use Rattle.check_rules.proofs.first_in_order.Statement.{statement}
-use Rattle.check_rules.proofs.first_in_order.Tie as tie
+use Rattle.check_rules.proofs.first_in_order.Goals as goal
 
 of-answers : (b : List ℕ) (i : ℕ) {activation year : ℕ} {first : RecordIndex} {order : Bool} → activation ≡ activation_of b i
     → year ≡ open_year_of b i → first ≡ record_index (first_entry_of b i) → order ≡ in_order b activation year first.0
@@ -17,17 +15,7 @@ of-answers : (b : List ℕ) (i : ℕ) {activation year : ℕ} {first : RecordInd
 unfolding first_in_order
 of-answers b i a y f o = rw (o, a, y, f)
 
-returns : tie.Need-returns
+pub returns : goal.returns
 returns c =
-    let a = c.before.before.before.before.before.args in
-    of-answers a.book.now a.index.0 c.before.before.before.activation-of.ensures c.before.before.open-year-of.ensures c.before.first-entry-of.ensures c.in_order.ensures
-
-pub first-in-order-spec : {M : Type 1} → statement M
-first-in-order-spec =
-    tie.close
-    (tie.spec
-    (search rules)
-    (search rules)
-    (search rules)
-    (search rules)
-    returns)
+    let a = c.args in
+    of-answers a.book.now a.index.0 c.activation_of.ensures c.open_year_of.ensures c.first_entry_of.ensures c.in_order.ensures
