@@ -33,10 +33,10 @@ fed held n from to size low e l =
 pub unfed : (held : List ℕ) (n from to : ℕ) → n ≤ length held → LineEnd (take n held) from to → n ≤ to → NoFeed held from n
 unfed held n from to size e l k a b h = e.before k a (omega arith) (get_or-take n held k 0 b ∙ h)
 
-feed-less-joined : (s : List ℕ) (a b c : ℕ) → NoFeed s a b → NoFeed s b c → NoFeed s a c
+pub feed-less-joined : (s : List ℕ) (a b c : ℕ) → NoFeed s a b → NoFeed s b c → NoFeed s a c
 feed-less-joined s a b c p q k low high h = let below : k < b → ⊥ = λ l. p k low l h in q k (omega arith) high h
 
-feed-less-kept : (before after : List ℕ) (n : ℕ) → take n after ≡ take n before → NoFeed before 0 n → NoFeed after 0 n
+pub feed-less-kept : (before after : List ℕ) (n : ℕ) → take n after ≡ take n before → NoFeed before 0 n → NoFeed after 0 n
 feed-less-kept before after n same p k low high h =
     p k low high (sym (get_or-take n before k 0 high) ∙ sym (ap (λ (l : List ℕ). get_or l k 0) same) ∙ get_or-take n after k 0 high ∙ h)
 

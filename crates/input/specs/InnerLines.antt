@@ -1,5 +1,7 @@
 -- Lines: the bytes up to the first line feed; the next line begins after it.
-use Rattle.std.specs.Prelude.{ℕ, ◌+◌, ◌-◌, ◌≤◌, ◌<◌, ◌≡◌, cond, List, eqb, length, get_or, take}
+use Rattle.std.specs.Prelude.{ℕ, ◌+◌, ◌-◌, ◌≤◌, ◌<◌, ◌≡◌, ◌≢◌, ⊤, cond, List, [], ◌∷◌, ◌++◌, eqb, length, get_or, take, drop, All}
+use Rattle.std.specs.Io.KnownBytes.{prepend_known, Consumes, IsAtEnd}
+use Rattle.std.specs.declared.option.Option.{Option}
 use Rattle.input.specs.declared.Line.{Line}
 use Rattle.input.specs.declared.Found.{Found}
 use Rattle.input.specs.declared.Found.TheVariants as found
@@ -94,3 +96,30 @@ pub record LineAfter (before : List ℕ) (line : Line) (after : List ℕ) (r : L
   pub same : length after ≡ length before
   pub held : LineHeld after r
   pub found : FoundAfter before line after r r.found
+
+-- the bytes that are still to come: those that are held after a line, and those that the reader has left
+abbrev pub ahead : List ℕ → Line → Option (List ℕ) → Option (List ℕ)
+ahead held line left = prepend_known (drop line.next (take line.filled held)) left
+
+-- no line feed is among these bytes
+abbrev pub Unfed : List ℕ → Type 0
+Unfed l = All (λ b. b ≢ 10) l
+
+-- what passing over the rest of a line takes of the bytes to come: that rest, with its line feed where it has one
+abbrev pub PassedTaken : Option (List ℕ) → Option (List ℕ) → List ℕ → Found → Type 0
+PassedTaken old new after found.Whole = ⊤
+PassedTaken old new after found.Long = (l : List ℕ) × Unfed l × Consumes old new (l ++ (10 ∷ []))
+PassedTaken old new after found.Half = (l : List ℕ) × Unfed l × Consumes old new l × (0 < length after → IsAtEnd new)
+PassedTaken old new after found.End = ⊤
+PassedTaken old new after (found.Failed e) = (l : List ℕ) × Unfed l × Consumes old new l
+
+-- What an answer takes of the bytes to come: a line and its line feed, and no more; of a line that does not end, all that there
+-- is. Before a failure no line's end is taken.
+abbrev pub FoundTaken : Option (List ℕ) → Option (List ℕ) → List ℕ → Line → Found → Type 0
+FoundTaken old new after r found.Whole = Consumes old new (drop r.from (take r.to after) ++ (10 ∷ []))
+FoundTaken old new after r found.Long =
+    (l : List ℕ) × Unfed l × (length after ≤ length l) × Consumes old new (l ++ (10 ∷ []))
+FoundTaken old new after r found.Half =
+    0 < length after → (l : List ℕ) × Unfed l × (0 < length l) × Consumes old new l × IsAtEnd new
+FoundTaken old new after r found.End = IsAtEnd old
+FoundTaken old new after r (found.Failed e) = (l : List ℕ) × Unfed l × Consumes old new l

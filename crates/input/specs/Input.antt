@@ -1,6 +1,8 @@
 -- What reads bring: bytes after those that are held, which stay as they are.
-use Rattle.std.specs.Prelude.{ℕ, ◌+◌, ◌≤◌, ◌<◌, ◌≡◌, ◌≢◌, List, length, take, Result, Ok, Err}
+use Rattle.std.specs.Prelude.{ℕ, ◌+◌, ◌≤◌, ◌<◌, ◌≡◌, ◌≢◌, List, length, take, drop, Result, Ok, Err}
 use Rattle.std.specs.IoError.{error_kind}
+use Rattle.std.specs.Io.KnownBytes.{Keeps, Consumes, IsAtEnd}
+use Rattle.std.specs.declared.option.Option.{Option}
 use Rattle.std.specs.declared.io.Error.{Error}
 use Rattle.std.specs.declared.io.ErrorKind.TheVariants.{Interrupted}
 use Rattle.input.specs.declared.Got.{Got}
@@ -40,6 +42,13 @@ pub record ReadOnce (before : List ℕ) (filled : ℕ) (after : List ℕ) (r : G
   pub front : take filled after ≡ take filled before
   pub within : GotWithin filled (length after) r
 
+-- what a read brought is what its reader had next; where there was room, the end is the reader's
+abbrev pub OnceTaken : Option (List ℕ) → Option (List ℕ) → ℕ → List ℕ → Got → Type 0
+OnceTaken old new filled after (got.Bytes n) = Consumes old new (take n (drop filled after))
+OnceTaken old new filled after got.End = Keeps old new × (filled < length after → IsAtEnd new)
+OnceTaken old new filled after got.Interrupted = Keeps old new
+OnceTaken old new filled after (got.Failed e) = Keeps old new
+
 -- more is held than before
 abbrev pub MoreWithin : ℕ → ℕ → Read → Type 0
 MoreWithin filled room (read.More n) = (filled < n) × (n ≤ room)
@@ -51,6 +60,12 @@ pub record ReadOn (before : List ℕ) (filled : ℕ) (after : List ℕ) (r : Rea
   pub front : take filled after ≡ take filled before
   pub within : MoreWithin filled (length after) r
 
+-- what more is held is what the reader had next
+abbrev pub MoreTaken : Option (List ℕ) → Option (List ℕ) → ℕ → List ℕ → Read → Type 0
+MoreTaken old new filled after (read.More n) = Consumes old new (drop filled (take n after))
+MoreTaken old new filled after read.End = Keeps old new × (filled < length after → IsAtEnd new)
+MoreTaken old new filled after (read.Failed e) = Keeps old new
+
 -- what was read to the end stands after what was held
 abbrev pub AllWithin : ℕ → ℕ → Input → Type 0
 AllWithin kept room (input.Read n) = (kept ≤ n) × (n ≤ room)
@@ -60,3 +75,9 @@ pub record RestRead (before : List ℕ) (kept : ℕ) (after : List ℕ) (r : Inp
   pub same : length after ≡ length before
   pub front : take kept after ≡ take kept before
   pub within : AllWithin kept (length after) r
+
+-- what stands after what was held is what the reader had next: all that it had where the buffer is not full. What came before
+-- a failure stands there too.
+abbrev pub AllTaken : Option (List ℕ) → Option (List ℕ) → ℕ → List ℕ → Input → Type 0
+AllTaken old new kept after (input.Read n) = Consumes old new (drop kept (take n after)) × (n < length after → IsAtEnd new)
+AllTaken old new kept after (input.Failed e) = (n : ℕ) × Consumes old new (drop kept (take n after))

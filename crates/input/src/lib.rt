@@ -2,10 +2,11 @@
 // interrupted is made again, and one that failed is told from the end of the input.
 #![tactic(auto)]
 
-ghost use Rattle.std.specs.Prelude.{◌-◌, ◌≤◌, ◌<◌, ◌≡◌, length};
-ghost use Rattle.input.specs.Input.{room_for_lines, room_for_book, Means, ReadOnce, ReadOn, RestRead};
+ghost use Rattle.std.specs.Prelude.{take, ◌-◌, ◌≤◌, ◌<◌, ◌≡◌, length};
+ghost use Rattle.std.specs.Io.KnownBytes.{prepend_known};
+ghost use Rattle.input.specs.Input.{room_for_lines, room_for_book, Means, ReadOnce, ReadOn, RestRead, OnceTaken, MoreTaken, AllTaken};
 ghost use Rattle.input.specs.InnerLines.{LineEnd, NoFeed, nothing_held, line_at, at_end, LineHeld, LinePassed, LineRead};
-ghost use Rattle.input.specs.InnerLines.{LineAfter, RestMoved};
+ghost use Rattle.input.specs.InnerLines.{LineAfter, RestMoved, ahead, PassedTaken, FoundTaken};
 
 use book_rules::LONGEST;
 use std::rt::Files;
@@ -99,7 +100,8 @@ fn meaning(got: io::Result<usize>) -> Got
 // One read after the bytes that are held.
 fn read_once<R: io::Read>(from: &mut R, held: &mut [u8], filled: usize) -> Got
     requires { filled ≤ length held.old }
-    ensures { ReadOnce held.old filled held.new result }
+    ensures held { ReadOnce held.old filled held.new result }
+    ensures taken { OnceTaken (R.remaining from.old) (R.remaining from.new) filled held.new result }
 {
     meaning(from.read(&mut held[filled..]))
 }
@@ -112,7 +114,8 @@ fn too_many_reads() -> io::Error {
 // Reads on after the bytes that are held.
 fn read_on<R: io::Read>(from: &mut R, held: &mut [u8], filled: usize) -> Read
     requires { filled ≤ length held.old }
-    ensures { ReadOn held.old filled held.new result }
+    ensures held { ReadOn held.old filled held.new result }
+    ensures taken { MoreTaken (R.remaining from.old) (R.remaining from.new) filled held.new result }
 {
     for turn in 0..u64::MAX {
         match read_once(from, held, filled) {
@@ -134,7 +137,8 @@ fn read_on<R: io::Read>(from: &mut R, held: &mut [u8], filled: usize) -> Read
 // Reads on after the bytes that are held, to the end of the input or until the buffer is full.
 fn read_rest<R: io::Read>(from: &mut R, held: &mut [u8], kept: usize) -> Input
     requires { kept ≤ length held.old }
-    ensures { RestRead held.old kept held.new result }
+    ensures held { RestRead held.old kept held.new result }
+    ensures taken { AllTaken (R.remaining from.old) (R.remaining from.new) kept held.new result }
 {
     let mut filled = kept;
     for turn in 0..u64::MAX {
@@ -158,7 +162,8 @@ fn read_rest<R: io::Read>(from: &mut R, held: &mut [u8], kept: usize) -> Input
 
 // Reads a book: what is read stands at the front of the buffer.
 pub fn read_book<R: io::Read>(from: &mut R, book: &mut [u8]) -> Input
-    ensures { RestRead book.old 0 book.new result }
+    ensures held { RestRead book.old 0 book.new result }
+    ensures taken { AllTaken (R.remaining from.old) (R.remaining from.new) 0 book.new result }
 {
     read_rest(from, book, 0)
 }
@@ -248,7 +253,8 @@ fn ended(kept: usize) -> Line
 
 // Passes over the rest of a line that fills all that can be held.
 fn pass_line<R: io::Read>(from: &mut R, held: &mut [u8]) -> Line
-    ensures { LinePassed held.old held.new result }
+    ensures held { LinePassed held.old held.new result }
+    ensures taken { PassedTaken (R.remaining from.old) (ahead held.new result (R.remaining from.new)) held.new result.found }
 {
     for turn in 0..u64::MAX {
         match read_on(from, held, 0) {
@@ -273,7 +279,9 @@ fn pass_line<R: io::Read>(from: &mut R, held: &mut [u8]) -> Line
 // the next.
 fn read_line<R: io::Read>(from: &mut R, held: &mut [u8], kept: usize) -> Line
     requires { (kept ≤ length held.old) × NoFeed held.old 0 kept }
-    ensures { LineRead held.old kept held.new result }
+    ensures held { LineRead held.old kept held.new result }
+    ensures taken { FoundTaken (prepend_known (take kept held.old) (R.remaining from.old))
+        (ahead held.new result (R.remaining from.new)) held.new result result.found }
 {
     let mut filled = kept;
     for turn in 0..u64::MAX {
@@ -302,7 +310,9 @@ fn read_line<R: io::Read>(from: &mut R, held: &mut [u8], kept: usize) -> Line
 // What comes after a line. Where no line ends in what is held, that moves to the front and more is read.
 pub fn next_line<R: io::Read>(from: &mut R, held: &mut [u8], line: Line) -> Line
     requires { LineHeld held.old line }
-    ensures { LineAfter held.old line held.new result }
+    ensures held { LineAfter held.old line held.new result }
+    ensures taken { FoundTaken (ahead held.old line (R.remaining from.old))
+        (ahead held.new result (R.remaining from.new)) held.new result result.found }
 {
     let next = line.next;
     let filled = line.filled;
