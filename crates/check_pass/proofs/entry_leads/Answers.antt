@@ -5,9 +5,7 @@ use Prim.Native.Nat.{ℕ}
 use borrow.Author.Tests.{ne_eqb}
 use Rattle.book_layout.specs.Fields.{get, kind_field, year_field, closing_kind}
 use Rattle.book_rules.specs.Book.{level_in, years_ended}
-use borrow.Author.Rules.{rules}
-use Rattle.check_pass.proofs.entry_leads.Statement.{statement}
-use Rattle.check_pass.proofs.entry_leads.Tie as tie
+use Rattle.check_pass.proofs.entry_leads.Goals as goal
 
 module _ (r : List ℕ) {kind : ℕ} (k : kind ≡ get kind_field r) where
   closing-level : kind ≡ closing_kind → {level : ℕ} → level ≡ get year_field r → level ≡ level_in r
@@ -22,31 +20,18 @@ module _ (r : List ℕ) {kind : ℕ} (k : kind ≡ get kind_field r) where
   unfolding years_ended
   other-ends o = rw (ne_eqb (get kind_field r) closing_kind (λ e. o (k ∙ e)))
 
-level-leads-requires : tie.Need-level-leads-requires
-level-leads-requires c κs =
-    let k = c.before.before in
-    let r = k.before.before.before.args.r.now in
-    (closing-level r k.kind-of.ensures c.before.if1.true c.year-of.ensures, closing-ends r k.kind-of.ensures c.before.if1.true)
+pub level_leads-requires : goal.level_leads-requires
+level_leads-requires c =
+    let r = c.args.r.now in
+    record {
+      entry_level = closing-level r c.kind_of.ensures c.if-kind_of-eq-CLOSING.true c.year_of.ensures;
+      ended_years = closing-ends r c.kind_of.ensures c.if-kind_of-eq-CLOSING.true;
+    }
 
-level-leads-requires-2 : tie.Need-level-leads-requires-2
-level-leads-requires-2 c κs =
-    let k = c.before.before in
-    (c.level-of.ensures, other-ends k.before.before.before.args.r.now k.kind-of.ensures c.before.if1.false)
-
-returns : tie.Need-returns
-returns c = c.level-leads.ensures
-
-returns-2 : tie.Need-returns-2
-returns-2 c = c.level-leads2.ensures
-
-pub entry-leads-spec : {M : Type 1} → statement M
-entry-leads-spec =
-    tie.close
-    (tie.spec
-    (search rules)
-    (search rules)
-    level-leads-requires
-    (search rules)
-    level-leads-requires-2
-    returns
-    returns-2)
+pub level_leads-requires-else-kind_of-eq-CLOSING : goal.level_leads-requires-else-kind_of-eq-CLOSING
+level_leads-requires-else-kind_of-eq-CLOSING c =
+    record {
+      entry_level = c.level_of.ensures;
+      ended_years = other-ends c.args.r.now c.kind_of.ensures
+          c.if-kind_of-eq-CLOSING.false;
+    }
