@@ -1,0 +1,36 @@
+-- The records, then the user.
+use Prim.Native.Nat.{ℕ, ◌≤◌, ◌<◌}
+use mathlib.Core.Path.{◌≡◌, ap, ◌∙◌}
+use mathlib.Core.Bool.{true, not}
+use mathlib.Core.List.{List}
+use native.Mathlib.Omega.{arith}
+use Rattle.book_rules.specs.Book.{length_fits, used, used_fits, good_head}
+use Rattle.book_rules.proofs.Faults.{faulty-record, faulty-not-sound, good-sound, smallest-record}
+use Rattle.check_book.specs.Verdicts.{RecordsJudged, Accepted, Objected}
+use Rattle.check_book.proofs.judge.Goals as goal
+
+module _ (b : List ℕ) (fits : length_fits b ≡ true) (u : used_fits b ≡ true) (head : good_head b ≡ true) (bad : ℕ) (judged :
+    RecordsJudged b bad) where
+  objected : bad < used b → Objected b bad
+  objected under =
+      let wrong = judged.is-bad under in
+      record {
+        fits = fits;
+        unsound = faulty-not-sound b fits bad (faulty-record b u bad judged.from under ∙ ap not wrong);
+        smallest = smallest-record b fits u head bad judged.from under wrong judged.before;
+      }
+
+  accepted : used b ≤ bad → Accepted b
+  accepted past = record { fits = fits; is_sound = good-sound b u head (λ i p h. judged.before i p (omega arith)) }
+
+pub returns-then-bad-used : goal.returns-then-bad-used
+returns-then-bad-used c =
+    objected c.args.book.now c.requires.book_length c.requires.records_used c.requires.head _ c.faulty_record-bad.ensures (omega
+    (arith, c.if-bad-used.true, c.used.ensures))
+
+pub returns : goal.returns
+returns c = (
+  accepted c.args.book.now c.requires.book_length c.requires.records_used c.requires.head _ c.faulty_record-bad.ensures (omega
+      (arith, c.if-bad-used.false, c.used.ensures)),
+  c.find_user.ensures,
+)
