@@ -1,13 +1,10 @@
 -- Every index before this one has had its turn: what it has seen is good, or not before `bad`.
-use Prim.Native.Nat.{ℕ, ◌+◌, ◌-◌, ◌≤◌, ◌<◌}
+use Prim.Native.Nat.{ℕ, ◌+◌, ◌≤◌, ◌<◌}
 use mathlib.Core.Path.{◌≡◌, refl, sym, ap, ◌∙◌}
-use mathlib.Core.Bool.{Bool, true, not, ◌&&◌}
-use mathlib.Core.Logic.{⊎_elim}
-use mathlib.Core.List.{List}
+use mathlib.Core.Bool.{true, not, ◌&&◌}
 use native.Mathlib.Omega.{arith}
-use borrow.Author.Tests.{not-true, not-false, ltb-true, eqb-false}
+use borrow.Author.Tests.{not-true, ltb-true, eqb-false}
 use lib.Dec.{eqb, ltb}
-use lib.ListN.{length}
 use Rattle.units.proofs.Bools.{and_left, and_right}
 use Rattle.units.specs.declared.UserNumber.{UserNumber}
 use Rattle.units.specs.Limits.{most_records}
@@ -15,17 +12,23 @@ use Rattle.book_rules.specs.Book.{used}
 use Rattle.book_rules.proofs.Faults.{used-counted}
 use Rattle.book_rules.proofs.RecordKinds.{entry-no-user}
 use Rattle.check_owners.specs.InnerOwners.{NextOwned, index_at}
-use Rattle.check_numbers.specs.InnerHeld.{places}
-use Rattle.check_book.proofs.Homes.{home-user, home-other, Homes, homes-sooner, homes-next, Bad, bad-first, bad-here, EntriesMet}
+use Rattle.check_book.proofs.Homes.{home-user, home-other, homes-sooner, homes-next, bad-first, bad-here}
 use Rattle.check_book.proofs.Homes.{entries_none, entry_here, entry_place, entries_next}
-use Rattle.check_book.proofs.Homes.{entries-left, entries-ended, entry-after, ahead, ahead-less, stray-bad, judged}
-use Rattle.check_book.proofs.SeenNumbers.{Seen, has-number, seen_none, seen_other, seen-new, seen_next}
+use Rattle.check_book.proofs.Homes.{entries-left, entries-ended, entry-after, ahead-less, stray-bad, judged}
+use Rattle.check_book.proofs.SeenNumbers.{has-number, seen_none, seen_other, seen-new, seen_next}
 use Rattle.std.proofs.Common.{rules}
 use Rattle.check_book.proofs.faulty_record.Goals as goal
-use Rattle.check_book.proofs.faulty_record.Goals.{Else-i-bad, In-entries, In-entries-unread, In-users}
+use Rattle.check_book.proofs.faulty_record.Goals.{Else-i-bad, In-entries, In-users}
 use Rattle.check_book.proofs.faulty_record.Goals.{else-is_user+else-not-owned}
 use Rattle.check_book.proofs.faulty_record.Goals.{then-is_user+else-not-good_record+else-entries-test}
 use Rattle.check_book.proofs.faulty_record.Goals.{then-is_user+else-not-good_record+then-entries-test+then-not-good_record-2}
+
+-- left at `bad`, of which the turns before tell enough
+pub returns-then-i-bad : goal.returns-then-i-bad
+returns-then-i-bad c =
+    let inv = c.users.invariant in
+    let to = inv.is.to in
+    judged c.args.book.now c.users.bad c.users.i (omega (arith, inv.before, to)) (omega (arith, c.if-i-bad.true)) inv.is inv.homes
 
 -- the record whose turn it is has its places in the book and in the arrays
 place : (c : goal.In-users)
@@ -147,7 +150,11 @@ entries-init c =
     )
 
 pub bounds-counts-e : goal.bounds-counts-e
-bounds-counts-e c = (entry-there (goal.at.bounds-counts-e c).In-entries-unread).1
+bounds-counts-e c =
+    let b = c.args.book.now in
+    let some = (e-some c.entries.e c.entries.bad c.entries-test.true).0 in
+    let at = entry_place b c.users.bad c.users.i c.entries.e c.entries.invariant.1 some in
+    omega (arith, at.1, used-counted b c.requires.records_used c.requires.book_length)
 
 pub good_record-requires-in-entries : goal.good_record-requires-in-entries
 good_record-requires-in-entries c =
@@ -237,7 +244,7 @@ users-preserved c =
                 w.insert-all_seen.ensures.inserted;
             homes = homes-next b e i (homes-sooner b bad e i (omega (arith, test.1)) homes) here;
           })
-      | else-is_user+else-not-owned w ↦ rw (w.equation-0, w.equation-1, w.equation-2) (record {
+      | else-is_user+else-not-owned w ↦ rw (w.seen-is, w.all_seen-is, w.bad-is) (record {
         from = search rules;
         before = omega (arith, below);
         most = to;
@@ -258,12 +265,6 @@ returns-after-users c =
     judged c.args.book.now c.users.bad c.users.i (omega (arith, inv.before, to)) (omega (arith, to, records, c.users-test.false))
     inv.is
     inv.homes
-
-pub returns-then-i-bad : goal.returns-then-i-bad
-returns-then-i-bad c =
-    let inv = c.users.invariant in
-    let to = inv.is.to in
-    judged c.args.book.now c.users.bad c.users.i (omega (arith, inv.before, to)) (omega (arith, c.if-i-bad.true)) inv.is inv.homes
 
 pub returns-then-not-good_record : goal.returns-then-not-good_record
 returns-then-not-good_record c =

@@ -1,25 +1,13 @@
 -- Every index before this one has had its turn: what it has seen is good, or not before `bad`.
-use Prim.Native.Nat.{ℕ, ◌+◌, ◌-◌, ◌≤◌, ◌<◌}
-use mathlib.Core.Path.{◌≡◌, refl, sym, ap, ◌∙◌}
-use mathlib.Core.Bool.{Bool, true, not, ◌&&◌}
-use mathlib.Core.Logic.{⊎_elim}
+use Prim.Native.Nat.{ℕ, ◌-◌, ◌≤◌}
+use mathlib.Core.Path.{◌≡◌}
+use mathlib.Core.Bool.{Bool, true}
 use mathlib.Core.List.{List}
-use native.Mathlib.Omega.{arith}
-use borrow.Author.Tests.{not-true, not-false, ltb-true, eqb-false}
-use lib.Dec.{eqb, ltb}
 use lib.ListN.{length}
-use Rattle.units.proofs.Bools.{and_left, and_right}
-use Rattle.units.specs.declared.UserNumber.{UserNumber}
-use Rattle.units.specs.Limits.{most_records}
-use Rattle.book_rules.specs.Book.{used}
-use Rattle.book_rules.proofs.Faults.{used-counted}
-use Rattle.book_rules.proofs.RecordKinds.{entry-no-user}
-use Rattle.check_owners.specs.InnerOwners.{NextOwned, index_at}
 use Rattle.check_numbers.specs.InnerHeld.{places}
-use Rattle.check_book.proofs.Homes.{home-user, home-other, Homes, homes-sooner, homes-next, Bad, bad-first, bad-here, EntriesMet}
-use Rattle.check_book.proofs.Homes.{entries_none, entry_here, entry_place, entries_next}
-use Rattle.check_book.proofs.Homes.{entries-left, entries-ended, entry-after, ahead, ahead-less, stray-bad, judged}
-use Rattle.check_book.proofs.SeenNumbers.{Seen, has-number, seen_none, seen_other, seen-new, seen_next}
+use Rattle.check_book.proofs.Homes.{Homes, Bad, EntriesMet}
+use Rattle.check_book.proofs.Homes.{ahead}
+use Rattle.check_book.proofs.SeenNumbers.{Seen}
 use Rattle.check_book.proofs.faulty_record.Given as goal
 
 -- the users before i have had their turn

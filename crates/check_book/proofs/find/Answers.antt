@@ -1,17 +1,16 @@
 -- By the length, the head, then as passed or as judged.
 use Prim.Native.Nat.{ℕ}
 use mathlib.Core.Path.{◌≡◌, sym, ap, ◌∙◌}
-use mathlib.Core.Bool.{Bool, true, false, not}
+use mathlib.Core.Bool.{Bool, true, not}
 use mathlib.Core.List.{List}
-use borrow.Author.Tests.{not-true, not-false}
-use Rattle.book_rules.specs.Book.{length_fits, used_fits, good_head, faulty}
+use Rattle.book_rules.specs.Book.{length_fits, faulty}
 use Rattle.book_rules.proofs.Faults.{faulty-unfit, faulty-head, faulty-not-sound, smallest-head}
 use Rattle.check_book.specs.Verdicts.{Objected}
 use Rattle.check_book.proofs.find.Goals as goal
 
 -- a test that is passed
-holds : {t u : Bool} → t ≡ u → not t ≡ false → u ≡ true
-holds {t} e h = sym e ∙ not-false t h
+holds : {t u : Bool} → t ≡ u → t ≡ true → u ≡ true
+holds e h = sym e ∙ h
 
 -- nothing stands before the head
 head-faulty : (b : List ℕ) → length_fits b ≡ true → faulty b 0 ≡ true → Objected b 0
@@ -28,4 +27,4 @@ returns-then-not-good_head c =
     let b = c.args.book.now in
     head-faulty b (holds c.length_fits.ensures c.if-not-length_fits.false)
     (faulty-head b (holds c.used_fits.ensures c.if-not-used_fits.false) ∙ sym (ap not c.good_head.ensures) ∙
-    c.if-not-good_head.true)
+    ap not c.if-not-good_head.true)

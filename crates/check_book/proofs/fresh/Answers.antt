@@ -1,16 +1,14 @@
 -- The loop fills the book with zeros from the front.
 use Prim.Native.Nat.{ℕ, zero, suc, ◌-◌, ◌≤◌}
-use mathlib.Core.Path.{◌≡◌, refl, sym, ap, ◌∙◌}
+use mathlib.Core.Path.{◌≡◌, sym, ap, ◌∙◌}
 use mathlib.Core.Bool.{true, false}
 use mathlib.Core.List.{List, [], ◌++◌, append-nil}
 use Rattle.book_rules.specs.Book.{length_fits, fresh_book}
 use native.Mathlib.Omega.{arith}
-use borrow.Author.Tests.{not-true, not-false}
-use borrow.Author.Fill.{fill_none, fill_more}
+use borrow.Author.Fill.{fill_more}
 use lib.ListN.{length, set, drop, replicate, length-set, drop_of_length-le}
 use Rattle.check_book.specs.Verdicts.{fresh_answer, fresh_after}
 use Rattle.book_rules.proofs.Lengths.{length-least}
-use Rattle.units.proofs.Filled.{Written}
 use Rattle.std.proofs.Common.{rules}
 use Rattle.check_book.proofs.fresh.Goals as goal
 
