@@ -17,6 +17,7 @@ use check_book::Verdict;
 use input::Input;
 use output::Row;
 use statements::Sums;
+use std::rt::Env;
 use text::Number;
 use units::{RecordIndex, Ticks, UserNumber};
 
@@ -36,12 +37,17 @@ enum Asked {
 }
 
 // What says something answers whether it was written.
-fn say(row: Row) -> bool {
-    output::write_row(b"account: standard output", output::put(row, b'\n'))
+fn say(rt: &HostRuntime, row: Row) -> bool {
+    output::write_row(
+        &mut rt.stdout(),
+        &mut rt.stderr(),
+        b"account: standard output",
+        output::put(row, b'\n'),
+    )
 }
 
-fn say_text(text: &[u8]) -> bool {
-    say(output::put_text(output::no_text(), text))
+fn say_text(rt: &HostRuntime, text: &[u8]) -> bool {
+    say(rt, output::put_text(output::no_text(), text))
 }
 
 // The blanks before an amount: digits of euro, a sign, and six more for the point and the decimals.
@@ -101,7 +107,7 @@ fn put_balance(row: Row, balance: Balance) -> Row {
     }
 }
 
-fn say_headings() -> bool {
+fn say_headings(rt: &HostRuntime) -> bool {
     let mut row = output::put_text(output::no_text(), b"year option     ");
     row = output::put_text(row, b"              value");
     row = output::put_text(row, b"      purchase cost");
@@ -112,7 +118,7 @@ fn say_headings() -> bool {
     row = output::put_text(row, b"        liquidation");
     row = output::put_text(row, b"      lapsed credit");
     row = output::put_text(row, b"       credit after");
-    say(row)
+    say(rt, row)
 }
 
 fn put_option(row: Row, option: u8) -> Row {
@@ -123,7 +129,7 @@ fn put_option(row: Row, option: u8) -> Row {
     }
 }
 
-fn say_year(y: Year) -> bool {
+fn say_year(rt: &HostRuntime, y: Year) -> bool {
     let mut row = put_option(
         output::put_number(output::no_text(), y.year as u64),
         y.option,
@@ -137,25 +143,25 @@ fn say_year(y: Year) -> bool {
     row = put_balance(row, y.balance);
     row = put_paid(row, y.liquidation);
     row = put_paid(row, y.lapsed);
-    say(put_paid(row, y.credit))
+    say(rt, put_paid(row, y.credit))
 }
 
 // The closed years of a user, oldest first.
-fn say_years(book: &[u8], user: RecordIndex) -> bool
+fn say_years(rt: &HostRuntime, book: &[u8], user: RecordIndex) -> bool
     requires accepted { Accepted book.now }
     requires user_record { is_user book.now user.0 ≡ true }
 {
     let activation = book_view::activation_of(book, user);
     let open = book_view::open_year_of(book, user);
     for n in 0..open - activation {
-        if !say_year(account_years::closed_year(book, user, n)) {
+        if !say_year(rt, account_years::closed_year(book, user, n)) {
             return false;
         }
     }
     true
 }
 
-fn say_totals(sums: Sums) -> bool {
+fn say_totals(rt: &HostRuntime, sums: Sums) -> bool {
     let mut row = output::put_text(output::no_text(), b"all             ");
     row = put_paid(row, sums.value);
     row = put_paid(row, sums.cost);
@@ -165,19 +171,19 @@ fn say_totals(sums: Sums) -> bool {
     row = put_balance(row, sums.balance);
     row = put_paid(row, sums.liquidation);
     row = put_paid(row, sums.lapsed);
-    say(put_paid(row, sums.credit))
+    say(rt, put_paid(row, sums.credit))
 }
 
 // PAYMENTS (document 02, tickets 1 and 6): a second table, of what each year was charged, its advances, what was withheld and what
 // was paid out; the two open years too.
 
-fn say_payment_headings() -> bool {
+fn say_payment_headings(rt: &HostRuntime) -> bool {
     let mut row = output::put_text(output::no_text(), b"\nyear            ");
     row = output::put_text(row, b"             charge");
     row = output::put_text(row, b"           advances");
     row = output::put_text(row, b"           withheld");
     row = output::put_text(row, b"           net paid");
-    say(row)
+    say(rt, row)
 }
 
 // A charge, or that the book does not tell it.
@@ -188,20 +194,20 @@ fn put_charge(row: Row, charge: OfEach) -> Row {
     }
 }
 
-fn say_payments(name: Row, charge: OfEach, payments: Payments) -> bool {
+fn say_payments(rt: &HostRuntime, name: Row, charge: OfEach, payments: Payments) -> bool {
     let mut row = put_charge(name, charge);
     row = put_paid(row, payments.advances);
     row = put_paid(row, payments.withheld);
-    say(put_paid(row, payments.paid))
+    say(rt, put_paid(row, payments.paid))
 }
 
-fn say_payments_of(year: u16, charge: OfEach, payments: Payments) -> bool {
+fn say_payments_of(rt: &HostRuntime, year: u16, charge: OfEach, payments: Payments) -> bool {
     let row = output::put_number(output::no_text(), year as u64);
-    say_payments(output::put_text(row, b"            "), charge, payments)
+    say_payments(rt, output::put_text(row, b"            "), charge, payments)
 }
 
 // The closed years of a user, oldest first.
-fn say_closed_payments(book: &[u8], user: RecordIndex, each: OfEach) -> bool
+fn say_closed_payments(rt: &HostRuntime, book: &[u8], user: RecordIndex, each: OfEach) -> bool
     requires accepted { Accepted book.now }
     requires user_record { is_user book.now user.0 ≡ true }
 {
@@ -209,7 +215,7 @@ fn say_closed_payments(book: &[u8], user: RecordIndex, each: OfEach) -> bool
     let open = book_view::open_year_of(book, user);
     for year in activation..open {
         let payments = account_years::payments_of(book, user, year, year);
-        if !say_payments_of(year, each, payments) {
+        if !say_payments_of(rt, year, each, payments) {
             return false;
         }
     }
@@ -217,127 +223,142 @@ fn say_closed_payments(book: &[u8], user: RecordIndex, each: OfEach) -> bool
 }
 
 // The two open years, of which the earlier one takes charges.
-fn say_open_payments(book: &[u8], user: RecordIndex, charge: Ticks) -> bool
+fn say_open_payments(rt: &HostRuntime, book: &[u8], user: RecordIndex, charge: Ticks) -> bool
     requires accepted { Accepted book.now }
     requires user_record { is_user book.now user.0 ≡ true }
 {
     let open = book_view::open_year_of(book, user);
     let payments = account_years::payments_of(book, user, open, open);
-    if !say_payments_of(open, OfEach::Charged(charge), payments) {
+    if !say_payments_of(rt, open, OfEach::Charged(charge), payments) {
         return false;
     }
     let later = open + 1;
     let payments = account_years::payments_of(book, user, later, later);
-    say_payments_of(later, OfEach::Charged(Ticks(0)), payments)
+    say_payments_of(rt, later, OfEach::Charged(Ticks(0)), payments)
 }
 
 // "A user's charges made equal those withheld plus the rest"
-fn say_charges_made(charges: Charges) -> bool {
+fn say_charges_made(rt: &HostRuntime, charges: Charges) -> bool {
     let mut row = output::put_text(output::no_text(), b"charges         ");
     row = put_paid(row, charges.made);
     row = output::put_text(row, b" = withheld");
     row = put_paid(row, charges.withheld);
     row = output::put_text(row, b" + rest");
-    say(put_paid(row, charges.rest))
+    say(rt, put_paid(row, charges.rest))
 }
 
-fn say_charges(book: &[u8], user: RecordIndex) -> bool
+fn say_charges(rt: &HostRuntime, book: &[u8], user: RecordIndex) -> bool
     requires accepted { Accepted book.now }
     requires user_record { is_user book.now user.0 ≡ true }
 {
-    if !say_payment_headings() {
+    if !say_payment_headings(rt) {
         return false;
     }
     let charges = account_years::charges_of(book, user);
     let each = charges.each;
-    if !say_closed_payments(book, user, each) {
+    if !say_closed_payments(rt, book, user, each) {
         return false;
     }
-    if !say_open_payments(book, user, charges.open) {
+    if !say_open_payments(rt, book, user, charges.open) {
         return false;
     }
     let payments = account_years::payments_of(book, user, 0, account_years::LAST_NAMED_YEAR);
     let row = output::put_text(output::no_text(), b"all             ");
     let made = charges.made;
-    if !say_payments(row, OfEach::Charged(made), payments) {
+    if !say_payments(rt, row, OfEach::Charged(made), payments) {
         return false;
     }
-    say_charges_made(charges)
+    say_charges_made(rt, charges)
 }
 
-fn say_open_year(year: u64) -> bool {
-    say(output::put_number(output::put_text(output::no_text(), b"\nopen year "), year))
+fn say_open_year(rt: &HostRuntime, year: u64) -> bool {
+    say(
+        rt,
+        output::put_number(output::put_text(output::no_text(), b"\nopen year "), year),
+    )
 }
 
-fn say_advances(advances: Ticks) -> bool {
-    say(put_paid(
-        output::put_text(output::no_text(), b"all advances     "),
-        advances,
-    ))
+fn say_advances(rt: &HostRuntime, advances: Ticks) -> bool {
+    say(
+        rt,
+        put_paid(
+            output::put_text(output::no_text(), b"all advances     "),
+            advances,
+        ),
+    )
 }
 
-fn say_conserved(sum: Balance) -> bool {
-    say(put_balance(
-        output::put_text(output::no_text(), b"conserved sum    "),
-        sum,
-    ))
+fn say_conserved(rt: &HostRuntime, sum: Balance) -> bool {
+    say(
+        rt,
+        put_balance(
+            output::put_text(output::no_text(), b"conserved sum    "),
+            sum,
+        ),
+    )
 }
 
 // What is paid in all, and whether the account keeps its sum.
-fn say_rest(sums: Sums) -> bool
+fn say_rest(rt: &HostRuntime, sums: Sums) -> bool
     requires { Small sums }
 {
-    if !say_advances(sums.advances) {
+    if !say_advances(rt, sums.advances) {
         return false;
     }
-    if !say_conserved(account_conserved::conserved_sum(sums)) {
+    if !say_conserved(rt, account_conserved::conserved_sum(sums)) {
         return false;
     }
     if account_conserved::is_conserved(sums) {
-        return say_text(b"The sum holds: it is the value of the injected energy.");
+        return say_text(
+            rt,
+            b"The sum holds: it is the value of the injected energy.",
+        );
     }
-    say_text(b"The sum does not hold: it is not the value of the injected energy.")
+    say_text(
+        rt,
+        b"The sum does not hold: it is not the value of the injected energy.",
+    )
 }
 
-fn say_account(book: &[u8], user: RecordIndex) -> bool
+fn say_account(rt: &HostRuntime, book: &[u8], user: RecordIndex) -> bool
     requires accepted { Accepted book.now }
     requires user_record { is_user book.now user.0 ≡ true }
 {
-    if !say_headings() {
+    if !say_headings(rt) {
         return false;
     }
-    if !say_years(book, user) {
+    if !say_years(rt, book, user) {
         return false;
     }
     let sums = statements::statement_of(book, user);
-    if !say_totals(sums) {
+    if !say_totals(rt, sums) {
         return false;
     }
-    if !say_charges(book, user) {
+    if !say_charges(rt, book, user) {
         return false;
     }
-    if !say_open_year(sums.open_year) {
+    if !say_open_year(rt, sums.open_year) {
         return false;
     }
-    say_rest(sums)
+    say_rest(rt, sums)
 }
 
-fn answer_sound(book: &[u8], user: RecordIndex) -> bool
+fn answer_sound(rt: &HostRuntime, book: &[u8], user: RecordIndex) -> bool
     requires accepted { Accepted book.now }
     requires user_record { (user.0 ≢ 0) → is_user book.now user.0 ≡ true }
 {
     if user.0 == 0 {
-        say_text(b"refused 6")
+        say_text(rt, b"refused 6")
     } else {
-        say_account(book, user)
+        say_account(rt, book, user)
     }
 }
 
-fn answer(book: &[u8], number: UserNumber) -> bool {
+fn answer(rt: &HostRuntime, book: &[u8], number: UserNumber) -> bool {
     match check_book::find(book, number) {
-        Verdict::Length => say_text(b"refused 1"),
-        Verdict::Faulty(_) => say_text(b"refused 2"),
-        Verdict::Sound(user) => answer_sound(book, user),
+        Verdict::Length => say_text(rt, b"refused 1"),
+        Verdict::Faulty(_) => say_text(rt, b"refused 2"),
+        Verdict::Sound(user) => answer_sound(rt, book, user),
     }
 }
 
@@ -358,26 +379,27 @@ fn number_of(word: &[u8]) -> Asked {
     Asked::Account(UserNumber(value as u32))
 }
 
-fn request() -> Asked {
-    if os::arg_count() != 2 {
-        return Asked::Nothing;
-    }
+fn request(rt: &HostRuntime) -> Asked {
     let mut word = [0u8; 64];
-    let length = os::arg(1, &mut word);
-    number_of(&word[..length])
+    match rt.arg(1, &mut word) {
+        Ok(length) if !output::has_argument(rt, 2) => number_of(&word[..length]),
+        _ => Asked::Nothing,
+    }
 }
 
-fn main() {
-    let Asked::Account(number) = request() else {
+fn main(rt: HostRuntime) {
+    let Asked::Account(number) = request(&rt) else {
         output::tell_use(
+            &mut rt.stderr(),
             b"account: give one user number, 1 to 4294967295, and the book on standard input\n",
         );
         return;
     };
     let mut book = input::book_buffer();
-    let Input::Read(count) = input::read_book(&mut book) else {
-        os::fail(b"account: standard input");
-        return;
-    };
-    answer(text::front(&book, count), number);
+    match input::read_book(&mut rt.stdin(), &mut book) {
+        Input::Read(count) => {
+            answer(&rt, text::front(&book, count), number);
+        }
+        Input::Failed(e) => output::fail(&mut rt.stderr(), b"account: standard input", e),
+    }
 }

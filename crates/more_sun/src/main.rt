@@ -10,6 +10,7 @@ use input::Input;
 use output::Row;
 use sheet::Position;
 use sheet_more_sun::Addition;
+use std::rt::Env;
 
 // The width of the months, and of a column of kWh.
 const MONTH: usize = 5;
@@ -23,8 +24,13 @@ const SHEET: usize = sheet::LENGTH + 1;
 const PATH: usize = 4095;
 
 // What says something answers whether it was written.
-fn say(row: Row) -> bool {
-    output::write_row(b"more_sun: standard output", output::put(row, b'\n'))
+fn say(rt: &HostRuntime, row: Row) -> bool {
+    output::write_row(
+        &mut rt.stdout(),
+        &mut rt.stderr(),
+        b"more_sun: standard output",
+        output::put(row, b'\n'),
+    )
 }
 
 // A text at the right of a column.
@@ -59,17 +65,17 @@ fn bands_of(s: &[u8]) -> u32
     }
 }
 
-fn say_headings(bands: u32) -> bool {
+fn say_headings(rt: &HostRuntime, bands: u32) -> bool {
     let row = output::put_text(output::no_text(), b"month");
     if bands == 1 {
-        return say(put_right(row, b"single", WIDTH));
+        return say(rt, put_right(row, b"single", WIDTH));
     }
     let first = put_right(row, b"F1", WIDTH);
     let second = put_right(first, b"F2", WIDTH);
-    say(put_right(second, b"F3", WIDTH))
+    say(rt, put_right(second, b"F3", WIDTH))
 }
 
-fn say_month(book: &[u8], s: &[u8], month: u32, bands: u32) -> bool
+fn say_month(rt: &HostRuntime, book: &[u8], s: &[u8], month: u32, bands: u32) -> bool
     requires { bands ≤ 3 }
 {
     let mut row = put_number(output::no_text(), month, MONTH);
@@ -78,16 +84,16 @@ fn say_month(book: &[u8], s: &[u8], month: u32, bands: u32) -> bool
         let addition = answer.addition;
         row = put_addition(row, addition);
     }
-    say(row)
+    say(rt, row)
 }
 
-fn say_table(book: &[u8], s: &[u8]) -> bool {
+fn say_table(rt: &HostRuntime, book: &[u8], s: &[u8]) -> bool {
     let bands = bands_of(s);
-    if !say_headings(bands) {
+    if !say_headings(rt, bands) {
         return false;
     }
     for month in 0..12 {
-        if !say_month(book, s, month + 1, bands) {
+        if !say_month(rt, book, s, month + 1, bands) {
             return false;
         }
     }
@@ -95,44 +101,54 @@ fn say_table(book: &[u8], s: &[u8]) -> bool {
 }
 
 // After a 13 or 19 the month and the place of the number at fault are told too.
-fn say_refused(reply: Reply, position: Position) -> bool {
+fn say_refused(rt: &HostRuntime, reply: Reply, position: Position) -> bool {
     let row = output::put_text(output::no_text(), b"refused");
     let refused = output::put_field(row, reply.refusal as u64);
     if position.month == 0 {
-        return say(refused);
+        return say(rt, refused);
     }
     let month = output::put_field(refused, position.month as u64);
-    say(output::put_field(month, position.place as u64))
+    say(rt, output::put_field(month, position.place as u64))
 }
 
 // Every reading has the first band, so what is refused of it is refused of all.
-fn answer(book: &[u8], s: &[u8]) -> bool {
+fn answer(rt: &HostRuntime, book: &[u8], s: &[u8]) -> bool {
     let first = call_more_sun::more_sun(book, s, 1, 1);
     let reply = first.reply;
     if reply.refusal != 0 {
-        return say_refused(reply, first.position);
+        return say_refused(rt, reply, first.position);
     }
-    say_table(book, s)
+    say_table(rt, book, s)
 }
 
-fn main() {
-    let mut path = [0u8; PATH];
-    let length = os::arg(1, &mut path);
-    if (os::errno() != 0) | (os::arg_count() != 2) {
-        output::tell_use(
-            b"more_sun: give the file of a year sheet, and the book on standard input\n",
-        );
-        return;
-    }
+// The sheet whose file is named, and then the book on standard input.
+fn answer_files(rt: &HostRuntime, path: &[u8]) {
     let mut s = [0u8; SHEET];
-    let Input::Read(size) = input::read_file(&path[..length], &mut s) else {
-        os::fail(b"more_sun: sheet");
-        return;
+    let size = match input::read_file(rt, path, &mut s) {
+        Input::Read(size) => size,
+        Input::Failed(e) => {
+            output::fail(&mut rt.stderr(), b"more_sun: sheet", e);
+            return;
+        }
     };
     let mut book = input::book_buffer();
-    let Input::Read(count) = input::read_book(&mut book) else {
-        os::fail(b"more_sun: standard input");
-        return;
+    let count = match input::read_book(&mut rt.stdin(), &mut book) {
+        Input::Read(count) => count,
+        Input::Failed(e) => {
+            output::fail(&mut rt.stderr(), b"more_sun: standard input", e);
+            return;
+        }
     };
-    answer(text::front(&book, count), text::front(&s, size));
+    answer(rt, text::front(&book, count), text::front(&s, size));
+}
+
+fn main(rt: HostRuntime) {
+    let mut path = [0u8; PATH];
+    match rt.arg(1, &mut path) {
+        Ok(length) if !output::has_argument(&rt, 2) => answer_files(&rt, &path[..length]),
+        _ => output::tell_use(
+            &mut rt.stderr(),
+            b"more_sun: give the file of a year sheet, and the book on standard input\n",
+        ),
+    }
 }

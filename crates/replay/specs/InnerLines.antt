@@ -22,14 +22,14 @@ is_whole found.Whole = true
 is_whole found.Long = false
 is_whole found.Half = false
 is_whole found.End = false
-is_whole found.Failed = false
+is_whole (found.Failed e) = false
 
 abbrev pub is_last : Found → Bool
 is_last found.Whole = false
 is_last found.Long = false
 is_last found.Half = true
 is_last found.End = true
-is_last found.Failed = true
+is_last (found.Failed e) = true
 
 pub record FoundDone (f : Found) (line before after : List ℕ) (len : ℕ) (r : Step) : Type 0 where
   pub within : r.len ≤ length after

@@ -39,16 +39,31 @@ struct Step {
 }
 
 // What says something answers whether it was written.
-fn say_text(bytes: &[u8]) -> bool {
-    output::write(b"replay: standard output", bytes)
+fn say_text(rt: &HostRuntime, bytes: &[u8]) -> bool {
+    output::write(
+        &mut rt.stdout(),
+        &mut rt.stderr(),
+        b"replay: standard output",
+        bytes,
+    )
 }
 
-fn say_error() -> bool {
-    say_text(b"error\n")
+fn say_error(rt: &HostRuntime) -> bool {
+    say_text(rt, b"error\n")
 }
 
-fn say(row: Row) -> bool {
-    output::write_row(b"replay: standard output", output::put(row, b'\n'))
+// A row that ends no line.
+fn say_row(rt: &HostRuntime, row: Row) -> bool {
+    output::write_row(
+        &mut rt.stdout(),
+        &mut rt.stderr(),
+        b"replay: standard output",
+        row,
+    )
+}
+
+fn say(rt: &HostRuntime, row: Row) -> bool {
+    say_row(rt, output::put(row, b'\n'))
 }
 
 fn put_balance(row: Row, balance: Balance) -> Row {
@@ -67,26 +82,32 @@ fn refusal_of(reply: Reply) -> Row {
 }
 
 // What an enrolment or a charge answers. After a 2 the record stands in the place of the values, whatever the call.
-fn say_record(reply: Reply) -> bool {
-    say(output::put_field(refusal_of(reply), reply.record.0 as u64))
+fn say_record(rt: &HostRuntime, reply: Reply) -> bool {
+    say(
+        rt,
+        output::put_field(refusal_of(reply), reply.record.0 as u64),
+    )
 }
 
-fn say_fresh(refusal: u32) -> bool {
-    say(output::put_number(output::no_text(), refusal as u64))
+fn say_fresh(rt: &HostRuntime, refusal: u32) -> bool {
+    say(rt, output::put_number(output::no_text(), refusal as u64))
 }
 
-fn say_elected(reply: Reply) -> bool {
+fn say_elected(rt: &HostRuntime, reply: Reply) -> bool {
     if reply.refusal == 2 {
-        return say_record(reply);
+        return say_record(rt, reply);
     }
-    say(refusal_of(reply))
+    say(rt, refusal_of(reply))
 }
 
-fn say_advanced(answer: Advanced) -> bool {
+fn say_advanced(rt: &HostRuntime, answer: Advanced) -> bool {
     if answer.reply.refusal == 2 {
-        return say_record(answer.reply);
+        return say_record(rt, answer.reply);
     }
-    say(output::put_field(refusal_of(answer.reply), answer.ticks.0))
+    say(
+        rt,
+        output::put_field(refusal_of(answer.reply), answer.ticks.0),
+    )
 }
 
 fn put_closing(row: Row, sums: ClosingSums) -> Row {
@@ -105,14 +126,14 @@ fn put_position(row: Row, position: Position) -> Row {
 }
 
 // After a 13 or 19 the month and the place of the number at fault stand in the place of the values.
-fn say_closed(answer: Closed) -> bool {
+fn say_closed(rt: &HostRuntime, answer: Closed) -> bool {
     if answer.reply.refusal == 2 {
-        return say_record(answer.reply);
+        return say_record(rt, answer.reply);
     }
     if answer.position.month != 0 {
-        return say(put_position(refusal_of(answer.reply), answer.position));
+        return say(rt, put_position(refusal_of(answer.reply), answer.position));
     }
-    say(put_closing(refusal_of(answer.reply), answer.sums))
+    say(rt, put_closing(refusal_of(answer.reply), answer.sums))
 }
 
 fn put_sums(row: Row, sums: Sums) -> Row {
@@ -129,36 +150,36 @@ fn put_sums(row: Row, sums: Sums) -> Row {
     output::put_field(longer, sums.closed_advances.0)
 }
 
-fn say_stated(answer: Stated) -> bool {
+fn say_stated(rt: &HostRuntime, answer: Stated) -> bool {
     if answer.reply.refusal == 2 {
-        return say_record(answer.reply);
+        return say_record(rt, answer.reply);
     }
-    say(put_sums(refusal_of(answer.reply), answer.sums))
+    say(rt, put_sums(refusal_of(answer.reply), answer.sums))
 }
 
 // Prints bytes in hexadecimal, behind what stands in `out` up to a place.
-fn say_hex(bytes: &[u8], out: &mut [u8], at: usize) -> bool
+fn say_hex(rt: &HostRuntime, bytes: &[u8], out: &mut [u8], at: usize) -> bool
     requires { at + 2 * length bytes.now + 1 ≤ length out.old }
 {
     let end = at + text::hex_to(bytes, &mut out[at..]);
     out[end] = b'\n';
-    say_text(text::front(out, end + 1))
+    say_text(rt, text::front(out, end + 1))
 }
 
 // Prints the listing, by way of `out`, which has room for every listing.
-fn list(book: &[u8], out: &mut [u8]) -> bool {
+fn list(rt: &HostRuntime, book: &[u8], out: &mut [u8]) -> bool {
     let Listed::Written(count) = listing_text::listing_of(book, out) else {
         return false;
     };
-    say_text(text::front(out, count))
+    say_text(rt, text::front(out, count))
 }
 
-fn close_year(book: &mut [u8], line: &[u8], at: usize) -> bool {
+fn close_year(rt: &HostRuntime, book: &mut [u8], line: &[u8], at: usize) -> bool {
     let mut sheet = io::large_buffer();
     let Bytes::Read(count) = text::hex_from(line, at, &mut sheet) else {
-        return say_error();
+        return say_error(rt);
     };
-    say_closed(call_close::close(book, text::front(&sheet, count)))
+    say_closed(rt, call_close::close(book, text::front(&sheet, count)))
 }
 
 // 1 and the least addition, or zeros where there is none.
@@ -169,25 +190,35 @@ fn put_addition(row: Row, addition: Addition) -> Row {
     }
 }
 
-fn say_more_sun(answer: MoreSun) -> bool {
+fn say_more_sun(rt: &HostRuntime, answer: MoreSun) -> bool {
     if answer.reply.refusal == 2 {
-        return say_record(answer.reply);
+        return say_record(rt, answer.reply);
     }
     if answer.position.month != 0 {
-        return say(put_position(refusal_of(answer.reply), answer.position));
+        return say(rt, put_position(refusal_of(answer.reply), answer.position));
     }
     let addition = answer.addition;
-    say(put_addition(refusal_of(answer.reply), addition))
+    say(rt, put_addition(refusal_of(answer.reply), addition))
 }
 
 // Asks how much more sun the user of a sheet needs.
-fn ask_more_sun(book: &[u8], line: &[u8], digits: Digits, month: u32, band: u32) -> bool {
+fn ask_more_sun(
+    rt: &HostRuntime,
+    book: &[u8],
+    line: &[u8],
+    digits: Digits,
+    month: u32,
+    band: u32,
+) -> bool {
     let mut sheet = io::large_buffer();
     let Bytes::Read(count) = text::hex_from(text::front(line, digits.to), digits.from, &mut sheet)
     else {
-        return say_error();
+        return say_error(rt);
     };
-    say_more_sun(call_more_sun::more_sun(book, text::front(&sheet, count), month, band))
+    say_more_sun(
+        rt,
+        call_more_sun::more_sun(book, text::front(&sheet, count), month, band),
+    )
 }
 
 // The number of an accepted call, and a blank.
@@ -199,36 +230,36 @@ fn put_accepted(out: &mut [u8])
 }
 
 // Prints the number of an answer, and of an accepted one the buffer after it, by way of `out`.
-fn say_buffer(refusal: u32, buffer: &[u8], out: &mut [u8]) -> bool
+fn say_buffer(rt: &HostRuntime, refusal: u32, buffer: &[u8], out: &mut [u8]) -> bool
     requires { 2 * length buffer.now + 3 ≤ length out.old }
 {
     if refusal != 0 {
-        return say_fresh(refusal);
+        return say_fresh(rt, refusal);
     }
     put_accepted(out);
-    say_hex(buffer, out, 2)
+    say_hex(rt, buffer, out, 2)
 }
 
 // After a 17 the line, and after a 13 the month and the place stand in the place of the values.
-fn say_read(read: Read, sheet: &[u8], out: &mut [u8]) -> bool
+fn say_read(rt: &HostRuntime, read: Read, sheet: &[u8], out: &mut [u8]) -> bool
     requires { 2 * length sheet.now + 3 ≤ length out.old }
 {
     let number = output::put_number(output::no_text(), read.refusal as u64);
     if read.line != 0 {
-        return say(output::put_field(number, read.line as u64));
+        return say(rt, output::put_field(number, read.line as u64));
     }
     if read.month != 0 {
         let position = Position {
             month: read.month,
             place: read.place,
         };
-        return say(put_position(number, position));
+        return say(rt, put_position(number, position));
     }
-    say_buffer(read.refusal, sheet, out)
+    say_buffer(rt, read.refusal, sheet, out)
 }
 
 // Prints the number and the length, and of an accepted call the buffer after it.
-fn say_written(written: Written, buffer: &[u8], out: &mut [u8]) -> bool
+fn say_written(rt: &HostRuntime, written: Written, buffer: &[u8], out: &mut [u8]) -> bool
     requires { 2 * length buffer.now + 3 ≤ length out.old }
 {
     let number = output::put_number(output::no_text(), written.refusal as u64);
@@ -237,16 +268,16 @@ fn say_written(written: Written, buffer: &[u8], out: &mut [u8]) -> bool
             month: written.month,
             place: written.place,
         };
-        return say(put_position(number, position));
+        return say(rt, put_position(number, position));
     }
     let row = output::put_field(number, written.length as u64);
     if written.refusal != 0 {
-        return say(row);
+        return say(rt, row);
     }
-    if !output::write_row(b"replay: standard output", output::put(row, b' ')) {
+    if !say_row(rt, output::put(row, b' ')) {
         return false;
     }
-    say_hex(buffer, out, 0)
+    say_hex(rt, buffer, out, 0)
 }
 
 // What is made of two words of bytes, the second of them lent.
@@ -258,44 +289,51 @@ enum Work {
     Write,
 }
 
-fn work_on(work: Work, source: &[u8], lent: &mut [u8], out: &mut [u8]) -> bool
+fn work_on(rt: &HostRuntime, work: Work, source: &[u8], lent: &mut [u8], out: &mut [u8]) -> bool
     requires { 2 * length lent.old + 3 ≤ length out.old }
 {
     match work {
         Work::Archive => {
             let refusal = sheet_archive::archive(source, lent);
-            say_buffer(refusal, lent, out)
+            say_buffer(rt, refusal, lent, out)
         }
         Work::Restore => {
             let refusal = sheet_archive::restore(source, lent);
-            say_buffer(refusal, lent, out)
+            say_buffer(rt, refusal, lent, out)
         }
         Work::Read => {
             let read = sheet_text::read_measures(lent, source);
-            say_read(read, lent, out)
+            say_read(rt, read, lent, out)
         }
         Work::Write => {
             let written = sheet_text::write_measures(source, lent);
-            say_written(written, lent, out)
+            say_written(rt, written, lent, out)
         }
     }
 }
 
 // A sheet to its archive or back, or a sheet to the operator's text or back, into a buffer that holds a word's bytes.
-fn rearrange(line: &[u8], source: Digits, buffer: Digits, work: Work, out: &mut [u8]) -> bool
+fn rearrange(
+    rt: &HostRuntime,
+    line: &[u8],
+    source: Digits,
+    buffer: Digits,
+    work: Work,
+    out: &mut [u8],
+) -> bool
     requires { 2 * longest_book + 257 ≤ length out.old }
 {
     let mut from = io::large_buffer();
     let Bytes::Read(read) = text::hex_from(text::front(line, source.to), source.from, &mut from)
     else {
-        return say_error();
+        return say_error(rt);
     };
     let mut to = io::large_buffer();
     let Bytes::Read(room) = text::hex_from(text::front(line, buffer.to), buffer.from, &mut to)
     else {
-        return say_error();
+        return say_error(rt);
     };
-    work_on(work, &from[..read], &mut to[..room], out)
+    work_on(rt, work, &from[..read], &mut to[..room], out)
 }
 
 fn put_rests(row: Row, rests: Rests) -> Row {
@@ -326,34 +364,34 @@ fn put_front(row: Row, out: &mut [u8]) -> usize
 
 // Prints the number of an answer and the rests, and of an accepted call the sheet after it, by way of `out`. After a 13 the month
 // and the place of the reading at fault stand in the place of the values.
-fn say_raised(answer: Raised, sheet: &[u8], out: &mut [u8]) -> bool
+fn say_raised(rt: &HostRuntime, answer: Raised, sheet: &[u8], out: &mut [u8]) -> bool
     requires { 2 * length sheet.now + 257 ≤ length out.old }
 {
     let number = output::put_number(output::no_text(), answer.refusal as u64);
     let position = answer.position;
     if position.month != 0 {
-        return say(put_position(number, position));
+        return say(rt, put_position(number, position));
     }
     let row = put_rests(number, answer.rests);
     if answer.refusal != 0 {
-        return say(row);
+        return say(rt, row);
     }
     let at = put_front(output::put(row, b' '), out);
-    say_hex(sheet, out, at)
+    say_hex(rt, sheet, out, at)
 }
 
 // Raises the injected readings of the sheet that the word's bytes are.
-fn raise(line: &[u8], word: Digits, factor: u32, out: &mut [u8]) -> bool
+fn raise(rt: &HostRuntime, line: &[u8], word: Digits, factor: u32, out: &mut [u8]) -> bool
     requires { 2 * longest_book + 257 ≤ length out.old }
 {
     let mut sheet = io::large_buffer();
     let Bytes::Read(count) = text::hex_from(text::front(line, word.to), word.from, &mut sheet)
     else {
-        return say_error();
+        return say_error(rt);
     };
     let lent = &mut sheet[..count];
     let raised = sheet_losses::raise(lent, factor);
-    say_raised(raised, lent, out)
+    say_raised(rt, raised, lent, out)
 }
 
 fn new_book(buffer: &mut [u8], len: usize) -> usize
@@ -366,12 +404,12 @@ fn new_book(buffer: &mut [u8], len: usize) -> usize
     len
 }
 
-fn load_book(buffer: &mut [u8], len: usize, line: &[u8], at: usize) -> Step
+fn load_book(rt: &HostRuntime, buffer: &mut [u8], len: usize, line: &[u8], at: usize) -> Step
     requires { len ≤ length buffer.old }
     ensures { result.len ≤ length buffer.new }
 {
     let Bytes::Read(count) = text::hex_from(line, at, buffer) else {
-        let more = say_error();
+        let more = say_error(rt);
         return Step { len, more };
     };
     Step {
@@ -381,12 +419,12 @@ fn load_book(buffer: &mut [u8], len: usize, line: &[u8], at: usize) -> Step
 }
 
 // Makes a call, on the book or on sheets, and prints its answer.
-fn call(request: Request, line: &[u8], book: &mut [u8], out: &mut [u8]) -> bool
+fn call(rt: &HostRuntime, request: Request, line: &[u8], book: &mut [u8], out: &mut [u8]) -> bool
     requires text_room { 2 * length book.old + 1 ≤ length out.old }
     requires text_room { 2 * longest_book + 257 ≤ length out.old }
 {
     match request {
-        Request::Fresh => say_fresh(check_book::fresh(book)),
+        Request::Fresh => say_fresh(rt, check_book::fresh(book)),
         Request::Enrol {
             number,
             class,
@@ -405,7 +443,10 @@ fn call(request: Request, line: &[u8], book: &mut [u8], out: &mut [u8]) -> bool
                 month,
                 island,
             };
-            say_record(call_enrol::enrol(book, UserNumber(number), details, option))
+            say_record(
+                rt,
+                call_enrol::enrol(book, UserNumber(number), details, option),
+            )
         }
         Request::Elect {
             number,
@@ -413,7 +454,12 @@ fn call(request: Request, line: &[u8], book: &mut [u8], out: &mut [u8]) -> bool
             year,
             month,
             day,
-        } => { say_elected(call_elect::elect(book, UserNumber(number), option, year, month, day)) }
+        } => {
+            say_elected(
+                rt,
+                call_elect::elect(book, UserNumber(number), option, year, month, day),
+            )
+        }
         Request::Advance {
             number,
             year,
@@ -422,50 +468,62 @@ fn call(request: Request, line: &[u8], book: &mut [u8], out: &mut [u8]) -> bool
             estimate1,
             estimate2,
         } => {
-            say_advanced(call_advance::advance(
-                book,
-                UserNumber(number),
-                year,
-                run,
-                Rate(rate),
-                WideKwh(estimate1),
-                WideKwh(estimate2),
-            ))
+            say_advanced(
+                rt,
+                call_advance::advance(
+                    book,
+                    UserNumber(number),
+                    year,
+                    run,
+                    Rate(rate),
+                    WideKwh(estimate1),
+                    WideKwh(estimate2),
+                ),
+            )
         }
-        Request::Close(at) => close_year(book, line, at),
-        Request::Charge(number) => say_record(call_charge::charge(book, UserNumber(number))),
-        Request::Statement(number) => say_stated(call_statement::statement(
-            book,
-            UserNumber(number),
-        )),
-        Request::Archive { sheet, buffer } => rearrange(line, sheet, buffer, Work::Archive, out),
+        Request::Close(at) => close_year(rt, book, line, at),
+        Request::Charge(number) => say_record(rt, call_charge::charge(book, UserNumber(number))),
+        Request::Statement(number) => say_stated(
+            rt,
+            call_statement::statement(book, UserNumber(number)),
+        ),
+        Request::Archive { sheet, buffer } => rearrange(
+            rt,
+            line,
+            sheet,
+            buffer,
+            Work::Archive,
+            out,
+        ),
         Request::Restore { archive, buffer } => rearrange(
+            rt,
             line,
             archive,
             buffer,
             Work::Restore,
             out,
         ),
-        Request::Raise { sheet, factor } => raise(line, sheet, factor, out),
-        Request::ReadMeasures { sheet, text } => rearrange(line, text, sheet, Work::Read, out),
+        Request::Raise { sheet, factor } => raise(rt, line, sheet, factor, out),
+        Request::ReadMeasures { sheet, text } => rearrange(rt, line, text, sheet, Work::Read, out),
         Request::WriteMeasures { sheet, buffer } => rearrange(
+            rt,
             line,
             sheet,
             buffer,
             Work::Write,
             out,
         ),
-        Request::MoreSun { sheet, month, band } => ask_more_sun(book, line, sheet, month, band),
-        Request::Dump => say_hex(book, out, 0),
-        Request::List => list(book, out),
-        Request::New(_) => say_error(),
-        Request::Load(_) => say_error(),
-        Request::Wrong => say_error(),
+        Request::MoreSun { sheet, month, band } => ask_more_sun(rt, book, line, sheet, month, band),
+        Request::Dump => say_hex(rt, book, out, 0),
+        Request::List => list(rt, book, out),
+        Request::New(_) => say_error(rt),
+        Request::Load(_) => say_error(rt),
+        Request::Wrong => say_error(rt),
     }
 }
 
 // Does what a line asks on the book in the first `len` bytes of the buffer.
-fn answer(line: &[u8], buffer: &mut [u8], len: usize, out: &mut [u8]) -> Step
+fn answer(rt: &HostRuntime, line: &[u8], buffer: &mut [u8], len: usize, out: &mut [u8]) -> Step
     requires buffer_room { (longest_book ≤ length buffer.old) × (len ≤ length buffer.old) }
     requires text_room { 2 * length buffer.old + 257 ≤ length out.old }
     ensures { LineDone line.now buffer.old buffer.new len result.len }
@@ -476,55 +534,62 @@ fn answer(line: &[u8], buffer: &mut [u8], len: usize, out: &mut [u8]) -> Step
             len: new_book(buffer, n),
             more: true,
         },
-        Request::Load(at) => load_book(buffer, len, line, at),
+        Request::Load(at) => load_book(rt, buffer, len, line, at),
         Request::Wrong => Step {
             len,
-            more: say_error(),
+            more: say_error(rt),
         },
         _ => Step {
             len,
-            more: call(request, line, &mut buffer[..len], out),
+            more: call(rt, request, line, &mut buffer[..len], out),
         },
     }
 }
 
 // Answers what was found where a line was looked for. Only a whole line is made a call.
-fn answer_found(found: Found, line: &[u8], buffer: &mut [u8], len: usize, out: &mut [u8]) -> Step
+fn answer_found(
+    rt: &HostRuntime,
+    found: Found,
+    line: &[u8],
+    buffer: &mut [u8],
+    len: usize,
+    out: &mut [u8],
+) -> Step
     requires buffer_room { (longest_book ≤ length buffer.old) × (len ≤ length buffer.old) }
     requires text_room { 2 * length buffer.old + 257 ≤ length out.old }
     ensures { FoundDone found line.now buffer.old buffer.new len result }
 {
     match found {
-        Found::Whole => answer(line, buffer, len, out),
+        Found::Whole => answer(rt, line, buffer, len, out),
         Found::Long => Step {
             len,
-            more: say_error(),
+            more: say_error(rt),
         },
         Found::Half => {
-            say_error();
+            say_error(rt);
             Step { len, more: false }
         }
         Found::End => Step { len, more: false },
-        Found::Failed => {
-            os::fail(b"replay: standard input");
+        Found::Failed(e) => {
+            output::fail(&mut rt.stderr(), b"replay: standard input", e);
             Step { len, more: false }
         }
     }
 }
 
 // A proved loop has to end, so the lines are counted to a number that no input reaches.
-fn run(held: &mut [u8], buffer: &mut [u8], out: &mut [u8])
+fn run(rt: &HostRuntime, held: &mut [u8], buffer: &mut [u8], out: &mut [u8])
     requires buffer_room { longest_book ≤ length buffer.old }
     requires text_room { 2 * length buffer.old + 257 ≤ length out.old }
 {
     let mut line = input::start();
     let mut len = 0;
     for turn in 0..u64::MAX {
-        line = input::next_line(held, line);
+        line = input::next_line(&mut rt.stdin(), held, line);
         let found = line.found;
         let from = line.from;
         let to = line.to;
-        let step = answer_found(found, &held[from..to], buffer, len, out);
+        let step = answer_found(rt, found, &held[from..to], buffer, len, out);
         if !step.more {
             return;
         }
@@ -532,9 +597,10 @@ fn run(held: &mut [u8], buffer: &mut [u8], out: &mut [u8])
     }
 }
 
-fn main() {
-    if 1 < os::arg_count() {
+fn main(rt: HostRuntime) {
+    if output::has_argument(&rt, 1) {
         output::tell_use(
+            &mut rt.stderr(),
             b"replay: give the lines of a script on standard input, and no argument\n",
         );
         return;
@@ -542,5 +608,5 @@ fn main() {
     let mut held = input::line_buffer();
     let mut buffer = io::large_buffer();
     let mut out = [0u8; ANSWER];
-    run(&mut held, &mut buffer, &mut out);
+    run(&rt, &mut held, &mut buffer, &mut out);
 }
