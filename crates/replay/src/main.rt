@@ -420,7 +420,7 @@ fn load_book(rt: &HostRuntime, buffer: &mut [u8], len: usize, line: &[u8], at: u
 
 // Makes a call, on the book or on sheets, and prints its answer.
 fn call(rt: &HostRuntime, request: Request, line: &[u8], book: &mut [u8], out: &mut [u8]) -> bool
-    requires text_room { 2 * length book.old + 1 ≤ length out.old }
+    requires book_room { 2 * length book.old + 1 ≤ length out.old }
     requires text_room { 2 * longest_book + 257 ≤ length out.old }
 {
     match request {
