@@ -1,5 +1,5 @@
 -- The parts of the amount one after the other.
-use Rattle.std.proofs.Common.{◌/◌, sym, refl, arith, length-take-le, rules}
+use Rattle.std.proofs.Common.{◌/◌, sym, refl, arith, length-take-le}
 use Rattle.decimals.proofs.Written.{number-front}
 use Rattle.account.specs.Amounts.{ticks_per_euro}
 use Rattle.account.proofs.Parts.{digits-fit, amount-joined}

@@ -1,6 +1,5 @@
 -- The digits one after the other.
 use Rattle.output.proofs.Joins.{joined-on}
-use Rattle.std.proofs.Common.{rules}
 use Rattle.account.proofs.put_decimals.Goals as goal
 
 pub returns : goal.returns

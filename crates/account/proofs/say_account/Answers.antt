@@ -1,0 +1,8 @@
+-- The sums of a sound book are small.
+use Rattle.account.proofs.Users.{sums-fit}
+use Rattle.account.proofs.say_account.Goals as goal
+
+pub say_rest-requires : goal.say_rest-requires
+say_rest-requires c =
+    let sums = c.statement_of-sums in
+    sums-fit c.args.book.now c.requires.accepted c.args.user.0 c.requires.user_record sums.result sums.ensures

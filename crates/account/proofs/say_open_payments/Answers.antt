@@ -1,0 +1,12 @@
+-- The open year is 2100 at the latest.
+use Rattle.std.proofs.Common.{arith}
+use Rattle.account.proofs.Users.{year-fits}
+use Rattle.account.proofs.say_open_payments.Goals as goal
+
+pub overflow_add-later : goal.overflow_add-later
+overflow_add-later c =
+    omega (
+      arith,
+      year-fits c.args.book.now c.requires.accepted c.args.user.0 c.requires.user_record c.open_year_of-open.result
+          c.open_year_of-open.ensures,
+    )
