@@ -64,8 +64,7 @@ passed-line a m b held s to more r e high size f unfed p q =
     let parts = line-parts held 0 to more (omega arith) high size f.feed in
     let last = taken-held m b (line ++ (10 ∷ [])) rest (subst (Consumes m b) parts q) in
     let all = Consumes-trans a m (prepend_known rest b) s (line ++ (10 ∷ [])) p last in
-    rw e
-    (
+    rw e (
       s ++ line,
       both-unfed s line unfed (part-unfed held 0 to (omega arith) f.none),
       subst (Consumes a (prepend_known rest b)) (sym (append_assoc s line (10 ∷ []))) all,
@@ -150,8 +149,8 @@ rest-front before middle from to kept low size count fits rest =
     let most = length-take-le to before size in
     ext_get_or 0 (take kept middle) (drop from (take to before)) (omega arith)
     (λ i l.
-      get_or-take kept middle i 0 (omega arith) ∙ rest.front i (omega arith)
-      ∙ sym (get_or-drop from (take to before) i 0 ∙ get_or-take to before (from + i) 0 (omega arith)))
+    get_or-take kept middle i 0 (omega arith) ∙ rest.front i (omega arith)
+    ∙ sym (get_or-drop from (take to before) i 0 ∙ get_or-take to before (from + i) 0 (omega arith)))
 
 -- a line that was held
 pub line-after : (held : List ℕ) (left : Option (List ℕ)) (line : Line) (to : ℕ) (r : Line) → r ≡ line_at found.Whole line.next to line.filled

@@ -323,3 +323,131 @@ pub fn next_line<R: io::Read>(from: &mut R, held: &mut [u8], line: Line) -> Line
     let kept = keep_rest(held, next, filled);
     read_line(from, held, kept)
 }
+
+#[cfg(test)]
+mod tests {
+    use super::*;
+
+    // A reader of some bytes: it gives a few at a time and is interrupted before each time, and fails behind them or ends.
+    #[derive(Drop)]
+    struct Feed<'a> {
+        rest: &'a [u8],
+        most: usize,
+        fails: bool,
+        is_interrupted: bool,
+    }
+
+    fn give(rest: &[u8], most: usize, fails: bool) -> Feed<'_> {
+        Feed {
+            rest,
+            most,
+            fails,
+            is_interrupted: false,
+        }
+    }
+
+    impl io::Read for Feed<'_> {
+        fn read(&mut self, buf: &mut [u8]) -> io::Result<usize> {
+            self.is_interrupted = !self.is_interrupted;
+            if self.is_interrupted {
+                return Err(io::Error::from(io::ErrorKind::Interrupted));
+            }
+            if self.rest.is_empty() & self.fails {
+                return Err(io::Error::from_raw_os_error(5));
+            }
+            let count = self.most.min(buf.len()).min(self.rest.len());
+            for k in 0..count {
+                buf[k] = self.rest[k];
+            }
+            self.rest = &self.rest[count..];
+            Ok(count)
+        }
+    }
+
+    #[test]
+    fn a_book_is_read_in_pieces(rt: HostRuntime) {
+        let mut held = [0u8; 8];
+        let read = read_book(&mut give(b"abcdefg", 3, false), &mut held);
+        assert!(rt; matches!(read, Input::Read(7)));
+        assert_eq!(rt; held.as_slice(), b"abcdefg\0".as_slice());
+        let mut from = give(b"ABCDEFGHIJ", 3, true);
+        assert!(rt; matches!(read_book(&mut from, &mut held), Input::Read(8)));
+        assert_eq!(rt; held.as_slice(), b"ABCDEFGH".as_slice());
+        assert_eq!(rt; from.rest, b"IJ".as_slice());
+    }
+
+    #[test]
+    fn a_failure_after_some_bytes_is_told(rt: HostRuntime) {
+        let mut held = [0u8; 8];
+        let Input::Failed(error) = read_book(&mut give(b"abc", 2, true), &mut held) else {
+            assert!(rt; false, "it was read");
+            return;
+        };
+        assert_eq!(rt; error.raw_os_error(), Some(5));
+        assert_eq!(rt; held.as_slice(), b"abc\0\0\0\0\0".as_slice());
+    }
+
+    #[test]
+    fn lines_come_in_order(rt: HostRuntime) {
+        let mut from = give(b"ab\n\n1234567\n12345678\n123456789012\nc\nd", 5, false);
+        let mut held = [0u8; 8];
+        let mut line = next_line(&mut from, &mut held, start());
+        assert!(rt; matches!(line.found, Found::Whole));
+        assert_eq!(rt; &held[line.from..line.to], b"ab".as_slice());
+        line = next_line(&mut from, &mut held, line);
+        assert!(rt; matches!(line.found, Found::Whole));
+        assert_eq!(rt; line.from, line.to);
+        line = next_line(&mut from, &mut held, line);
+        assert!(rt; matches!(line.found, Found::Whole));
+        assert_eq!(rt; &held[line.from..line.to], b"1234567".as_slice());
+        line = next_line(&mut from, &mut held, line);
+        assert!(rt; matches!(line.found, Found::Long));
+        line = next_line(&mut from, &mut held, line);
+        assert!(rt; matches!(line.found, Found::Long));
+        line = next_line(&mut from, &mut held, line);
+        assert!(rt; matches!(line.found, Found::Whole));
+        assert_eq!(rt; &held[line.from..line.to], b"c".as_slice());
+        line = next_line(&mut from, &mut held, line);
+        assert!(rt; matches!(line.found, Found::Half));
+        line = next_line(&mut from, &mut held, line);
+        assert!(rt; matches!(line.found, Found::End));
+    }
+
+    #[test]
+    fn a_failure_within_a_line_is_told(rt: HostRuntime) {
+        let mut from = give(b"a\nbc", 3, true);
+        let mut held = [0u8; 8];
+        let mut line = next_line(&mut from, &mut held, start());
+        assert!(rt; matches!(line.found, Found::Whole));
+        assert_eq!(rt; &held[line.from..line.to], b"a".as_slice());
+        line = next_line(&mut from, &mut held, line);
+        let Found::Failed(error) = line.found else {
+            assert!(rt; false, "a line was found");
+            return;
+        };
+        assert_eq!(rt; error.raw_os_error(), Some(5));
+        assert_eq!(rt; line.from, line.filled);
+    }
+
+    // The kind of the failure of a file that cannot be read.
+    fn failure(rt: &HostRuntime, path: &[u8]) -> Option<io::ErrorKind> {
+        let mut held = [0u8; 8];
+        match read_file(rt, path, &mut held) {
+            Input::Failed(error) => Some(error.kind()),
+            Input::Read(_) => None,
+        }
+    }
+
+    #[test]
+    fn files_are_read_by_their_names(rt: HostRuntime) {
+        let mut held = [7u8; 4];
+        assert!(rt; matches!(read_file(&rt, b"/dev/null", &mut held), Input::Read(0)));
+        assert_eq!(rt; held.as_slice(), [7, 7, 7, 7].as_slice());
+        assert!(rt; matches!(read_file(&rt, b"/dev/zero", &mut held), Input::Read(4)));
+        assert_eq!(rt; held.as_slice(), [0, 0, 0, 0].as_slice());
+        assert!(rt; failure(&rt, b"/") == Some(io::ErrorKind::IsADirectory));
+        assert!(rt; failure(&rt, b"") == Some(io::ErrorKind::NotFound));
+        assert!(rt; failure(&rt, b"/no/such/file") == Some(io::ErrorKind::NotFound));
+        assert!(rt; failure(&rt, b"/dev/\xff") == Some(io::ErrorKind::InvalidFilename));
+    }
+}

@@ -8,4 +8,4 @@ abbrev pub invariant-loop-turn : goal.invariant-loop-turn
 invariant-loop-turn g l =
     Reading l.initial.held l.kept l.held l.filled
     × Keeps (prepend_known (take l.kept l.initial.held) (g.R.Read.remaining l.initial.from))
-        (prepend_known (take l.filled l.held) (g.R.Read.remaining l.from))
+    (prepend_known (take l.filled l.held) (g.R.Read.remaining l.from))
