@@ -1,9 +1,8 @@
 -- What is held of a line: no line feed in it, one after it.
-use Prim.Native.Nat.{ℕ, zero, suc, ◌+◌, ◌-◌, ◌≤◌, ◌<◌}
+use Prim.Native.Nat.{ℕ, ◌+◌, ◌-◌, ◌≤◌, ◌<◌}
 use mathlib.Core.Path.{◌≡◌, refl, sym, ap, ◌∙◌}
 use mathlib.Core.List.{List}
 use native.Mathlib.Omega.{arith}
-use borrow.Author.Tests.{ne_eqb}
 use lib.ListN.{length, get_or, take}
 use lib.Seq.{get_or-take, length-take-le}
 use Rattle.input.specs.declared.Line.{Line}
@@ -11,8 +10,8 @@ use Rattle.input.specs.declared.Read.{Read}
 use Rattle.input.specs.declared.Found.{Found}
 use Rattle.input.specs.declared.Found.TheVariants as found
 use Rattle.input.specs.Input.{ReadOn}
-use Rattle.input.proofs.Repeated.{Longer, nothing_read, more-read, front_kept}
-use Rattle.input.specs.InnerLines.{NoFeed, LineEnd, RestKept, nothing_held, line_at, at_end, LineHeld, FoundPassed, LinePassed, FoundRead, LineRead, FoundAfter, LineAfter}
+use Rattle.input.proofs.Repeated.{Longer, more-read, front_kept}
+use Rattle.input.specs.InnerLines.{NoFeed, LineEnd, RestKept, nothing_held, line_at, LineHeld, FoundRead, LineRead, FoundAfter, LineAfter}
 
 -- the end of a line among the first n bytes
 pub record Fed (held : List ℕ) (from to : ℕ) : Type 0 where
@@ -47,27 +46,10 @@ line-is-held : (held : List ℕ) (f : Found) (from to filled : ℕ) → from ≤
     → LineHeld held (line_at f from to filled)
 line-is-held held f from to filled a b c = record { from = a; to = omega arith; next = omega arith; filled = c }
 
-pub passed-nothing : (before after : List ℕ) (f : Found) (r : Line) → r ≡ nothing_held f → length after ≡ length before
-    → FoundPassed after (nothing_held f) f → LinePassed before after r
-passed-nothing before after f r e same p = rw e (record { same = same; held = nothing-is-held after f; found = p })
-
-pub passed-fed : (before after : List ℕ) (to filled : ℕ) (r : Line) → r ≡ line_at found.Long to to filled → length after ≡ length before
-    → to < filled → filled ≤ length after → Fed after 0 to → LinePassed before after r
-passed-fed before after to filled r e same l most f =
-    rw e
-    (record {
-      same = same;
-      held = line-is-held after found.Long to to filled (omega arith) l most;
-      found = record { one = λ k a b h. omega arith; feed = f.feed; next = refl };
-    })
-
 -- while a line is read: no line ends in what is held
 pub record Reading (before : List ℕ) (kept : ℕ) (held : List ℕ) (filled : ℕ) : Type 0 where
   pub longer : Longer before kept held filled
   pub none : NoFeed held 0 filled
-
-pub reading-starts : (held : List ℕ) (kept : ℕ) → kept ≤ length held → NoFeed held 0 kept → Reading held kept held kept
-reading-starts held kept most none = record { longer = nothing_read held kept most; none = none }
 
 pub reading-goes-on : (before between after : List ℕ) (kept filled more : ℕ) (r : Read) → Reading before kept between filled
     → ReadOn between filled after r → filled ≤ more → more ≤ length after → NoFeed after filled more → Reading before kept after more
@@ -76,15 +58,6 @@ reading-goes-on before between after kept filled more r p o low high none =
       longer = more-read before between after kept filled more r p.longer o low high;
       none = feed-less-joined after 0 filled more (feed-less-kept between after filled o.front p.none) none;
     }
-
-pub read-nothing : (before : List ℕ) (kept : ℕ) (after : List ℕ) (f : Found) (r : Line) → r ≡ nothing_held f → length after ≡ length before
-    → FoundRead before kept after (nothing_held f) f → LineRead before kept after r
-read-nothing before kept after f r e same p = rw e (record { same = same; held = nothing-is-held after f; found = p })
-
-pub end-found : (before : List ℕ) (kept : ℕ) (after : List ℕ) (filled : ℕ) → kept ≤ filled
-    → FoundRead before kept after (nothing_held (at_end filled)) (at_end filled)
-end-found before kept after zero l = (omega arith, refl)
-end-found before kept after (suc n) l = rw (ne_eqb (suc n) 0 (λ e. omega arith)) refl
 
 pub read-fed : (before between after : List ℕ) (kept filled to more : ℕ) (g : Read) (r : Line) → Reading before kept between filled
     → ReadOn between filled after g → Fed after filled to → to < more → more ≤ length after → r ≡ line_at found.Whole 0 to more
@@ -102,34 +75,6 @@ read-fed before between after kept filled to more g r p o f l most e =
         },
         (refl, (omega (arith, p.longer.least, f.low), front_kept before between after kept filled g p.longer o)),
       );
-    })
-
-found_passed : (before : List ℕ) (kept : ℕ) (after : List ℕ) (r : Line) (f : Found) → FoundPassed after r f → FoundRead before kept after r f
-found_passed before kept after r found.Whole p = absurd p
-found_passed before kept after r found.Long p = p
-found_passed before kept after r found.Half p = p
-found_passed before kept after r found.End p = absurd p
-found_passed before kept after r (found.Failed e) p = p
-
-pub read-passed : (before between after : List ℕ) (kept : ℕ) (r : Line) → length between ≡ length before → LinePassed between after r
-    → LineRead before kept after r
-read-passed before between after kept r same p =
-    record { same = p.same ∙ same; held = p.held; found = found_passed before kept after r r.found p.found }
-
--- what is kept of a line
-pub rest-unfed : (before middle : List ℕ) (from to : ℕ) → RestKept before from to middle → NoFeed before from to → NoFeed middle 0 (to - from)
-rest-unfed before middle from to rest none k low high h = none (from + k) (omega arith) (omega arith) (sym (rest.front k high) ∙ h)
-
-pub after-held : (held : List ℕ) (line r : Line) (to : ℕ) → LineHeld held line → LineEnd (take line.filled held) line.next to → to < line.filled
-    → r ≡ line_at found.Whole line.next to line.filled → LineAfter held line held r
-after-held held line r to h end l e =
-    let f = fed held line.filled line.next to h.filled h.next end l in
-    rw e
-    (record {
-      same = refl;
-      held = line-is-held held found.Whole line.next to line.filled f.low l h.filled;
-      found =
-          (record { one = f.none; feed = f.feed; next = refl }, record { room = omega (arith, h.next); kept = λ i b. refl });
     })
 
 module _ (before middle after : List ℕ) (line : Line) (kept : ℕ) (h : LineHeld before line) (size : kept ≡ line.filled - line.next)

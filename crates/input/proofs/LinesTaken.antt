@@ -13,7 +13,7 @@ use Rattle.std.specs.Prelude.{◌≢◌}
 use Rattle.std.specs.declared.io.Error.{Error}
 use Rattle.std.specs.declared.option.Option.{Option}
 use Rattle.std.specs.Io.KnownBytes.{prepend_known, Consumes, Keeps, IsAtEnd}
-use Rattle.std.proofs.KnownBytes.{Consumes-trans, Consumes-kept, Keeps-refl, prepend_known-end}
+use Rattle.std.proofs.KnownBytes.{Consumes-trans, Consumes-kept, prepend_known-end}
 use Rattle.input.specs.declared.Line.{Line}
 use Rattle.input.specs.declared.Found.{Found}
 use Rattle.input.specs.declared.Found.TheVariants as found
@@ -45,7 +45,7 @@ line-parts s a to n low high size feed =
     sym joined ∙ ap (λ (l : List ℕ). drop a (take to s) ++ l) behind ∙ sym (append_assoc (drop a (take to s)) (10 ∷ []) rest)
 
 -- a line that stands in what is held
-pub line-taken : (held : List ℕ) (left : Option (List ℕ)) (a to n : ℕ) → to < n → n ≤ length held → Fed held a to
+line-taken : (held : List ℕ) (left : Option (List ℕ)) (a to n : ℕ) → to < n → n ≤ length held → Fed held a to
     → Consumes (prepend_known (drop a (take n held)) left) (prepend_known (drop (to + 1) (take n held)) left) (drop a (take to held) ++ (10 ∷ []))
 line-taken held left a to n high size f =
     let line = drop a (take to held) ++ (10 ∷ []) in

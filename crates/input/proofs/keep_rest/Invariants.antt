@@ -1,11 +1,9 @@
 -- The bytes passed stand at the front, and those to come stand where they stood.
 use Prim.Native.Nat.{ℕ, ◌+◌, ◌-◌, ◌≤◌}
-use mathlib.Core.Path.{◌≡◌, refl, ◌∙◌}
+use mathlib.Core.Path.{◌≡◌}
 use mathlib.Core.List.{List}
-use native.Mathlib.Omega.{arith}
-use lib.ListN.{length, get_or, length-set}
-use lib.Seq.{get_or-set_other}
-use Rattle.units.proofs.Filled.{Filled, filled_next}
+use lib.ListN.{length, get_or}
+use Rattle.units.proofs.Filled.{Filled}
 use Rattle.input.proofs.keep_rest.Given as goal
 
 pub record Keeping (before : List ℕ) (from count : ℕ) (held : List ℕ) (k : ℕ) : Type 0 where

@@ -1,11 +1,7 @@
 -- A line among those that are held, or one that is read behind what is kept.
-use mathlib.Core.Path.{sym}
 use native.Mathlib.Omega.{arith}
 use Prim.Native.Nat.{◌≤◌}
 use lib.ListN.{length}
-use Rattle.std.proofs.Common.{subst}
-use Rattle.std.specs.Io.KnownBytes.{prepend_known}
-use Rattle.input.specs.InnerLines.{FoundTaken, ahead}
 use Rattle.input.proofs.LinesFound.{fed, unfed, after_read}
 use Rattle.input.proofs.LinesTaken.{line-after, rest-front}
 use Rattle.input.proofs.next_line.Goals as goal

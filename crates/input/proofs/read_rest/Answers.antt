@@ -1,6 +1,5 @@
 -- What one read more took stands behind what is held.
 use native.Mathlib.Omega.{arith}
-use Rattle.std.proofs.Common.{rules}
 use Rattle.input.proofs.Repeated.{more-read}
 use Rattle.input.proofs.Taken.{more-taken}
 use Rattle.input.proofs.read_rest.Goals as goal
