@@ -16,7 +16,7 @@ use mathlib.Core.Bool.{Bool, true, false, cond, not}
 use lib.Dec.{eqb}
 use denote.Ref.{Bor}
 use denote.MutBor.{MutBor}
-use Rattle.units.specs.Units.{user_number, ticks}
+use Rattle.units.specs.Units.{user_number}
 use Rattle.units.specs.declared.Rate.{Rate}
 use Rattle.units.specs.declared.WideKwh.{WideKwh}
 use Rattle.sheet.specs.YearSheet.{sheet_user, sheet_year, refused11, refused14, tells, Past13}
