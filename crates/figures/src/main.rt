@@ -19,16 +19,21 @@ fn put_energy(row: Row, energy: Kwh) -> Row {
 }
 
 // What says something answers whether it was written.
-fn say(row: Row) -> bool {
-    output::write_row(b"figures: standard output", output::put(row, b'\n'))
+fn say(rt: &HostRuntime, row: Row) -> bool {
+    output::write_row(
+        &mut rt.stdout(),
+        &mut rt.stderr(),
+        b"figures: standard output",
+        output::put(row, b'\n'),
+    )
 }
 
-fn line(figure: u64, value: u64) -> bool {
-    say(output::put_field(begin(figure), value))
+fn line(rt: &HostRuntime, figure: u64, value: u64) -> bool {
+    say(rt, output::put_field(begin(figure), value))
 }
 
 // (1) and (2): the tiers of a domestic user, class 1, and the flat-rate part of their energies.
-fn tiers_and_flat_rate() -> bool {
+fn tiers_and_flat_rate(rt: &HostRuntime) -> bool {
     let withdrawn = Kwh(3_000);
     let exchanged = units::smaller(withdrawn, Kwh(1_800));
     let tiers = tariff::annual_tiers(1, withdrawn, exchanged);
@@ -38,42 +43,42 @@ fn tiers_and_flat_rate() -> bool {
     row = put_energy(row, tiers[3]);
     let rates = [Rate(3_000), Rate(4_000), Rate(6_000), Rate(7_000)];
     let flat_rate = tariff::flat_rate_of(tiers, rates);
-    if !say(row) {
+    if !say(rt, row) {
         return false;
     }
-    line(2, flat_rate.0)
+    line(rt, 2, flat_rate.0)
 }
 
 // (3) and (4): mean rates.
-fn mean_rates() -> bool {
-    if !line(3, tariff::mean_rate(Rate(18), 12).0) {
+fn mean_rates(rt: &HostRuntime) -> bool {
+    if !line(rt, 3, tariff::mean_rate(Rate(18), 12).0) {
         return false;
     }
-    line(4, tariff::mean_rate(Rate(17), 12).0)
+    line(rt, 4, tariff::mean_rate(Rate(17), 12).0)
 }
 
 // (5) to (7): tier rates of plant 1.
-fn tier_rates() -> bool {
+fn tier_rates(rt: &HostRuntime) -> bool {
     let table = tariff::table_price(1, 50_000);
     let limited = tariff::tier_rate(1, 50_000, table, Rate(2_000), Rate(6_000));
-    if !line(5, limited.0) {
+    if !line(rt, 5, limited.0) {
         return false;
     }
     let net_only = tariff::tier_rate(1, 50_000, table, Rate(8_000), Rate(6_000));
-    if !line(6, net_only.0) {
+    if !line(rt, 6, net_only.0) {
         return false;
     }
     let table = tariff::table_price(1, 20_000);
     let small = tariff::tier_rate(1, 20_000, table, Rate(2_000), Rate(6_000));
-    line(7, small.0)
+    line(rt, 7, small.0)
 }
 
 // (8) and (9): what a run pays.
-fn advances() -> bool {
-    if !line(8, calendar::paid_of(Ticks(1_500_000)).0) {
+fn advances(rt: &HostRuntime) -> bool {
+    if !line(rt, 8, calendar::paid_of(Ticks(1_500_000)).0) {
         return false;
     }
-    line(9, calendar::paid_of(Ticks(1_500_001)).0)
+    line(rt, 9, calendar::paid_of(Ticks(1_500_001)).0)
 }
 
 // An account on credit, before its first closing.
@@ -120,38 +125,37 @@ fn year_with(value: u64, cost: u64) -> YearValues
 }
 
 // (10): two years on credit and one liquidated.
-fn closings() -> bool {
+fn closings(rt: &HostRuntime) -> bool {
     let first = opened().closed(year_with(10, 4));
     let after_first = first.account;
     let second = after_first.closed(year_with(3, 5));
     let after_second = second.account;
     let third = after_second.elected(1).closed(year_with(9, 2));
-    let settled = third.settlement;
-    let outcome = settled.outcome;
+    let outcome = third.settlement.outcome;
     let mut row = output::put_field(begin(10), first.settlement.contribution.0);
     row = output::put_field(row, second.settlement.contribution.0);
     row = output::put_field(row, third.settlement.contribution.0);
     row = output::put_field(row, account_steps::liquidation_in(outcome).0);
     row = output::put_field(row, account_steps::lapsed_in(outcome).0);
-    say(output::put_field(row, third.account.credit.0))
+    say(rt, output::put_field(row, third.account.credit.0))
 }
 
-fn main() {
-    if 1 < os::arg_count() {
-        output::tell_use(b"figures: give no argument\n");
+fn main(rt: HostRuntime) {
+    if output::has_argument(&rt, 1) {
+        output::tell_use(&mut rt.stderr(), b"figures: give no argument\n");
         return;
     }
-    if !tiers_and_flat_rate() {
+    if !tiers_and_flat_rate(&rt) {
         return;
     }
-    if !mean_rates() {
+    if !mean_rates(&rt) {
         return;
     }
-    if !tier_rates() {
+    if !tier_rates(&rt) {
         return;
     }
-    if !advances() {
+    if !advances(&rt) {
         return;
     }
-    closings();
+    closings(&rt);
 }

@@ -6,23 +6,30 @@ use input::Input;
 use listing_text::Listed;
 
 // The buffer has room for every listing.
-fn list(book: &[u8]) {
+fn list(rt: &HostRuntime, book: &[u8]) {
     let mut lines = listing_text::buffer();
     let Listed::Written(count) = listing_text::listing_of(book, &mut lines) else {
         return;
     };
-    output::write(b"listing: standard output", text::front(&lines, count));
+    output::write(
+        &mut rt.stdout(),
+        &mut rt.stderr(),
+        b"listing: standard output",
+        text::front(&lines, count),
+    );
 }
 
-fn main() {
-    if 1 < os::arg_count() {
-        output::tell_use(b"listing: give the book on standard input, and no argument\n");
+fn main(rt: HostRuntime) {
+    if output::has_argument(&rt, 1) {
+        output::tell_use(
+            &mut rt.stderr(),
+            b"listing: give the book on standard input, and no argument\n",
+        );
         return;
     }
     let mut book = input::book_buffer();
-    let Input::Read(count) = input::read_book(&mut book) else {
-        os::fail(b"listing: standard input");
-        return;
-    };
-    list(text::front(&book, count));
+    match input::read_book(&mut rt.stdin(), &mut book) {
+        Input::Read(count) => list(&rt, text::front(&book, count)),
+        Input::Failed(error) => output::fail(&mut rt.stderr(), b"listing: standard input", error),
+    }
 }
