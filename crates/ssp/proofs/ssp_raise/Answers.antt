@@ -6,4 +6,4 @@ use Rattle.ssp.proofs.ssp_raise.Goals as goal
 pub returns : goal.returns
 returns c =
     let said = c.raise.ensures in
-    record { answer = c.flat_raised.ensures ∙ ap flat_raised said.0; after = said.1 }
+    record { answer = c.flat_raised.ensures ∙ ap flat_raised said.answer; after = said.after }
