@@ -17,7 +17,6 @@ use Rattle.theorem.proofs.Theorem as functions
 use Rattle.ssp.specs.declared.Sums as ssp
 use Rattle.ssp.specs.Flat.{flat_sums}
 use Rattle.ssp.proofs.Contract.{statement-says}
-use Rattle.ssp.proofs.ssp_statement.Reads as statement-of
 use Rattle.theorem_ssp.specs.Exported.{statement_answered, Claim, ThirdDemand, EveryList}
 use Rattle.theorem_ssp.proofs.Steps.{lift, flat}
 
