@@ -1,9 +1,8 @@
 -- A balance and its bits: the two cases of the difference, its range, and that its bits read back.
-use Rattle.std.proofs.Common.{◌≡◌, ℕ, zero, suc, ◌+◌, ◌-◌, ◌%◌, ◌^◌, ◌<◌, ◌≤◌, ◌⊎◌, ℤ, pos, negsuc, ◌-ℤ◌, sym, refl, ap, ◌∙◌, subst, inl, inr, arith, to_z-of_z, w64, SFits, to_z, of_z, le-ltb, lt-ltb}
+use Rattle.std.proofs.Common.{◌≡◌, ℕ, zero, suc, ◌+◌, ◌-◌, ◌%◌, ◌^◌, ◌<◌, ◌≤◌, ◌⊎◌, ℤ, pos, negsuc, ◌-ℤ◌, refl, ap, ◌∙◌, inl, inr, arith, to_z-of_z, w64, SFits, to_z, of_z, le-ltb, lt-ltb}
 use native.Mathlib.Decide.{dec_lt}
 use lib.IntN.{sub_ℕ}
 use lib.Signed.{mag}
-use mir.Facts.{sfits_to_z, to_z_pos, to_z-neg}
 use Rattle.units.specs.Limits.{max_year_ticks, max_contribution}
 use Rattle.account_steps.specs.Closing.{balance_of}
 use Rattle.account_steps.specs.Account.{balance_bits}
@@ -53,26 +52,3 @@ signed_back z h = to_z-of_z {w = w64} {z = z} (record { sfits = h })
 
 pub balance-back : (x a : ℕ) → x < 2 ^ 63 → a < 2 ^ 63 → to_z w64 (balance_bits (balance_of x a)).0 ≡ balance_of x a
 balance-back x a hx ha = to_z-of_z {w = w64} {z = balance_of x a} (balance-fits x a hx ha)
-
--- the upper half of the bits is read as a negative number: one less than minus the distance m to the largest
-minus-one-less : (m : ℕ) → negsuc 0 -ℤ pos m ≡ negsuc m
-minus-one-less zero = refl
-minus-one-less (suc m) = ap negsuc (omega arith)
-
-module _ (n : ℕ) (low : 2 ^ 63 ≤ n) (high : n < 2 ^ 64) where
-  abbrev m : ℕ
-  m = 2 ^ 64 - 1 - n
-
-  upper-half : negsuc 0 -ℤ to_z w64 m ≡ to_z w64 n
-  upper-half =
-      let back : 2 ^ 64 - suc m ≡ n = omega arith in
-      ap (λ z. negsuc 0 -ℤ z) (to_z_pos w64 {n = m} (omega arith))
-      ∙ minus-one-less m
-      ∙ sym (to_z-neg w64 m (omega arith))
-      ∙ ap (to_z w64) back
-
-  pub upper-half-fits : SFits w64 (negsuc 0 -ℤ to_z w64 m)
-  upper-half-fits = subst (SFits w64) (sym upper-half) (sfits_to_z (record { fits = high }))
-
-  pub upper-half-back : to_z w64 (of_z w64 (negsuc 0 -ℤ to_z w64 m)) ≡ to_z w64 n
-  upper-half-back = to_z-of_z upper-half-fits ∙ upper-half

@@ -106,23 +106,10 @@ module _ (a s : List ℕ) where
       this : (c : ℕ) → c < n + 4 → Stands a s m c
       this c l = by_place c l (dec_lt c n)
 
-  pub restored-columns : (n : ℕ) → Restored a s n sheet_months 0 → Restored a s (n + 4) 0 0
-  restored-columns n w =
-      record {
-        long = w.long;
-        front = w.front;
-        columns = w.months;
-        months = λ month column h l. absurd (not-suc-le-zero h);
-        numbers = λ j l. absurd (not-suc-le-zero l);
-      }
-
   pub restored-whole : Restored a s sheet_columns 0 0 → s ≡ header a ++ table_lines sheet_months sheet_columns (sheet_lines a)
   restored-whole w =
       sym (table-of-parts sheet_months sheet_columns s (sheet_lines a) w.long w.columns)
       ∙ ap (λ (h : List ℕ). h ++ table_lines sheet_months sheet_columns (sheet_lines a)) w.front
-
-pub restored_at : {a s : List ℕ} {n n' : ℕ} → n ≡ n' → Restored a s n 0 0 → Restored a s n' 0 0
-restored_at {a} {s} e w = subst (λ (k : ℕ). Restored a s k 0 0) e w
 
 -- the numbers of four columns: those of a month, and those before it
 pub record Hold (f : ℕ → ℕ → ℕ) (column month : ℕ) (numbers : Four) : Type 0 where

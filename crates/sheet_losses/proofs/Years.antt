@@ -1,18 +1,17 @@
 -- The year month by month: what stands after the months worked, and the answer at its end or at the first month above the limit.
-use Prim.Native.Nat.{ℕ, ◌+◌, ◌≤◌, ◌<◌}
+use Prim.Native.Nat.{ℕ, ◌≤◌, ◌<◌}
 use mathlib.Core.Path.{◌≡◌, refl, sym, ap, ◌∙◌}
 use mathlib.Core.Bool.{Bool, true, false, cond}
 use mathlib.Core.List.{List}
 use native.Mathlib.Nat.{not-suc-le-zero}
 use native.Mathlib.Omega.{arith}
-use borrow.Author.Count.{below_more}
 use borrow.Author.Tests.{le-ltb, lt-ltb}
 use lib.Dec.{ltb}
-use lib.ListN.{length, set, length-set}
+use lib.ListN.{length}
 use Rattle.units.specs.Limits.{max_kwh}
 use Rattle.units.specs.Folds.{first_below}
 use Rattle.units.proofs.Folds.{any_of, none_of, first-is}
-use Rattle.units.proofs.Filled.{Filled, filled_next}
+use Rattle.units.proofs.Filled.{Filled}
 use Rattle.sheet.specs.declared.Position.{Position}
 use Rattle.sheet.specs.YearSheet.{form_fits, nowhere}
 use Rattle.sheet_losses.specs.declared.Rests.{Rests}
@@ -43,18 +42,6 @@ module _ (factor : ℕ) (s : List ℕ) where
         passed = refl;
         filled = λ m l. absurd (not-suc-le-zero l);
         none = λ m l. absurd (not-suc-le-zero l);
-      }
-
-  pub goes_on : {months : List Bands} {rests : Rests} {month : ℕ} → Working months rests month → month < 12
-      → {wide : WideBands} {bands : Bands} {rests' : Rests} {above : Bool} → wide ≡ raised_bands factor s month → bands ≡ narrowed_to wide
-      → above ≡ month_above factor s month → above ≡ false → rests' ≡ rests_to factor s (month + 1) → Working (set months month bands) rests' (month + 1)
-  goes_on {months} {rests} {month} w l {wide} {bands} {rests'} raised narrow a e passed =
-      record {
-        to12 = omega arith;
-        long = simp length-set w.long;
-        passed = passed;
-        filled = filled_next no_bands bands_in month months bands (omega (arith, w.long)) (narrow ∙ ap narrowed_to raised) w.filled;
-        none = below_more (λ m. month_above factor s m ≡ false) month w.none (sym a ∙ e);
       }
 
   -- a month above the limit is the first one

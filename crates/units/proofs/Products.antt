@@ -1,14 +1,9 @@
 -- Bounds on a product from bounds on its factors.
-use Prim.Native.Nat.{ℕ, ◌*◌, ◌^◌, ◌≤◌, ◌<◌}
+use Prim.Native.Nat.{ℕ, ◌*◌, ◌≤◌}
 use mathlib.Core.Path.{◌≡◌, ap}
-use native.Mathlib.Nat.{mul-le-mul, mul-le-mul_right, lt_of_le_of_lt, mul_comm, le_trans, le_of_eq}
-use lib.Dec.{T, ltb, lit<}
+use native.Mathlib.Nat.{mul-le-mul, mul-le-mul_right, mul_comm, le_trans, le_of_eq}
 use Rattle.units.specs.declared.Ticks.{Ticks}
 use Rattle.units.specs.Units.{ticks}
-
--- factors of at most m and n have a product that fits k bits where m * n does
-pub product-fits : (k m n : ℕ) {a b : ℕ} → a ≤ m → b ≤ n → T (ltb (m * n) (2 ^ k)) → a * b < 2 ^ k
-product-fits k m n {a} {b} ha hb t = lt_of_le_of_lt (mul-le-mul ha hb) (lit< {m = m * n} {n = 2 ^ k} t)
 
 -- a price of at most `cap` makes a product of at most `cap` for each kWh
 pub product-capped : (cap a b : ℕ) → b ≤ cap → a * b ≤ cap * a

@@ -5,7 +5,7 @@ use mathlib.Core.List.{List, ◌++◌, append_assoc}
 use native.Mathlib.Numerals.{add-one}
 use native.Mathlib.Omega.{arith}
 use lib.ListN.{length, drop, take, set, get_or}
-use lib.Seq.{paste, paste-suc, length-paste, take_all}
+use lib.Seq.{paste, paste-suc, take_all}
 use Rattle.units.specs.Limits.{record_length}
 use Rattle.codec.specs.Bytes.{stored}
 use Rattle.book_layout.specs.Fields.{put_record}
@@ -19,9 +19,6 @@ module _ (b : List ℕ) (at : ℕ) (image copy : List ℕ) (k : ℕ) (e : copy �
       ap (λ (s : List ℕ). set s (at + k) (get_or image k 0)) e
       ∙ paste-suc b at image k 0 (omega arith) (omega arith)
       ∙ ap (paste b at image) (sym (add-one k))
-
-  copied-length : at + k ≤ length b → k ≤ length image → length copy ≡ length b
-  copied-length hb hi = ap length e ∙ length-paste b at image k hb hi
 
 copied-whole : (b : List ℕ) (i : ℕ) (image : List ℕ) → length image ≡ record_length
     → paste b (record_length * i) image record_length ≡ put_record i image b
