@@ -1,5 +1,5 @@
 -- The conserved sum, step by step: every partial sum fits 64 bits.
-use Prim.Native.Nat.{ℕ, ◌+◌, ◌^◌, ◌<◌}
+use Prim.Native.Nat.{ℕ, ◌^◌, ◌<◌}
 use mathlib.Core.Path.{◌≡◌, ap, sym, subst, ◌∙◌}
 use native.Mathlib.Omega.{arith}
 use lib.IntN.{ℤ, pos, neg_ℤ, nat_abs, ◌+ℤ◌, ◌-ℤ◌, +ℤ_idl, +ℤ_comm}
@@ -13,7 +13,7 @@ use Rattle.account_steps.specs.Account.{balance_bits}
 use Rattle.account_steps.proofs.Balances.{signed_back}
 use Rattle.ledger.specs.Ledger.{Statement}
 use Rattle.ledger.specs.Accounting.{conserved}
-use Rattle.chains.proofs.Sums.{size-sum, size-negated}
+use Rattle.chains.proofs.Sums.{size-negated}
 use Rattle.chains.proofs.Fit.{SumsSmall}
 use Rattle.statements.specs.declared.Sums.{Sums}
 use Rattle.statements.specs.InnerWalk.{sums_of}
@@ -36,33 +36,6 @@ module _ (s : Sums) (h : Small s) where
   abbrev sum : ℤ
   sum = lapsed +ℤ pos s.credit.0
 
-  paid-size : nat_abs paid < 2 ^ 60
-  paid-size = omega (arith, size-sum (pos s.closed_advances.0) (to_z w64 s.balance.0), h.closed_advances, h.balance)
-
-  kept-size : nat_abs kept < 2 ^ 61
-  kept-size = omega (arith, size-sum paid (neg_ℤ (pos s.flat_rate.0)), size-negated (pos s.flat_rate.0), paid-size, h.flat_rate)
-
-  liquidated-size : nat_abs liquidated < 2 ^ 61 + 2 ^ 59
-  liquidated-size = omega (arith, size-sum kept (pos s.liquidation.0), kept-size, h.liquidation)
-
-  lapsed-size : nat_abs lapsed < 2 ^ 61 + 2 ^ 59 + 2 ^ 62
-  lapsed-size = omega (arith, size-sum liquidated (pos s.lapsed.0), liquidated-size, h.lapsed)
-
-  paid-fits : mag paid < 2 ^ 63
-  paid-fits = omega (arith, mag-size paid, paid-size)
-
-  kept-fits : mag kept < 2 ^ 63
-  kept-fits = omega (arith, mag-size kept, kept-size)
-
-  liquidated-fits : mag liquidated < 2 ^ 63
-  liquidated-fits = omega (arith, mag-size liquidated, liquidated-size)
-
-  lapsed-fits : mag lapsed < 2 ^ 63
-  lapsed-fits = omega (arith, mag-size lapsed, lapsed-size)
-
-  sum_fits : mag sum < 2 ^ 63
-  sum_fits = omega (arith, mag-size sum, size-sum lapsed (pos s.credit.0), lapsed-size, h.credit)
-
 -- THE STEPS
 -- less than nothing
 negated : (n : ℕ) → n < 2 ^ 63 → (b : Balance) → b ≡ balance_bits (balance_of 0 n) → to_z w64 b.0 ≡ neg_ℤ (pos n)
@@ -74,13 +47,6 @@ negated n l b e =
     ap (λ x. to_z w64 x.0) e ∙ signed_back z size ∙ same
 
 module _ (sum : ℤ) (part : ℕ) (l : part < 2 ^ 63) where
-  pub plus-room : mag (sum +ℤ pos part) < 2 ^ 63 → mag (sum +ℤ to_z w64 part) < 2 ^ 63
-  plus-room h = subst (λ x. mag (sum +ℤ x) < 2 ^ 63) (sym (to_z_pos w64 {n = part} l)) h
-
-  pub plus-is : mag (sum +ℤ pos part) < 2 ^ 63 → (r : Balance) → r ≡ balance_bits (sum +ℤ to_z w64 part) → to_z w64 r.0 ≡ sum +ℤ pos part
-  plus-is h r e =
-      ap (λ x. to_z w64 x.0) e ∙ signed_back (sum +ℤ to_z w64 part) (plus-room h) ∙ ap (λ x. sum +ℤ x) (to_z_pos w64 {n = part} l)
-
   module _ (b : Balance) (n : b ≡ balance_bits (balance_of 0 part)) where
     pub less-room : mag (sum -ℤ pos part) < 2 ^ 63 → mag (sum +ℤ to_z w64 b.0) < 2 ^ 63
     less-room h = subst (λ x. mag (sum +ℤ x) < 2 ^ 63) (sym (negated part l b n)) h
@@ -91,36 +57,21 @@ module _ (sum : ℤ) (part : ℕ) (l : part < 2 ^ 63) where
 
 -- THE SUM, step by step
 module _ (s : Sums) (h : Small s) where
-  pub paid-room : (s.closed_advances.0 < 2 ^ 63) × (mag (to_z w64 s.balance.0 +ℤ pos s.closed_advances.0) < 2 ^ 63)
-  paid-room = (omega (arith, h.closed_advances), subst (λ z. mag z < 2 ^ 63) (+ℤ_comm (pos s.closed_advances.0) (to_z w64 s.balance.0)) (paid-fits s h))
-
   module _ (x₁ : Balance) (e₁ : to_z w64 x₁.0 ≡ to_z w64 s.balance.0 +ℤ pos s.closed_advances.0) where
     is-paid : to_z w64 x₁.0 ≡ paid s h
     is-paid = e₁ ∙ +ℤ_comm (to_z w64 s.balance.0) (pos s.closed_advances.0)
-
-    pub kept-room : (s.flat_rate.0 < 2 ^ 63) × (mag (to_z w64 x₁.0 -ℤ pos s.flat_rate.0) < 2 ^ 63)
-    kept-room = (omega (arith, h.flat_rate), subst (λ z. mag (z -ℤ pos s.flat_rate.0) < 2 ^ 63) (sym is-paid) (kept-fits s h))
 
     module _ (x₂ : Balance) (e₂ : to_z w64 x₂.0 ≡ to_z w64 x₁.0 -ℤ pos s.flat_rate.0) where
       is-kept : to_z w64 x₂.0 ≡ kept s h
       is-kept = e₂ ∙ ap (λ z. z -ℤ pos s.flat_rate.0) is-paid
 
-      pub liquidated-room : (s.liquidation.0 < 2 ^ 63) × (mag (to_z w64 x₂.0 +ℤ pos s.liquidation.0) < 2 ^ 63)
-      liquidated-room = (omega (arith, h.liquidation), subst (λ z. mag (z +ℤ pos s.liquidation.0) < 2 ^ 63) (sym is-kept) (liquidated-fits s h))
-
       module _ (x₃ : Balance) (e₃ : to_z w64 x₃.0 ≡ to_z w64 x₂.0 +ℤ pos s.liquidation.0) where
         is-liquidated : to_z w64 x₃.0 ≡ liquidated s h
         is-liquidated = e₃ ∙ ap (λ z. z +ℤ pos s.liquidation.0) is-kept
 
-        pub lapsed-room : (s.lapsed.0 < 2 ^ 63) × (mag (to_z w64 x₃.0 +ℤ pos s.lapsed.0) < 2 ^ 63)
-        lapsed-room = (omega (arith, h.lapsed), subst (λ z. mag (z +ℤ pos s.lapsed.0) < 2 ^ 63) (sym is-liquidated) (lapsed-fits s h))
-
         module _ (x₄ : Balance) (e₄ : to_z w64 x₄.0 ≡ to_z w64 x₃.0 +ℤ pos s.lapsed.0) where
           is-lapsed : to_z w64 x₄.0 ≡ lapsed s h
           is-lapsed = e₄ ∙ ap (λ z. z +ℤ pos s.lapsed.0) is-liquidated
-
-          pub credit-room : (s.credit.0 < 2 ^ 63) × (mag (to_z w64 x₄.0 +ℤ pos s.credit.0) < 2 ^ 63)
-          credit-room = (omega (arith, h.credit), subst (λ z. mag (z +ℤ pos s.credit.0) < 2 ^ 63) (sym is-lapsed) (sum_fits s h))
 
           pub summed : (x₅ : Balance) → to_z w64 x₅.0 ≡ to_z w64 x₄.0 +ℤ pos s.credit.0 → to_z w64 x₅.0 ≡ conserved_in s
           unfolding conserved_in

@@ -26,12 +26,6 @@ use Rattle.account_years.proofs.PaidOut.{withheld-small}
 most : {yearly closed : ℕ} → yearly ≤ max_charge → closed < 2 ^ 16 → yearly * closed ≤ max_charge * 2 ^ 16
 most {yearly} {closed} h k = let wide : closed ≤ 2 ^ 16 = omega arith in mul-le-mul h wide
 
-pub charge-room : {yearly : ℕ} → yearly ≤ max_charge → (closed : ℕ) → closed < 2 ^ 16 → Fits w64 (yearly * closed)
-charge-room h closed k = record { fits = omega (arith, most h k) }
-
-pub charges-room : {ofOpen yearly : ℕ} → ofOpen ≤ max_charge → yearly ≤ max_charge → (closed : ℕ) → closed < 2 ^ 16 → Fits w64 (ofOpen + yearly * closed)
-charges-room g h closed k = record { fits = omega (arith, most h k) }
-
 module _ (made ofOpen yearly closed : ℕ) where
   pub none-charged : made ≡ ofOpen → OfEach.Charged (ticks 0) ≡ charge_of_each made ofOpen yearly closed
   unfolding charge_of_each

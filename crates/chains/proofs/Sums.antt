@@ -49,7 +49,7 @@ size-negated (pos zero) = refl
 size-negated (pos (suc n)) = refl
 size-negated (negsuc n) = refl
 
-pub size-sum : (x y : ℤ) → nat_abs (x +ℤ y) ≤ nat_abs x + nat_abs y
+size-sum : (x y : ℤ) → nat_abs (x +ℤ y) ≤ nat_abs x + nat_abs y
 size-sum (pos a) (pos b) = omega arith
 size-sum (pos a) (negsuc b) = size-difference a (suc b)
 size-sum (negsuc a) (pos b) = omega (arith, size-difference b (suc a))

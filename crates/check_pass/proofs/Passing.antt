@@ -17,8 +17,7 @@ use Rattle.book_layout.proofs.Places.{length-record}
 use Rattle.book_rules.specs.Book.{used, used_fits, first_user, is_user, own_rules_fit, good_record, good_head}
 use Rattle.book_rules.proofs.Faults.{used-within, used-whole}
 use Rattle.check_numbers.specs.InnerHeld.{Inserted}
-use Rattle.check_pass.specs.declared.Passed.{Passed}
-use Rattle.check_pass.specs.InnerSteps.{UserLeads, EntryLeads, StateAfter, last_met, apart_at, Tables, Resumed, PassedOver}
+use Rattle.check_pass.specs.InnerSteps.{UserLeads, EntryLeads, StateAfter, last_met, Tables, Resumed, PassedOver}
 use Rattle.check_pass.proofs.Descended.{Descended, started, user-met, entry-met, descended, searched}
 
 pub record Passing (b : List ℕ) (n records places left expected found broken : ℕ) (chained : Bool) (states seen : List ℕ) : Type 0 where
@@ -79,17 +78,6 @@ module _ (b : List ℕ) {n records places left expected found broken : ℕ} {cha
   -- the states have room for it
   pub counted : used b ≤ records → index < length states
   counted room = let size = s.states-size in omega (arith, inside)
-
-  -- where the pass is left
-  pub parted : chained ≡ true → {p : Passed} → p ≡ apart_at (record_index index) → PassedOver b n chained p
-  parted on e =
-      rw e
-      record {
-        to = omega (arith, inside);
-        ended = λ done. let z : ⊥ = omega (arith, inside, done on) in absurd z;
-        left = λ _ _. record { from = omega arith; to = omega (arith, inside); own = λ i from to. s.own i (omega arith) (omega (arith, s.all on)) };
-        whole = λ t. absurd (false≢true t);
-      }
 
   -- where it breaks a rule by itself, and the chains are not followed
   pub broken-here : chained ≡ false → good_record b index ≡ false → Passing b n records places index expected found index chained states seen
