@@ -3,7 +3,7 @@ use Prim.Native.Nat.{ℕ, ◌≤◌}
 use mathlib.Core.Path.{◌≡◌}
 use mathlib.Core.Bool.{true, cond}
 use mathlib.Core.List.{List}
-use borrow.Author.Tests.{leb-true, eq-eqb, ne_eqb}
+use borrow.Author.Tests.{leb-true}
 use lib.Dec.{eqb}
 use Rattle.units.proofs.Bools.{cond-capped}
 use Rattle.units.specs.declared.RecordIndex.{RecordIndex}
@@ -23,12 +23,6 @@ use Rattle.call_rules.specs.Changes.{with_entry, applied, booked_in, run_amount}
 use Rattle.call_rules.specs.Refusals.{order_fits}
 use Rattle.call_keeps.proofs.Ranges.{conjuncts}
 use Rattle.call_advance.specs.Advances.{run_booked}
-
-pub first-year : (year activation estimate half : ℕ) → year ≡ activation → estimate ≡ cond (eqb year activation) estimate half
-first-year year activation estimate half e = rw (eq-eqb year activation e)
-
-pub later-year : (year activation estimate half : ℕ) → (year ≡ activation → ⊥) → half ≡ cond (eqb year activation) estimate half
-later-year year activation estimate half other = rw (ne_eqb year activation other)
 
 module _ (a : Account) (p e₁ e₂ : ℕ) where
   -- "the last closed year's half, or .. that half's estimate if no year is closed"

@@ -5,13 +5,6 @@ use Rattle.account_steps.specs.Closing.{credit_after}
 use Rattle.account_steps.specs.Account.{account_elected, account_closed, closed_of, InRange}
 use Rattle.figures.specs.Accounts.{opened, year_with}
 
-pub first-in-range : InRange (year_with 10 4) opened
-first-in-range =
-    record {
-      sums = record { value = omega arith; cost = omega arith; flat_rate = omega arith; credit = omega arith };
-      year = omega arith;
-    }
-
 abbrev second : Account
 second = (closed_of (year_with 10 4) opened).account
 

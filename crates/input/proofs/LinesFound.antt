@@ -11,7 +11,7 @@ use Rattle.input.specs.declared.Found.{Found}
 use Rattle.input.specs.declared.Found.TheVariants as found
 use Rattle.input.specs.Input.{ReadOn}
 use Rattle.input.proofs.Repeated.{Longer, more-read, front_kept}
-use Rattle.input.specs.InnerLines.{NoFeed, LineEnd, RestKept, nothing_held, line_at, LineHeld, FoundRead, LineRead, FoundAfter, LineAfter}
+use Rattle.input.specs.InnerLines.{NoFeed, LineEnd, RestKept, line_at, LineHeld, FoundRead, LineRead, FoundAfter, LineAfter}
 
 -- the end of a line among the first n bytes
 pub record Fed (held : List ℕ) (from to : ℕ) : Type 0 where
@@ -38,9 +38,6 @@ feed-less-joined s a b c p q k low high h = let below : k < b → ⊥ = λ l. p 
 pub feed-less-kept : (before after : List ℕ) (n : ℕ) → take n after ≡ take n before → NoFeed before 0 n → NoFeed after 0 n
 feed-less-kept before after n same p k low high h =
     p k low high (sym (get_or-take n before k 0 high) ∙ sym (ap (λ (l : List ℕ). get_or l k 0) same) ∙ get_or-take n after k 0 high ∙ h)
-
-pub nothing-is-held : (held : List ℕ) (f : Found) → LineHeld held (nothing_held f)
-nothing-is-held held f = record { from = omega arith; to = omega arith; next = omega arith; filled = omega arith }
 
 line-is-held : (held : List ℕ) (f : Found) (from to filled : ℕ) → from ≤ to → to < filled → filled ≤ length held
     → LineHeld held (line_at f from to filled)

@@ -92,9 +92,6 @@ module _ (b before out : List ℕ) (end user : ℕ) (w : Walking b before out en
   pub user-stands : record_length * user + record_length ≤ length b
   user-stands = used-whole b w.faultless.used-fits user (user-index b user user-here).1
 
-  pub room-here : end + longest_user_line ≤ length out
-  room-here = omega (arith, user-index b user user-here, w.room, w.wide, w.same)
-
   pub next-falls : next_of b user < user
   next-falls = walk-falls (User b) (next_of b) (users-fall b w.faultless) user w.on more
 

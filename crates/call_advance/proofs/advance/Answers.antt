@@ -1,7 +1,6 @@
 -- By the look at the book, the user found, then the rules of an advance.
 use native.Mathlib.Omega.{arith}
 use Rattle.call_rules.specs.Calls as calls
-use Rattle.call_rules.specs.Calls.{Call}
 use Rattle.call_answers.proofs.Answers.{damaged, refuses}
 use Rattle.call_answers.proofs.Judged.{Judged, judged-refused}
 use Rattle.call_answers.proofs.Rooms.{found-stands}
