@@ -58,14 +58,14 @@ pub enum Outcome {
     Liquidated(Ticks, Ticks),
 }
 
-#[derive(Drop)]
+#[derive(Clone, Copy)]
 pub struct Settlement {
     pub contribution: Ticks,
     pub balance: Balance,
     pub outcome: Outcome,
 }
 
-#[derive(Drop)]
+#[derive(Clone, Copy)]
 pub struct Closed {
     pub account: Account,
     pub settlement: Settlement,

@@ -20,7 +20,7 @@ use units::{RecordIndex, Ticks};
 pub const LAST_NAMED_YEAR: u16 = 65_535;
 
 // What entries pay: the advances among them, what was withheld from all of them, and what was paid out.
-#[derive(Drop)]
+#[derive(Clone, Copy)]
 pub struct Payments {
     pub advances: Ticks,
     pub withheld: Ticks,
@@ -35,7 +35,7 @@ pub enum OfEach {
 }
 
 // The charges made, what of them was withheld and what rests, and those of the open year and of each closed one.
-#[derive(Drop)]
+#[derive(Clone, Copy)]
 pub struct Charges {
     pub made: Ticks,
     pub withheld: Ticks,
@@ -45,7 +45,7 @@ pub struct Charges {
 }
 
 // One closed year.
-#[derive(Drop)]
+#[derive(Clone, Copy)]
 pub struct Year {
     pub year: u16,
     pub option: u8,

@@ -11,7 +11,7 @@ use sheet_values::Details;
 use units::{Kwh, RECORD_LENGTH, RecordIndex, Ticks};
 
 // A user record: its links and the account.
-#[derive(Drop)]
+#[derive(Clone, Copy)]
 pub struct UserRecord {
     pub next: RecordIndex,
     pub first: RecordIndex,
@@ -20,7 +20,7 @@ pub struct UserRecord {
 
 // An advance entry. One of the later year has the year that was open when it was booked; else that is 0. An entry keeps what was
 // withheld from what it pays (document 02, ticket 1).
-#[derive(Drop)]
+#[derive(Clone, Copy)]
 pub struct AdvanceRecord {
     pub next: RecordIndex,
     pub run: u8,

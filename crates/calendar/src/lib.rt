@@ -65,7 +65,7 @@ pub const OCTOBER: u8 = 2;
 pub const JANUARY: u8 = 4;
 
 // The halves of a year that a run pays.
-#[derive(Drop)]
+#[derive(Clone, Copy)]
 pub struct Halves {
     pub first: bool,
     pub second: bool,

@@ -15,7 +15,7 @@ use book_records::AdvanceRecord;
 use call_answers::Reply;
 use units::{Kwh, Rate, RecordIndex, Ticks, UserNumber, WideKwh};
 
-#[derive(Drop)]
+#[derive(Clone, Copy)]
 pub struct Advanced {
     pub reply: Reply,
     pub ticks: Ticks,

@@ -26,7 +26,7 @@ pub fn refused(refusal: u32) -> Reply
 }
 
 // Refusal 1 or 2 with its record, or none and the user with the number, 0 for none.
-#[derive(Drop)]
+#[derive(Clone, Copy)]
 pub struct Looked {
     pub reply: Reply,
     pub user: RecordIndex,

@@ -15,7 +15,7 @@ struct Chain<'a> {
 }
 
 // A link of a chain: the index that follows, and the kind of the record.
-#[derive(Drop)]
+#[derive(Clone, Copy)]
 pub struct Link {
     pub next: RecordIndex,
     pub kind: u8,

@@ -13,7 +13,7 @@ use units::{RecordIndex, UserNumber};
 
 // What is said of any bytes: refusal 1; no refusal, with the user that was looked for, 0 for none; refusal 2 with the faulty
 // record that has the smallest index.
-#[derive(Drop)]
+#[derive(Clone, Copy)]
 pub enum Verdict {
     Length,
     Sound(RecordIndex),

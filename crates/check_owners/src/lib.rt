@@ -10,7 +10,7 @@ ghost use Rattle.check_owners.specs.InnerOwners.{Linked};
 use units::{MOST_RECORDS, RecordIndex};
 
 // The first entry of each owner, and of each entry the next one that has the same owner; 0 for none.
-#[derive(Drop)]
+#[derive(Clone, Copy)]
 pub struct Entries {
     pub first: [RecordIndex; MOST_RECORDS],
     pub later: [RecordIndex; MOST_RECORDS],

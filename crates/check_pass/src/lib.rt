@@ -16,7 +16,7 @@ use units::{MOST_RECORDS, RecordIndex, UserNumber};
 
 // What the pass says of a book: the smallest record that breaks a rule by itself, u for none; whether the chains lead to all
 // records; and the user that was looked for, 0 for none.
-#[derive(Drop)]
+#[derive(Clone, Copy)]
 pub struct Passed {
     pub broken: RecordIndex,
     pub joined: bool,

@@ -13,7 +13,7 @@ struct DigitRun {
 }
 
 // A number with one byte behind it: whether it stands there, its value as far as it counts, and the place behind that byte.
-#[derive(Drop)]
+#[derive(Clone, Copy)]
 pub struct TextField {
     pub fits: bool,
     pub value: u32,

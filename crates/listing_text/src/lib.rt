@@ -21,7 +21,7 @@ const LONGEST_USER_LINE: usize = 63;
 const LONGEST_TEXT: usize = MOST_USERS * LONGEST_USER_LINE;
 
 // What became of a listing: written, so many bytes, or not, for want of room.
-#[derive(Drop)]
+#[derive(Clone, Copy)]
 pub enum Listed {
     Written(usize),
     NoRoom,

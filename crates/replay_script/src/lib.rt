@@ -12,14 +12,14 @@ ghost use Rattle.replay_script.specs.Requests.{read_measures_request, write_meas
 ghost use Rattle.replay_script.specs.Requests.{more_sun_request, asking_request};
 
 // Where the digits of a word of bytes stand: none for `-`.
-#[derive(Drop)]
+#[derive(Clone, Copy)]
 pub struct Digits {
     pub from: usize,
     pub to: usize,
 }
 
 // What a line asks. `Load` and `Close` name the place where their digits begin, which go to the end of the line.
-#[derive(Drop)]
+#[derive(Clone, Copy)]
 pub enum Request {
     New(usize),
     Load(usize),
@@ -83,7 +83,7 @@ pub enum Request {
 }
 
 // The numbers after a word, and whether they are those that it takes.
-#[derive(Drop)]
+#[derive(Clone, Copy)]
 pub struct Fields {
     pub fit: bool,
     pub values: [u64; 8],

@@ -23,7 +23,7 @@ const NUMBERS: usize = 23;
 
 // Where a number of a sheet stands: its month, 1–12, and its place in the month, 1–24, as the documents count them; zeros for
 // none.
-#[derive(Drop)]
+#[derive(Clone, Copy)]
 pub struct Position {
     pub month: u32,
     pub place: u32,
@@ -32,7 +32,7 @@ pub struct Position {
 pub const NOWHERE: Position = Position { month: 0, place: 0 };
 
 // A refusal, 0 for none, and after 13 or 19 where the number at fault stands.
-#[derive(Drop)]
+#[derive(Clone, Copy)]
 pub struct Objection {
     pub refusal: u32,
     pub position: Position,

@@ -28,7 +28,7 @@ const LARGER_FACTOR: u32 = 26;
 const ABOVE_LIMIT: u32 = 13;
 
 // The rests of the division by 1,000 that pass on, of the three bands.
-#[derive(Drop)]
+#[derive(Clone, Copy)]
 pub struct Rests {
     pub first: u32,
     pub second: u32,
@@ -42,7 +42,7 @@ const NO_RESTS: Rests = Rests {
 };
 
 // A refusal, 0 for none, after 13 where the reading at fault stands, and December's rests of an accepted call.
-#[derive(Drop)]
+#[derive(Clone, Copy)]
 pub struct Raised {
     pub refusal: u32,
     pub position: Position,

@@ -27,7 +27,7 @@ const TEXT_ROOM: usize = 675;
 const TOO_MUCH: u32 = MAX_KWH + 1;
 
 // The reader's answer. The line is told after 17, month and place after 13; else they are zeros.
-#[derive(Drop)]
+#[derive(Clone, Copy)]
 pub struct Read {
     pub refusal: u32,
     pub line: u32,
@@ -36,7 +36,7 @@ pub struct Read {
 }
 
 // The writer's answer: how many bytes the lines are; after 13 month and place.
-#[derive(Drop)]
+#[derive(Clone, Copy)]
 pub struct Written {
     pub refusal: u32,
     pub length: u32,
@@ -53,13 +53,13 @@ struct MonthLine {
 }
 
 // The kWh of a year, six a month.
-#[derive(Drop)]
+#[derive(Clone, Copy)]
 pub struct YearKwh {
     pub kwh: [u32; YEAR_READINGS],
 }
 
 // What a text says: whether it is taken, and its numbers.
-#[derive(Drop)]
+#[derive(Clone, Copy)]
 pub struct Measures {
     pub answer: Read,
     pub year: YearKwh,

@@ -23,12 +23,12 @@ use Rattle.ssp.proofs.ssp_enrol.Reads as enrol-of
 use Rattle.ssp.proofs.ssp_elect.Reads as elect-of
 use Rattle.ssp.proofs.ssp_charge.Reads as charge-of
 use Rattle.ssp.proofs.ssp_advance.Reads as advance-of
-use Rattle.ssp.proofs.ssp_close.Reads as Close-of
+use Rattle.ssp.proofs.ssp_close.Reads as close-of
 use Rattle.ssp.proofs.ssp_statement.Reads as statement-of
 use Rattle.ssp.proofs.ssp_archive.Reads as archive-of
 use Rattle.ssp.proofs.ssp_restore.Reads as restore-of
 use Rattle.ssp.proofs.ssp_raise.Reads as raise-of
-use Rattle.ssp.proofs.ssp_read_measures.Reads as Read-of
+use Rattle.ssp.proofs.ssp_read_measures.Reads as read-of
 use Rattle.ssp.proofs.ssp_write_measures.Reads as write-of
 use Rattle.ssp.proofs.ssp_more_sun.Reads as more-sun-of
 
@@ -56,7 +56,7 @@ pub advance-says : (κs : _) (a : _) (r : _) (s : _) → advance-of.Post κs a r
     × (r.ticks ≡ (ticks_answered a.0.now a.1.0 a.1.1.0 a.1.1.1.0 a.1.1.1.1.0 a.1.1.1.1.1.0 a.1.1.1.1.1.1.0 r.refusal).0)
 advance-says κs a r s said = said
 
-pub close-says : (κs : _) (a : _) (r : _) (s : _) → Close-of.Post κs a r s
+pub close-says : (κs : _) (a : _) (r : _) (s : _) → close-of.Post κs a r s
     → Answered a.0.now (close a.1.0.now) 0 r.refusal r.«record» s.0.now
     × (Tells a.1.0.now r.refusal (position_of r.month r.place)
     × (r ≡ flat_closed r.refusal r.«record» (position_of r.month r.place) (sums_answered a.0.now a.1.0.now r.refusal)))
@@ -79,7 +79,7 @@ pub raise-says : (κs : _) (a : _) (r : _) (s : _) → raise-of.Post κs a r s
     → (r ≡ flat_raised (answer_of a.1.0 a.0.now)) × (s.0.now ≡ raised_after a.1.0 a.0.now)
 raise-says κs a r s said = said
 
-pub read-says : (κs : _) (a : _) (r : _) (s : _) → Read-of.Post κs a r s
+pub read-says : (κs : _) (a : _) (r : _) (s : _) → read-of.Post κs a r s
     → (r ≡ flat_read (read_answer a.0.now a.1.0.now)) × (s.0.now ≡ read_after a.0.now a.1.0.now)
 read-says κs a r s said = said
 

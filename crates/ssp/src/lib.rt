@@ -29,14 +29,14 @@ use units::{Rate, UserNumber, WideKwh};
 const INTERFACE: u32 = 7;
 
 #[repr(C)]
-#[derive(Drop)]
+#[derive(Clone, Copy)]
 pub struct Booked {
     pub refusal: u32,
     pub record: u32,
 }
 
 #[repr(C)]
-#[derive(Drop)]
+#[derive(Clone, Copy)]
 pub struct Advanced {
     pub refusal: u32,
     pub record: u32,
@@ -44,7 +44,7 @@ pub struct Advanced {
 }
 
 #[repr(C)]
-#[derive(Drop)]
+#[derive(Clone, Copy)]
 pub struct Closed {
     pub refusal: u32,
     pub record: u32,
@@ -60,7 +60,7 @@ pub struct Closed {
 }
 
 #[repr(C)]
-#[derive(Drop)]
+#[derive(Clone, Copy)]
 pub struct Sums {
     pub refusal: u32,
     pub record: u32,
@@ -78,7 +78,7 @@ pub struct Sums {
 }
 
 #[repr(C)]
-#[derive(Drop)]
+#[derive(Clone, Copy)]
 pub struct Raised {
     pub refusal: u32,
     pub month: u32,
@@ -89,7 +89,7 @@ pub struct Raised {
 }
 
 #[repr(C)]
-#[derive(Drop)]
+#[derive(Clone, Copy)]
 pub struct Read {
     pub refusal: u32,
     pub line: u32,
@@ -98,7 +98,7 @@ pub struct Read {
 }
 
 #[repr(C)]
-#[derive(Drop)]
+#[derive(Clone, Copy)]
 pub struct Written {
     pub refusal: u32,
     pub length: u32,
@@ -107,7 +107,7 @@ pub struct Written {
 }
 
 #[repr(C)]
-#[derive(Drop)]
+#[derive(Clone, Copy)]
 pub struct Sun {
     pub refusal: u32,
     pub record: u32,

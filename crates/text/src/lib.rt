@@ -8,14 +8,14 @@ ghost use Rattle.text.specs.InnerText.{narrow, is_hex_digit, hex_digit, hex_byte
 ghost use Rattle.text.specs.InnerText.{FieldsRead, HexRead, HexWritten, NumberRead, BlankPassed, WordEnds, DigitSpelt};
 
 // A number that stands at a place, and the place after it.
-#[derive(Drop)]
+#[derive(Clone, Copy)]
 pub enum Number {
     Read { value: u64, next: usize },
     Missing,
 }
 
 // The numbers that stand one after the other, at most eight, how many they are, and the place after them.
-#[derive(Drop)]
+#[derive(Clone, Copy)]
 pub struct Numbers {
     pub count: usize,
     pub values: [u64; 8],
@@ -23,7 +23,7 @@ pub struct Numbers {
 }
 
 // How many bytes were read.
-#[derive(Drop)]
+#[derive(Clone, Copy)]
 pub enum Bytes {
     Read(usize),
     Wrong,

@@ -13,7 +13,7 @@ use Rattle.call_enrol.proofs.enrol.Reads as enrol-of
 use Rattle.call_elect.proofs.elect.Reads as elect-of
 use Rattle.call_charge.proofs.charge.Reads as charge-of
 use Rattle.call_advance.proofs.advance.Reads as advance-of
-use Rattle.call_close.proofs.close.Reads as Close-of
+use Rattle.call_close.proofs.close.Reads as close-of
 use Rattle.call_statement.proofs.statement.Reads as statement-of
 
 -- what was called, by the arguments in the order of the function's parameters
@@ -46,7 +46,7 @@ pub data Calls : List ℕ → Made → List ℕ → Type 1 where
   elects : (κs : _) (a : _) (r : _) (s : _) → elect-of.Post κs a r s → Calls a.0.now (made (elect_by a) r.refusal) s.0.now
   advances : (κs : _) (a : _) (r : _) (s : _) → advance-of.Post κs a r s
       → Calls a.0.now (made (advance_by a) r.reply.refusal) s.0.now
-  closes : (κs : _) (a : _) (r : _) (s : _) → Close-of.Post κs a r s
+  closes : (κs : _) (a : _) (r : _) (s : _) → close-of.Post κs a r s
       → Calls a.0.now (made (close_by a) r.reply.refusal) s.0.now
   charges : (κs : _) (a : _) (r : _) (s : _) → charge-of.Post κs a r s → Calls a.0.now (made (charge_by a) r.refusal) s.0.now
   -- a statement is lent the book to read only, so that the book after it is the one before it

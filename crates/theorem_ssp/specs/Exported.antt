@@ -17,7 +17,7 @@ use Rattle.ssp.proofs.ssp_enrol.Reads as enrol-of
 use Rattle.ssp.proofs.ssp_elect.Reads as elect-of
 use Rattle.ssp.proofs.ssp_charge.Reads as charge-of
 use Rattle.ssp.proofs.ssp_advance.Reads as advance-of
-use Rattle.ssp.proofs.ssp_close.Reads as Close-of
+use Rattle.ssp.proofs.ssp_close.Reads as close-of
 use Rattle.ssp.proofs.ssp_statement.Reads as statement-of
 
 -- what was called, by the arguments in the order of the function's parameters
@@ -50,7 +50,7 @@ pub data Calls : List ℕ → Made → List ℕ → Type 1 where
   elects : (κs : _) (a : _) (r : _) (s : _) → elect-of.Post κs a r s → Calls a.0.now (made (elect_by a) r.refusal) s.0.now
   advances : (κs : _) (a : _) (r : _) (s : _) → advance-of.Post κs a r s
       → Calls a.0.now (made (advance_by a) r.refusal) s.0.now
-  closes : (κs : _) (a : _) (r : _) (s : _) → Close-of.Post κs a r s → Calls a.0.now (made (close_by a) r.refusal) s.0.now
+  closes : (κs : _) (a : _) (r : _) (s : _) → close-of.Post κs a r s → Calls a.0.now (made (close_by a) r.refusal) s.0.now
   charges : (κs : _) (a : _) (r : _) (s : _) → charge-of.Post κs a r s → Calls a.0.now (made (charge_by a) r.refusal) s.0.now
   states : (κs : _) (a : _) (r : _) (s : _) → statement-of.Post κs a r s
       → Calls a.0.now (made (statement_by a) r.refusal) a.0.now
