@@ -140,7 +140,7 @@ fn share(paid: bool, energy: WideKwh, price: Rate) -> Ticks
     ensures { ShareOf paid energy.0 price.0 result.0 }
 {
     if paid {
-        units::priced_half(energy, price)
+        units::priced(energy, price)
     } else {
         Ticks(0)
     }

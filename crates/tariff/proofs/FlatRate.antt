@@ -13,7 +13,7 @@ use Rattle.units.specs.Units.{kwh, rate}
 use Rattle.units.specs.Limits.{max_tier_rate}
 use Rattle.units.specs.Folds.{sum_below}
 use Rattle.units.proofs.Folds.{sum_step, sum-cong}
-use Rattle.units.proofs.Products.{product-capped}
+use Rattle.units.proofs.Products.{product-capped, product_fits}
 use Rattle.tariff.specs.Tariff.{numbers, tier_sum, max_year_kwh, flat_rate_of}
 use Rattle.tariff.proofs.Tiers.{numbers-kwh}
 use Rattle.units.specs.InnerWithin.{NumberWithin}
@@ -62,6 +62,17 @@ unfolding tier_sum
 sum_fits {energies} {rates} {t} {sum} s l h =
     let all = sum-grows t 4 (energy_at energies) l in
     omega (arith, s.capped)
+
+-- what a tier is worth fits 64 bits
+pub worth_fits :
+    (energies : List Kwh) (rates : List Rate) {t : ℕ} → t < 4 → tier_sum (numbers energies) ≤ max_year_kwh →
+    (get_or rates t (rate 0)).0 ≤ max_tier_rate → (get_or energies t (kwh 0)).0 * (get_or rates t (rate 0)).0 < 2 ^ 64
+unfolding tier_sum sum_below
+worth_fits energies rates {t} l h k =
+    let same : energy_at energies t ≡ (get_or energies t (kwh 0)).0 = get_or-map (λ (k : Kwh). k.0) energies t (kwh 0) in
+    let part = sum-grows (suc t) 4 (energy_at energies) (omega (arith, l)) in
+    let most : (get_or energies t (kwh 0)).0 ≤ max_year_kwh = omega (arith, part, h, same) in
+    product_fits max_year_kwh max_tier_rate most k (omega arith)
 
 pub all-summed :
     {energies : List Kwh} {rates : List Rate} {t sum : ℕ} → Summed energies rates t sum → t ≡ 4 →

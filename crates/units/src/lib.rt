@@ -1,33 +1,34 @@
 // The units of document 01, "Units": each quantity is a type of its own, and a product is made only here.
 #![tactic(auto)]
 
-ghost use Rattle.std.specs.Prelude.{◌≡◌, ◌*◌, ◌≤◌, min, max};
+ghost use Rattle.std.specs.Prelude.{◌≡◌, ℕ, ◌+◌, ◌-◌, ◌*◌, ◌<◌, ◌^◌, min, max};
 ghost use Rattle.units.specs.Units.{ticks};
-ghost use Rattle.units.specs.Limits.{max_price, max_tier_rate, max_half_kwh};
+
+use std::ops::{Add, AddAssign};
 
 // Whole kWh: a number of the year sheet, or a sum of such numbers over at most twelve months.
-#[derive(Clone, Copy)]
+#[derive(Clone, Copy, Debug, PartialEq, Eq, PartialOrd, Ord)]
 pub struct Kwh(pub u32);
 
 // Whole kWh of any size that a caller brings: an estimate, a half as the amount of an advance takes it, and a reading as it is raised
 // for losses.
-#[derive(Clone, Copy)]
+#[derive(Clone, Copy, Debug, PartialEq, Eq, PartialOrd, Ord)]
 pub struct WideKwh(pub u64);
 
 // A price or a rate, in hundred-thousandths of a euro per kWh.
-#[derive(Clone, Copy)]
+#[derive(Clone, Copy, Debug, PartialEq, Eq, PartialOrd, Ord)]
 pub struct Rate(pub u64);
 
 // Hundred-thousandths of a euro (document 01's tick).
-#[derive(Clone, Copy)]
+#[derive(Clone, Copy, Debug, PartialEq, Eq, PartialOrd, Ord)]
 pub struct Ticks(pub u64);
 
 // The number by which callers name a user.
-#[derive(Clone, Copy)]
+#[derive(Clone, Copy, Debug, PartialEq, Eq, PartialOrd, Ord)]
 pub struct UserNumber(pub u32);
 
 // The place of a record in the book.
-#[derive(Clone, Copy)]
+#[derive(Clone, Copy, Debug, PartialEq, Eq, PartialOrd, Ord)]
 pub struct RecordIndex(pub u32);
 
 // THE LIMITS, in the order of specs/Limits.antt, which quotes their sentences. Those that follow from others are worked from them.
@@ -71,32 +72,78 @@ pub const LEAST_RECORDS: usize = 2;
 
 pub const MOST_RECORDS: usize = 800;
 
+impl Add for Ticks {
+    type Output = Ticks;
+
+    ghost can_add = { λ a b. a.0 + b.0 < 2 ^ 64 };
+
+    ghost add_gives = { λ a b r. r ≡ ticks (a.0 + b.0) };
+
+    fn add(self, other: Ticks) -> Ticks {
+        Ticks(self.0 + other.0)
+    }
+}
+
+impl AddAssign for Ticks {
+    ghost can_add_assign = { λ a b. a.0 + b.0 < 2 ^ 64 };
+
+    ghost add_assign_gives = { λ a b r. r ≡ ticks (a.0 + b.0) };
+
+    fn add_assign(&mut self, other: Ticks) {
+        *self = *self + other;
+    }
+}
+
+impl Ticks {
+    // What an amount is above another, nothing where it is not.
+    pub fn saturating_sub(self, other: Ticks) -> Ticks
+        ensures { result ≡ ticks (self.0 - other.0) }
+    {
+        Ticks(self.0.saturating_sub(other.0))
+    }
+}
+
 // The smaller and the larger of two energies.
 pub fn smaller(a: Kwh, b: Kwh) -> Kwh
     ensures { result.0 ≡ min a.0 b.0 }
 {
-    if a.0 <= b.0 { a } else { b }
+    a.min(b)
 }
 
 pub fn larger(a: Kwh, b: Kwh) -> Kwh
     ensures { result.0 ≡ max a.0 b.0 }
 {
-    if a.0 <= b.0 { b } else { a }
+    a.max(b)
 }
 
-// Energy of the sheet, times a price or a tier rate.
-pub fn priced(energy: Kwh, price: Rate) -> Ticks
-    requires { price.0 ≤ max_tier_rate }
-    ensures { result ≡ ticks (energy.0 * price.0) }
-{
-    Ticks((energy.0 as u64) * price.0)
+// An amount of energy, whatever its width.
+pub trait Energy: Copy {
+    ghost kwh: { Self → ℕ };
+
+    fn kwh(self) -> u64
+        ensures { result ≡ kwh self };
 }
 
-// The energy of a half year, times the rate of an advance.
-pub fn priced_half(energy: WideKwh, price: Rate) -> Ticks
-    requires energy_bound { energy.0 ≤ max_half_kwh }
-    requires price_bound { price.0 ≤ max_price }
-    ensures { result ≡ ticks (energy.0 * price.0) }
+impl Energy for Kwh {
+    ghost kwh = { λ energy. energy.0 };
+
+    fn kwh(self) -> u64 {
+        u64::from(self.0)
+    }
+}
+
+impl Energy for WideKwh {
+    ghost kwh = { λ energy. energy.0 };
+
+    fn kwh(self) -> u64 {
+        self.0
+    }
+}
+
+// What energy is worth at a price, a tier rate or the rate of an advance.
+pub fn priced<E: Energy>(energy: E, price: Rate) -> Ticks
+    requires { E.kwh energy * price.0 < 2 ^ 64 }
+    ensures { result ≡ ticks (E.kwh energy * price.0) }
 {
-    Ticks(energy.0 * price.0)
+    Ticks(energy.kwh() * price.0)
 }

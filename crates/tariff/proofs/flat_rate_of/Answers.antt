@@ -2,7 +2,7 @@
 use mathlib.Core.Path.{ap}
 use native.Mathlib.Omega.{arith}
 use Rattle.units.specs.declared.Ticks.{Ticks}
-use Rattle.tariff.proofs.FlatRate.{none-summed, one_more, sum_fits, all-summed}
+use Rattle.tariff.proofs.FlatRate.{none-summed, one_more, sum_fits, all-summed, worth_fits}
 use Rattle.tariff.proofs.flat_rate_of.Goals as goal
 
 pub loop-t-init : goal.loop-t-init
@@ -21,3 +21,6 @@ loop-t-preserved c =
 
 pub returns : goal.returns
 returns c = all-summed c.loop-t.invariant.1 (omega arith)
+
+pub priced-sum-requires : goal.priced-sum-requires
+priced-sum-requires c = worth_fits c.args.energies c.args.rates c.loop-t-test.true c.requires.energies_bound (c.requires.tier_rates c.loop-t.t c.loop-t-test.true)
