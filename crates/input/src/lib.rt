@@ -2,13 +2,16 @@
 // interrupted is made again, and one that failed is told from the end of the input.
 #![tactic(auto)]
 
-ghost use Rattle.std.specs.Prelude.{take, ◌-◌, ◌≤◌, ◌<◌, ◌≡◌, length};
-ghost use Rattle.std.specs.Io.KnownBytes.{prepend_known};
+ghost use Rattle.std.specs.Prelude.{take, ◌+◌, ◌-◌, ◌≤◌, ◌<◌, ◌≡◌, ◌≢◌, length, vec_len, IfOk, IfErr, OnOk, OnErr};
+ghost use Rattle.std.specs.Io.{ReadsAtMost, StartsWith, appended_bytes};
+ghost use Rattle.std.specs.Io.KnownBytes.{prepend_known, ReadConsumes, Consumes, IsAtEnd};
+ghost use Rattle.std.specs.IoError.{error_kind};
 ghost use Rattle.input.specs.Input.{room_for_lines, room_for_book, Means, ReadOnce, ReadOn, RestRead, OnceTaken, MoreTaken, AllTaken};
 ghost use Rattle.input.specs.InnerLines.{LineEnd, NoFeed, nothing_held, line_at, at_end, LineHeld, LinePassed, LineRead};
 ghost use Rattle.input.specs.InnerLines.{LineAfter, RestMoved, ahead, PassedTaken, FoundTaken};
 
 use book_rules::LONGEST;
+use std::io::ErrorKind;
 use std::rt::Files;
 use std::{fs, io, str};
 
@@ -179,6 +182,97 @@ pub fn read_file<F: Files>(files: &F, path: &[u8], held: &mut [u8]) -> Input
         Ok(mut file) => read_rest(&mut file, held, 0),
         Err(error) => Input::Failed(error),
     }
+}
+
+// What is read at once.
+const PIECE: usize = 8192;
+
+// A proved loop has to end: the reads are counted to a number that no input needs, and this is the failure behind it.
+fn gave_up() -> io::Error
+    ensures { error_kind result ≡ ErrorKind.TimedOut }
+{
+    io::Error::from(io::ErrorKind::TimedOut)
+}
+
+// One read, made again where a signal interrupts it.
+fn read_again<R: io::Read>(from: &mut R, buffer: &mut [u8]) -> io::Result<usize>
+    ensures within { ReadsAtMost result buffer.new }
+    ensures taken { ReadConsumes (R.remaining from.old) (R.remaining from.new) result buffer.new }
+    ensures retried { IfErr result (λ e. error_kind e ≢ ErrorKind.Interrupted) }
+{
+    for _ in 0..u64::MAX {
+        match from.read(buffer) {
+            Ok(count) => return Ok(count),
+            Err(error) if error.kind() == io::ErrorKind::Interrupted => {}
+            Err(error) => return Err(error),
+        }
+    }
+    Err(gave_up())
+}
+
+// One read behind what is held. Room is made first, so that no byte is lost where there is no memory.
+fn read_piece<R: io::Read>(from: &mut R, most: usize, held: &mut Vec<u8>) -> io::Result<usize>
+    ensures appends { StartsWith held.new.items held.old.items }
+    ensures taken { Consumes (R.remaining from.old) (R.remaining from.new) (appended_bytes held.old.items held.new.items) }
+    ensures count { IfOk result (λ n. (vec_len held.new ≡ vec_len held.old + n) × (n ≤ most)) }
+    ensures end { IfOk result (λ n. n ≡ 0 → 0 < most → IsAtEnd (R.remaining from.new)) }
+    ensures failed { OnErr result (held.new.items ≡ held.old.items) }
+    ensures retried { IfErr result (λ e. error_kind e ≢ ErrorKind.Interrupted) }
+{
+    let mut piece = [0u8; PIECE];
+    let room = most.min(PIECE);
+    held.reserve(room)?;
+    let count = read_again(from, &mut piece[..room])?;
+    held.extend_from_slice(&piece[..count]).unwrap();
+    Ok(count)
+}
+
+/// Reads behind what `bytes` holds, to the end of the input or until that many bytes more are read. Nothing that the reader
+/// gave is lost, also where a read fails or memory runs out.
+pub fn read_into<R: io::Read>(from: &mut R, most: usize, bytes: &mut Vec<u8>) -> io::Result<()>
+    ensures appends { StartsWith bytes.new.items bytes.old.items }
+    ensures most { vec_len bytes.new ≤ vec_len bytes.old + most }
+    ensures taken { Consumes (R.remaining from.old) (R.remaining from.new) (appended_bytes bytes.old.items bytes.new.items) }
+    ensures end { OnOk result (vec_len bytes.new < vec_len bytes.old + most → IsAtEnd (R.remaining from.new)) }
+    ensures retried { IfErr result (λ e. error_kind e ≢ ErrorKind.Interrupted) }
+{
+    let mut left = most;
+    while left > 0 {
+        let count = read_piece(from, left, bytes)?;
+        if count == 0 {
+            return Ok(());
+        }
+        left -= count;
+    }
+    Ok(())
+}
+
+/// Reads a book: a byte more of it than the longest book has, which no book's length is.
+pub fn read_book_into<R: io::Read>(from: &mut R, book: &mut Vec<u8>) -> io::Result<()>
+    ensures appends { StartsWith book.new.items book.old.items }
+    ensures most { vec_len book.new ≤ vec_len book.old + room_for_book }
+    ensures taken { Consumes (R.remaining from.old) (R.remaining from.new) (appended_bytes book.old.items book.new.items) }
+    ensures end { OnOk result (vec_len book.new < vec_len book.old + room_for_book → IsAtEnd (R.remaining from.new)) }
+    ensures retried { IfErr result (λ e. error_kind e ≢ ErrorKind.Interrupted) }
+{
+    read_into(from, BOOK, book)
+}
+
+/// Reads a file by its name in the same way. A name that is no text is no file's.
+pub fn read_file_into<F: Files>(
+    files: &F,
+    path: &[u8],
+    most: usize,
+    bytes: &mut Vec<u8>,
+) -> io::Result<()>
+    ensures appends { StartsWith bytes.new.items bytes.old.items }
+    ensures most { vec_len bytes.new ≤ vec_len bytes.old + most }
+{
+    let Ok(name) = str::from_utf8(path) else {
+        return Err(io::Error::from(io::ErrorKind::InvalidFilename));
+    };
+    let mut file = fs::open(files, name)?;
+    read_into(&mut file, most, bytes)
 }
 
 // Where the line that a place stands in ends: at its line feed, or where the text ends.
