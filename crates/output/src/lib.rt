@@ -1,17 +1,128 @@
-// Standard output as every program writes it: a row is made first and written at once, and a write that fails is reported on
-// standard error.
+// What every program prints on, and how it tells why it stops: a line is made first and written at once, and what cannot be read or
+// written is told on standard error.
 #![tactic(auto)]
 
-ghost use Rattle.std.specs.Prelude.{◌≡◌, ◌≤◌, [], ◌∷◌, true, length};
+ghost use Rattle.std.specs.Prelude.{◌≡◌, ◌≤◌, [], ◌∷◌, true, length, IfSome, OnOk};
+ghost use Rattle.std.specs.Fmt.{with_newline};
 ghost use Rattle.std.specs.Io.KnownBytes.{Appends};
 ghost use Rattle.io.specs.Digits.{last_digits};
 ghost use Rattle.decimals.specs.Decimals.{decimal};
+ghost use Rattle.output.specs.declared.Failure.TheVariants.{OutOfMemory};
 ghost use Rattle.output.specs.InnerRows.{text_of, joined, blanks};
 
+use std::alloc::{AllocError, AllocFailed, Global};
 use std::env::FillError;
-use std::io::Write;
+use std::error::Error;
+use std::fmt::{Display, Formatter, InlineText};
+use std::io::{Stdout, Write};
 use std::rt::Env;
 use std::{fmt, io};
+
+/// Why a program stops before it has answered.
+#[derive(Clone, Copy, Debug)]
+pub enum Failure {
+    /// It was given other arguments than it takes.
+    Use,
+    /// Standard input cannot be read.
+    Input(io::Error),
+    /// The file of a year sheet cannot be read.
+    Sheet(io::Error),
+    /// Standard output cannot be written.
+    Output(io::Error),
+    /// No memory is left.
+    OutOfMemory,
+}
+
+impl From<AllocError> for Failure {
+    ghost from_gives = { λ _ failure. failure ≡ OutOfMemory };
+
+    fn from(_error: AllocError) -> Failure {
+        Failure::OutOfMemory
+    }
+}
+
+impl<T: Drop> From<AllocFailed<T>> for Failure {
+    ghost from_gives = { λ _ failure. failure ≡ OutOfMemory };
+
+    fn from(_error: AllocFailed<T>) -> Failure {
+        Failure::OutOfMemory
+    }
+}
+
+/// An error's words, without the number that the system's errors have behind them.
+fn without_number(words: &str) -> &str {
+    words
+        .split_once(" (os error ")
+        .map_or(words, |(front, _)| front)
+}
+
+impl Display for Failure {
+    fn fmt<W: fmt::Write>(&self, f: &mut Formatter<W>) -> fmt::Result {
+        let (what, error) = match self {
+            Failure::Use => return f.write_str("wrong arguments"),
+            Failure::OutOfMemory => return f.write_str("out of memory"),
+            Failure::Input(error) => ("standard input", error),
+            Failure::Sheet(error) => ("sheet", error),
+            Failure::Output(error) => ("standard output", error),
+        };
+        let words = InlineText::<256>::of(error);
+        write!(f, "{what}: {}", without_number(words.as_str()))
+    }
+}
+
+impl Error for Failure {}
+
+/// What a program prints on.
+#[derive(Drop)]
+pub struct Printer<W = Stdout> {
+    pub out: W,
+    alloc: Global,
+}
+
+impl<W: Write> Printer<W> {
+    pub fn new(alloc: Global, out: W) -> Printer<W>
+        ensures { result.out ≡ out }
+    {
+        Printer { out, alloc }
+    }
+
+    /// A line, which is made first and then written at once: the text and a line feed.
+    pub fn line<D: Display + Drop>(&mut self, text: D) -> Result<(), Failure>
+        ensures { OnOk result (IfSome (with_newline (D.output text)) (Appends (W.contents self.old.out) (W.contents self.new.out))) }
+    {
+        let line = format!(in self.alloc; "{text}\n")?;
+        self.bytes(line.as_bytes())
+    }
+
+    /// Bytes as they are.
+    pub fn bytes(&mut self, bytes: &[u8]) -> Result<(), Failure>
+        ensures { OnOk result (Appends (W.contents self.old.out) (W.contents self.new.out) bytes.now) }
+    {
+        self.out.write_all(bytes).map_err(Failure::Output)
+    }
+}
+
+/// Tells on standard error why a program stopped before it had answered, if it did: how it is used, or what failed. The status
+/// stays 0.
+pub fn report<E: Write>(err: &mut E, program: &str, usage: &str, outcome: Result<(), Failure>) {
+    // Where standard error cannot be written, nothing is left to tell it on.
+    let _ = match outcome {
+        Ok(()) => Ok(()),
+        Err(Failure::Use) => writeln!(err, "{program}: {usage}"),
+        Err(failure) => writeln!(err, "{program}: {failure}"),
+    };
+}
+
+/// The argument of a program, at the front of a buffer, where it was given one that fits and no other.
+pub fn only_argument<'a, V: Env>(env: &V, buffer: &'a mut [u8]) -> Option<&'a [u8]>
+    ensures { IfSome result (λ word. length word.now ≤ length buffer.entry.now) }
+{
+    let length = env.arg(1, buffer).ok()?;
+    if has_argument(env, 2) {
+        return None;
+    }
+    buffer.get(..length)
+}
 
 // What a row holds at most.
 const ROOM: usize = 256;
@@ -166,18 +277,19 @@ pub fn has_argument<V: Env>(env: &V, place: usize) -> bool {
 #[cfg(test)]
 mod tests {
     use super::*;
+    use std::test::Fail;
 
-    // What is written on here stands in a row, a byte at each call; the first call is interrupted, and what has no room fails.
+    // What is written on here stands there, a byte at each call; the first call is interrupted, and what has no room fails.
     #[derive(Drop)]
     struct Paper {
-        row: Row,
+        text: Vec<u8>,
         room: usize,
         calls: u64,
     }
 
-    fn blank_paper(room: usize) -> Paper {
+    fn blank_paper(alloc: Global, room: usize) -> Paper {
         Paper {
-            row: no_text(),
+            text: Vec::new(alloc),
             room,
             calls: 0,
         }
@@ -189,14 +301,14 @@ mod tests {
             if self.calls == 1 {
                 return Err(io::Error::from(io::ErrorKind::Interrupted));
             }
-            if buf.is_empty() {
+            let Some(first) = buf.first() else {
                 return Ok(0);
-            }
+            };
             if self.room == 0 {
                 return Err(io::Error::from_raw_os_error(28));
             }
             self.room -= 1;
-            self.row = put(self.row, buf[0]);
+            self.text.push(*first)?;
             Ok(1)
         }
 
@@ -248,43 +360,68 @@ mod tests {
     }
 
     #[test]
-    fn bytes_are_written_whole(rt: HostRuntime) {
-        let mut out = blank_paper(100);
-        let mut err = blank_paper(100);
-        assert!(rt; write(&mut out, &mut err, b"paper", b"two words\n"));
-        assert_eq!(rt; bytes_of(&out.row), b"two words\n".as_slice());
-        let row = put_field(put_text(no_text(), b"and"), 2014);
-        assert!(rt; write_row(&mut out, &mut err, b"paper", row));
-        assert_eq!(rt; bytes_of(&out.row), b"two words\nand 2014".as_slice());
-        assert_eq!(rt; err.calls, 0);
+    fn bytes_are_written_whole(rt: HostRuntime) -> Result<(), Fail> {
+        let mut out = Printer::new(rt.alloc(), blank_paper(rt.alloc(), 100));
+        out.bytes(b"two words\n")?;
+        assert_eq!(rt; out.out.text.as_slice(), b"two words\n".as_slice());
+        out.bytes(b"and 2014")?;
+        assert_eq!(rt; out.out.text.as_slice(), b"two words\nand 2014".as_slice());
+        Ok(())
+    }
+
+    #[test]
+    fn a_line_is_written_whole(rt: HostRuntime) -> Result<(), Fail> {
+        let mut out = Printer::new(rt.alloc(), blank_paper(rt.alloc(), 1000));
+        let year = 2014;
+        out.line(format_args!("and {year} {:>250}", "far"))?;
+        out.line("")?;
+        let text = out.out.text.as_slice();
+        assert_eq!(rt; text.len(), 9 + 250 + 2);
+        assert_eq!(rt; text.starts_with(b"and 2014  "), true);
+        assert_eq!(rt; text.ends_with(b" far\n\n"), true);
+        Ok(())
     }
 
     #[test]
     fn a_write_that_fails_is_reported(rt: HostRuntime) {
-        let mut out = blank_paper(5);
-        let mut err = blank_paper(100);
-        assert!(rt; !write(&mut out, &mut err, b"paper", b"two words\n"));
-        assert_eq!(rt; bytes_of(&out.row), b"two w".as_slice());
+        let mut out = Printer::new(rt.alloc(), blank_paper(rt.alloc(), 5));
+        let mut err = blank_paper(rt.alloc(), 100);
+        report(&mut err, "paper", "", out.line("two words"));
+        assert_eq!(rt; out.out.text.as_slice(), b"two w".as_slice());
         assert_eq!(rt;
-            bytes_of(&err.row),
-            b"paper: No space left on device\n".as_slice()
+            err.text.as_slice(),
+            b"paper: standard output: No space left on device\n".as_slice()
         );
-        let mut err = blank_paper(100);
-        assert!(rt; !write_row(&mut Wall, &mut err, b"wall", put(no_text(), b'b')));
+        let mut err = blank_paper(rt.alloc(), 100);
+        report(
+            &mut err,
+            "wall",
+            "",
+            Printer::new(rt.alloc(), Wall).bytes(b"b"),
+        );
         assert_eq!(rt;
-            bytes_of(&err.row),
-            b"wall: failed to write whole buffer\n".as_slice()
+            err.text.as_slice(),
+            b"wall: standard output: failed to write whole buffer\n".as_slice()
         );
     }
 
     #[test]
     fn a_failure_is_told_without_its_number(rt: HostRuntime) {
-        let mut err = blank_paper(100);
-        fail(&mut err, b"book", io::Error::from_raw_os_error(21));
-        fail(&mut err, b"book", io::Error::other("it is (old)"));
-        tell_use(&mut err, b"book: give none\n");
-        let said = b"book: Is a directory\nbook: it is (old)\nbook: give none\n";
-        assert_eq!(rt; bytes_of(&err.row), said.as_slice());
+        let mut err = blank_paper(rt.alloc(), 300);
+        let outcomes = [
+            Err(Failure::Sheet(io::Error::from_raw_os_error(21))),
+            Err(Failure::Sheet(io::Error::other("it is (old)"))),
+            Err(Failure::Use),
+            Ok(()),
+            Err(Failure::Input(io::Error::from_raw_os_error(11))),
+            Err(Failure::from(AllocError)),
+        ];
+        for outcome in outcomes {
+            report(&mut err, "book", "give none", outcome);
+        }
+        let said = "book: sheet: Is a directory\nbook: sheet: it is (old)\nbook: give none\n\
+            book: standard input: Resource temporarily unavailable\nbook: out of memory\n";
+        assert_eq!(rt; err.text.as_slice(), said.as_bytes());
     }
 
     #[test]
@@ -292,5 +429,7 @@ mod tests {
         assert!(rt; has_argument(&OneEmpty, 0));
         assert!(rt; has_argument(&OneEmpty, 1));
         assert!(rt; !has_argument(&OneEmpty, 2));
+        let mut word = [0u8; 4];
+        assert_eq!(rt; only_argument(&OneEmpty, &mut word), Some(b"".as_slice()));
     }
 }
