@@ -17,12 +17,6 @@ use units::{RECORD_LENGTH, RecordIndex, UserNumber};
 pub mod kind;
 pub mod place;
 
-fn smaller(a: usize, b: usize) -> usize
-    ensures { result ≡ min a b }
-{
-    if a <= b { a } else { b }
-}
-
 fn start_of(index: RecordIndex) -> usize
     ensures { result ≡ record_length * index.0 }
 {
@@ -34,8 +28,8 @@ pub fn record<'a>(book: &'a [u8], index: RecordIndex) -> &'a [u8]
     ensures { result.now ≡ record_at book.now index.0 }
 {
     let start = start_of(index);
-    let from = smaller(start, book.len());
-    let to = smaller(start + RECORD_LENGTH, book.len());
+    let from = start.min(book.len());
+    let to = (start + RECORD_LENGTH).min(book.len());
     &book[from..to]
 }
 
@@ -64,43 +58,13 @@ pub fn whole<'a>(r: &'a [u8]) -> &'a [u8]
 }
 
 // The image goes to its record's place.
+#[tactic(auto, unfolding(crate::specs::Fields::put_record, codec::specs::Bytes::stored))]
 pub fn store(book: &mut [u8], index: RecordIndex, image: [u8; RECORD_LENGTH])
     requires { record_length * index.0 + record_length ≤ length book.old }
     ensures { book.new ≡ put_record index.0 image book.old }
 {
     let start = start_of(index);
-    for k in 0..RECORD_LENGTH {
-        book[start + k] = image[k];
-    }
-}
-
-// The image with a number of one, two, four or eight bytes from a place on.
-pub fn put_u8(image: [u8; RECORD_LENGTH], at: usize, n: u8) -> [u8; RECORD_LENGTH]
-    requires { at + 1 ≤ record_length }
-    ensures { result ≡ stored at (bytes_of 1 n) image }
-{
-    codec::write(image, at, 1, n as u64)
-}
-
-pub fn put_u16(image: [u8; RECORD_LENGTH], at: usize, n: u16) -> [u8; RECORD_LENGTH]
-    requires { at + 2 ≤ record_length }
-    ensures { result ≡ stored at (bytes_of 2 n) image }
-{
-    codec::write(image, at, 2, n as u64)
-}
-
-pub fn put_u32(image: [u8; RECORD_LENGTH], at: usize, n: u32) -> [u8; RECORD_LENGTH]
-    requires { at + 4 ≤ record_length }
-    ensures { result ≡ stored at (bytes_of 4 n) image }
-{
-    codec::write(image, at, 4, n as u64)
-}
-
-pub fn put_u64(image: [u8; RECORD_LENGTH], at: usize, n: u64) -> [u8; RECORD_LENGTH]
-    requires { at + 8 ≤ record_length }
-    ensures { result ≡ stored at (bytes_of 8 n) image }
-{
-    codec::write(image, at, 8, n)
+    book[start..start + RECORD_LENGTH].copy_from_slice(&image);
 }
 
 // The bytes that no field names, by kind.
@@ -129,74 +93,79 @@ pub fn closing_rest_zero(r: &[u8]) -> bool
     codec::zeros(r, 76, 4)
 }
 
-pub fn read_u8(r: &[u8], at: usize) -> u8
-    ensures { result ≡ number 1 at r.now }
-{
-    codec::byte_at(r, at)
-}
-
+#[tactic(auto, unfolding(crate::specs::Fields::get))]
 pub fn used_of(r: &[u8]) -> u32
     ensures { result ≡ get used_field r.now }
 {
-    codec::read_u32(r, place::USED)
+    codec::read(r, place::USED)
 }
 
+#[tactic(auto, unfolding(crate::specs::Fields::get))]
 pub fn first_user_of(r: &[u8]) -> RecordIndex
     ensures { result ≡ record_index (get first_user_field r.now) }
 {
-    RecordIndex(codec::read_u32(r, place::FIRST_USER))
+    RecordIndex(codec::read(r, place::FIRST_USER))
 }
 
+#[tactic(auto, unfolding(crate::specs::Fields::get))]
 pub fn next_of(r: &[u8]) -> RecordIndex
     ensures { result ≡ record_index (get next_field r.now) }
 {
-    RecordIndex(codec::read_u32(r, place::NEXT))
+    RecordIndex(codec::read(r, place::NEXT))
 }
 
+#[tactic(auto, unfolding(crate::specs::Fields::get))]
 pub fn kind_of(r: &[u8]) -> u8
     ensures { result ≡ get kind_field r.now }
 {
-    read_u8(r, place::KIND)
+    codec::read(r, place::KIND)
 }
 
+#[tactic(auto, unfolding(crate::specs::Fields::get))]
 pub fn number_of(r: &[u8]) -> UserNumber
     ensures { result ≡ user_number (get number_field r.now) }
 {
-    UserNumber(codec::read_u32(r, place::NUMBER))
+    UserNumber(codec::read(r, place::NUMBER))
 }
 
+#[tactic(auto, unfolding(crate::specs::Fields::get))]
 pub fn first_entry_of(r: &[u8]) -> RecordIndex
     ensures { result ≡ record_index (get first_entry_field r.now) }
 {
-    RecordIndex(codec::read_u32(r, place::FIRST_ENTRY))
+    RecordIndex(codec::read(r, place::FIRST_ENTRY))
 }
 
+#[tactic(auto, unfolding(crate::specs::Fields::get))]
 pub fn activation_year_of(r: &[u8]) -> u16
     ensures { result ≡ get activation_year_field r.now }
 {
-    codec::read_u16(r, place::ACTIVATION_YEAR)
+    codec::read(r, place::ACTIVATION_YEAR)
 }
 
+#[tactic(auto, unfolding(crate::specs::Fields::get))]
 pub fn open_year_of(r: &[u8]) -> u16
     ensures { result ≡ get open_year_field r.now }
 {
-    codec::read_u16(r, place::OPEN_YEAR)
+    codec::read(r, place::OPEN_YEAR)
 }
 
+#[tactic(auto, unfolding(crate::specs::Fields::get))]
 pub fn year_of(r: &[u8]) -> u16
     ensures { result ≡ get year_field r.now }
 {
-    codec::read_u16(r, place::YEAR)
+    codec::read(r, place::YEAR)
 }
 
+#[tactic(auto, unfolding(crate::specs::Fields::get))]
 pub fn booked_of(r: &[u8]) -> u16
     ensures { result ≡ get booked_field r.now }
 {
-    codec::read_u16(r, place::BOOKED)
+    codec::read(r, place::BOOKED)
 }
 
+#[tactic(auto, unfolding(crate::specs::Fields::get))]
 pub fn owner_of(r: &[u8]) -> RecordIndex
     ensures { result ≡ record_index (get owner_field r.now) }
 {
-    RecordIndex(codec::read_u32(r, place::OWNER))
+    RecordIndex(codec::read(r, place::OWNER))
 }

@@ -1,5 +1,5 @@
 pub mod Numbers
-pub mod Words
+pub mod ZeroBytes
 pub mod ByteRanges
 pub mod Parts
 pub mod Stores

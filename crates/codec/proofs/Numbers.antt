@@ -13,9 +13,10 @@ abbrev pub table : ℕ → (ℕ → ℕ) → List ℕ
 table zero f = []
 table (suc n) f = f 0 ∷ table n (λ i. f (suc i))
 
-table-cong : (n : ℕ) (f g : ℕ → ℕ) → ((i : ℕ) → f i ≡ g i) → table n f ≡ table n g
+table-cong : (n : ℕ) (f g : ℕ → ℕ) → ((i : ℕ) → i < n → f i ≡ g i) → table n f ≡ table n g
 table-cong zero f g h = refl
-table-cong (suc n) f g h = ap₂ ◌∷◌ (h 0) (table-cong n (λ i. f (suc i)) (λ i. g (suc i)) (λ i. h (suc i)))
+table-cong (suc n) f g h =
+    ap₂ ◌∷◌ (h 0 (omega arith)) (table-cong n (λ i. f (suc i)) (λ i. g (suc i)) (λ i l. h (suc i) (omega (arith, l))))
 
 zeros-value : (w : ℕ) → little_endian (table w (λ i. 0)) ≡ 0
 unfolding little_endian
@@ -32,7 +33,15 @@ front-value (suc w) (b ∷ s) = ap (λ (n : ℕ). b + 256 * n) (front-value w s)
 pub number-bytes : (w at : ℕ) (s : List ℕ) → number w at s ≡ little_endian (table w (λ i. get_or s (at + i) 0))
 unfolding number part
 number-bytes w at s =
-    front-value w (drop at s) ∙ ap little_endian (table-cong w (λ i. get_or (drop at s) i 0) (λ i. get_or s (at + i) 0) (λ i. get_or-drop at s i 0))
+    front-value w (drop at s) ∙ ap little_endian (table-cong w (λ i. get_or (drop at s) i 0) (λ i. get_or s (at + i) 0) (λ i l. get_or-drop at s i 0))
+
+-- the number at a place, from eight bytes that are those of the string, with zeros past its end
+pub number_padded : (w at : ℕ) (bytes s : List ℕ) → w ≤ 8 → ((i : ℕ) → i < 8 → get_or bytes i 0 ≡ get_or s (at + i) 0)
+    → little_endian (take w bytes) ≡ number w at s
+number_padded w at bytes s h same =
+    front-value w bytes
+    ∙ ap little_endian (table-cong w (λ i. get_or bytes i 0) (λ i. get_or s (at + i) 0) (λ i l. same i (omega (arith, h, l))))
+    ∙ sym (number-bytes w at s)
 
 pub length-bytes : (w n : ℕ) → length (bytes_of w n) ≡ w
 unfolding bytes_of

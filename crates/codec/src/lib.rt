@@ -2,125 +2,170 @@
 // string of bytes is an ordinary input.
 #![tactic(auto)]
 
-ghost use Rattle.std.specs.Prelude.{◌≡◌, ◌+◌, ◌*◌, ◌≤◌, ◌<◌, ◌^◌, get_or, length};
-ghost use Rattle.units.specs.Limits.{record_length};
-ghost use Rattle.codec.specs.Bytes.{number, stored, bytes_of};
+ghost use Rattle.std.specs.Prelude.{◌≡◌, ℕ, ◌+◌, ◌≤◌, ◌<◌, ◌^◌, get_or, length};
+ghost use Rattle.std.proofs.Common.{rules};
+ghost use Rattle.codec.specs.Bytes.{little_endian, number, stored, bytes_of};
 ghost use Rattle.codec.specs.Bytes.{zeros as zeroBytes};
 
-use units::RECORD_LENGTH;
+// A number as it stands in a record or a sheet: so many bytes, the lowest first.
+pub trait Number: Copy {
+    ghost WIDTH: { ℕ };
 
+    const WIDTH: usize;
+
+    ghost value: { Self → ℕ };
+
+    fn load(bytes: &[u8]) -> Self
+        requires { length bytes.now ≡ WIDTH }
+        ensures { value result ≡ little_endian bytes.now };
+
+    fn save(self, to: &mut [u8])
+        requires { length to.old ≡ WIDTH }
+        ensures { to.new ≡ bytes_of WIDTH (value self) };
+
+    ghost narrow: { WIDTH ≤ 8 };
+}
+
+impl Number for u8 {
+    ghost WIDTH = { 1 };
+
+    const WIDTH: usize = 1;
+
+    ghost value = { λ n. n };
+
+    #[tactic(auto, unfolding(crate::specs::Bytes::little_endian))]
+    fn load(bytes: &[u8]) -> u8 {
+        bytes[0]
+    }
+
+    #[tactic(auto, unfolding(crate::specs::Bytes::bytes_of))]
+    fn save(self, to: &mut [u8]) {
+        to[0] = self;
+    }
+
+    ghost narrow = { Prim.search rules };
+}
+
+impl Number for u16 {
+    ghost WIDTH = { 2 };
+
+    const WIDTH: usize = 2;
+
+    ghost value = { λ n. n };
+
+    #[tactic(auto, unfolding(crate::specs::Bytes::little_endian))]
+    fn load(bytes: &[u8]) -> u16 {
+        u16::from_le_bytes([bytes[0], bytes[1]])
+    }
+
+    #[tactic(auto, unfolding(crate::specs::Bytes::bytes_of))]
+    fn save(self, to: &mut [u8]) {
+        to.copy_from_slice(&u16::to_le_bytes(self));
+    }
+
+    ghost narrow = { Prim.search rules };
+}
+
+impl Number for u32 {
+    ghost WIDTH = { 4 };
+
+    const WIDTH: usize = 4;
+
+    ghost value = { λ n. n };
+
+    #[tactic(auto, unfolding(crate::specs::Bytes::little_endian))]
+    fn load(bytes: &[u8]) -> u32 {
+        u32::from_le_bytes([bytes[0], bytes[1], bytes[2], bytes[3]])
+    }
+
+    #[tactic(auto, unfolding(crate::specs::Bytes::bytes_of))]
+    fn save(self, to: &mut [u8]) {
+        to.copy_from_slice(&u32::to_le_bytes(self));
+    }
+
+    ghost narrow = { Prim.search rules };
+}
+
+impl Number for u64 {
+    ghost WIDTH = { 8 };
+
+    const WIDTH: usize = 8;
+
+    ghost value = { λ n. n };
+
+    #[tactic(auto, unfolding(crate::specs::Bytes::little_endian))]
+    fn load(bytes: &[u8]) -> u64 {
+        u64::from_le_bytes([
+            bytes[0], bytes[1], bytes[2], bytes[3], bytes[4], bytes[5], bytes[6], bytes[7],
+        ])
+    }
+
+    #[tactic(auto, unfolding(crate::specs::Bytes::bytes_of))]
+    fn save(self, to: &mut [u8]) {
+        to.copy_from_slice(&u64::to_le_bytes(self));
+    }
+
+    ghost narrow = { Prim.search rules };
+}
+
+// The number at a place where all its bytes stand in the string.
+#[tactic(auto, unfolding(crate::specs::Bytes::number, crate::specs::Bytes::part))]
+pub fn get<T: Number>(s: &[u8], at: usize) -> T
+    requires { at + T.WIDTH ≤ length s.now }
+    ensures { T.value result ≡ number T.WIDTH at s.now }
+{
+    T::load(&s[at..at + T::WIDTH])
+}
+
+// A byte, or 0 past the end of the string.
 pub fn byte_at(s: &[u8], at: usize) -> u8
     ensures { result ≡ get_or s.now at 0 }
 {
-    if at < s.len() { s[at] } else { 0 }
+    s.get(at).copied().unwrap_or(0)
 }
 
-// Numbers of two, four and eight bytes.
-fn two(a: u8, b: u8) -> u16
-    ensures { result ≡ a + 256 * b }
-{
-    (a as u16) + (b as u16) * 256
-}
-
-fn four(a: u8, b: u8, c: u8, d: u8) -> u32
-    ensures { result ≡ a + 256 * b + 65536 * c + 16777216 * d }
-{
-    let low = (a as u32) + (b as u32) * 256;
-    let high = (c as u32) + (d as u32) * 256;
-    low + high * 65536
-}
-
-fn eight(low: u32, high: u32) -> u64
-    ensures { result ≡ low + 4294967296 * high }
-{
-    (low as u64) + (high as u64) * 4294967296
-}
-
-// Bytes that all stand in the string are read at once (`load_u32` is for those alone); else each by itself.
-pub fn read_u16(s: &[u8], at: usize) -> u16
+// The bytes from a place on, with zeros for those past the end.
+fn padded(s: &[u8], at: usize) -> [u8; 8]
     requires { at < 2 ^ 40 }
-    ensures { result ≡ number 2 at s.now }
+    ensures { (i : ℕ) → i < 8 → get_or result i 0 ≡ get_or s.now (at + i) 0 }
 {
-    if at + 2 <= s.len() {
-        two(s[at], s[at + 1])
-    } else {
-        two(byte_at(s, at), byte_at(s, at + 1))
+    let mut bytes = [0; 8];
+    for i in 0..8 {
+        bytes[i] = byte_at(s, at + i);
     }
+    bytes
 }
 
-pub fn load_u32(s: &[u8], at: usize) -> u32
-    requires { at + 4 ≤ length s.now }
-    ensures { result ≡ number 4 at s.now }
-{
-    four(s[at], s[at + 1], s[at + 2], s[at + 3])
-}
-
-pub fn read_u32(s: &[u8], at: usize) -> u32
+// The number at a place of any string.
+pub fn read<T: Number>(s: &[u8], at: usize) -> T
     requires { at < 2 ^ 40 }
-    ensures { result ≡ number 4 at s.now }
+    ensures { T.value result ≡ number T.WIDTH at s.now }
 {
-    if at + 4 <= s.len() {
-        load_u32(s, at)
-    } else {
-        four(
-            byte_at(s, at),
-            byte_at(s, at + 1),
-            byte_at(s, at + 2),
-            byte_at(s, at + 3),
-        )
+    if at + T::WIDTH <= s.len() {
+        return get(s, at);
     }
+    T::load(&padded(s, at)[..T::WIDTH])
 }
 
-pub fn read_u64(s: &[u8], at: usize) -> u64
-    requires { at + 4 < 2 ^ 40 }
-    ensures { result ≡ number 8 at s.now }
+// A number goes to its place.
+#[tactic(auto, unfolding(crate::specs::Bytes::stored))]
+pub fn put<T: Number>(s: &mut [u8], at: usize, n: T)
+    requires { at + T.WIDTH ≤ length s.old }
+    ensures { s.new ≡ stored at (bytes_of T.WIDTH (T.value n)) s.old }
 {
-    if at + 8 <= s.len() {
-        eight(load_u32(s, at), load_u32(s, at + 4))
-    } else {
-        eight(read_u32(s, at), read_u32(s, at + 4))
-    }
+    n.save(&mut s[at..at + T::WIDTH]);
 }
 
-// A stretch is zero: word by word, and what is left byte by byte.
+// A stretch of bytes is zero.
 pub fn zeros(s: &[u8], from: usize, count: usize) -> bool
     requires { from + count < 2 ^ 40 }
     ensures { result ≡ zeroBytes from count s.now }
 {
+    let end = (from + count).min(s.len());
+    let first = from.min(end);
     let mut all = true;
-    let mut i = 0;
-    while i + 4 <= count {
-        all = all & (read_u32(s, from + i) == 0);
-        i = i + 4;
-    }
-    while i < count {
-        all = all & (byte_at(s, from + i) == 0);
-        i = i + 1;
+    for b in &s[first..end] {
+        all = all & (*b == 0);
     }
     all
-}
-
-// A number of four bytes goes to its place in a lent string.
-pub fn store_u32(s: &mut [u8], at: usize, n: u32)
-    requires { at + 4 ≤ length s.old }
-    ensures { s.new ≡ stored at (bytes_of 4 n) s.old }
-{
-    s[at] = (n % 256) as u8;
-    s[at + 1] = (n / 256 % 256) as u8;
-    s[at + 2] = (n / 256 / 256 % 256) as u8;
-    s[at + 3] = (n / 256 / 256 / 256 % 256) as u8;
-}
-
-// The image with the lowest `width` bytes of a number from `at` on.
-pub fn write(image: [u8; RECORD_LENGTH], at: usize, width: usize, n: u64) -> [u8; RECORD_LENGTH]
-    requires { at + width ≤ record_length }
-    ensures { result ≡ stored at (bytes_of width n) image }
-{
-    let mut filled = image;
-    let mut rest = n;
-    for k in 0..width {
-        filled[at + k] = (rest % 256) as u8;
-        rest = rest / 256;
-    }
-    filled
 }

@@ -41,13 +41,13 @@ pub struct Objection {
 pub fn user(s: &[u8]) -> UserNumber
     ensures { result ≡ user_number (sheet_user s.now) }
 {
-    UserNumber(codec::read_u32(s, 0))
+    UserNumber(codec::read(s, 0))
 }
 
 pub fn year(s: &[u8]) -> u16
     ensures { result ≡ sheet_year s.now }
 {
-    codec::read_u16(s, 4)
+    codec::read(s, 4)
 }
 
 pub fn withdrawn_reading(s: &[u8]) -> u8
@@ -76,14 +76,14 @@ pub fn number_at(s: &[u8], month: usize, place: usize) -> u32
     requires month_bound { (month < 12) × (place < 24) }
     ensures { result ≡ word s.now month place }
 {
-    codec::load_u32(s, HEADER + 96 * month + 4 * place)
+    codec::get(s, HEADER + 96 * month + 4 * place)
 }
 
 fn word_at(s: &[u8], month: usize, place: usize) -> u32
     requires { (month < 12) × (place < 24) }
     ensures { result ≡ word s.now month place }
 {
-    codec::read_u32(s, HEADER + 96 * month + 4 * place)
+    codec::read(s, HEADER + 96 * month + 4 * place)
 }
 
 // 11: a length, a header or a zero word that is wrong. Bytes 8 and 12–15 of the header are parts of their own.

@@ -55,7 +55,7 @@ fn in_sheet(sheet: &[u8], column: usize, month: usize) -> u32
     requires column_bound { (column < sheet_columns) × (month < sheet_months) }
     ensures { result ≡ in_sheet sheet_columns sheet.now column month }
 {
-    codec::load_u32(sheet, sheet_place(column, month))
+    codec::get(sheet, sheet_place(column, month))
 }
 
 fn in_archive(archive: &[u8], column: usize, month: usize) -> u32
@@ -63,7 +63,7 @@ fn in_archive(archive: &[u8], column: usize, month: usize) -> u32
     requires column_bound { (column < sheet_columns) × (month < sheet_months) }
     ensures { result ≡ in_archive sheet_months archive.now column month }
 {
-    codec::load_u32(archive, archive_place(column, month))
+    codec::get(archive, archive_place(column, month))
 }
 
 // Modulo 2^32.
@@ -86,7 +86,7 @@ fn header_words(from: &[u8]) -> [u32; HEADER_WORDS]
 {
     let mut words = [0u32; HEADER_WORDS];
     for k in 0..HEADER_WORDS {
-        words[k] = codec::load_u32(from, 4 * k);
+        words[k] = codec::get(from, 4 * k);
     }
     words
 }
@@ -97,7 +97,7 @@ fn copy_header(from: &[u8], to: &mut [u8])
 {
     let words = header_words(from);
     for k in 0..HEADER_WORDS {
-        codec::store_u32(to, 4 * k, words[k]);
+        codec::put(to, 4 * k, words[k]);
     }
 }
 
@@ -109,10 +109,10 @@ fn archive_column(sheet: &[u8], archive: &mut [u8], column: usize)
     ensures { archive.new ≡ column_written sheet.now column archive.old }
 {
     let mut last = in_sheet(sheet, column, 0);
-    codec::store_u32(archive, archive_place(column, 0), last);
+    codec::put(archive, archive_place(column, 0), last);
     for month in 1..MONTHS {
         let number = in_sheet(sheet, column, month);
-        codec::store_u32(
+        codec::put(
             archive,
             archive_place(column, month),
             difference(number, last),
@@ -144,10 +144,10 @@ fn store_four(sheet: &mut [u8], column: usize, month: usize, numbers: Four)
     requires column_bound { (column + 4 ≤ sheet_columns) × (month < sheet_months) }
     ensures { sheet.new ≡ four_stored column month numbers sheet.old }
 {
-    codec::store_u32(sheet, sheet_place(column, month), numbers.first);
-    codec::store_u32(sheet, sheet_place(column + 1, month), numbers.second);
-    codec::store_u32(sheet, sheet_place(column + 2, month), numbers.third);
-    codec::store_u32(sheet, sheet_place(column + 3, month), numbers.fourth);
+    codec::put(sheet, sheet_place(column, month), numbers.first);
+    codec::put(sheet, sheet_place(column + 1, month), numbers.second);
+    codec::put(sheet, sheet_place(column + 2, month), numbers.third);
+    codec::put(sheet, sheet_place(column + 3, month), numbers.fourth);
 }
 
 fn restore_four(archive: &[u8], sheet: &mut [u8], column: usize)

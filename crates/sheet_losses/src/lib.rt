@@ -231,9 +231,9 @@ fn store_month(sheet: &mut [u8], month: usize, raised: Bands)
     ensures { sheet.new ≡ stored (injected_place month) (three_readings (in_band raised)) sheet.old }
 {
     let at = HEADER + 96 * month + 4 * INJECTED;
-    codec::store_u32(sheet, at, raised.first.0);
-    codec::store_u32(sheet, at + 4, raised.second.0);
-    codec::store_u32(sheet, at + 8, raised.third.0);
+    codec::put(sheet, at, raised.first.0);
+    codec::put(sheet, at + 4, raised.second.0);
+    codec::put(sheet, at + 8, raised.third.0);
 }
 
 fn write_year(sheet: &mut [u8], months: [Bands; 12])

@@ -70,7 +70,7 @@ fn rate_at(s: &[u8], at: usize) -> Rate
     requires { at < 2 ^ 40 }
     ensures { result ≡ rate (number 4 at s.now) }
 {
-    Rate(codec::read_u32(s, at) as u64)
+    Rate(u64::from(codec::read::<u32>(s, at)))
 }
 
 // The prices of a month, by band; the price of a single reading stands at F1.

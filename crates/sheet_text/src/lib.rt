@@ -198,7 +198,7 @@ fn fill_month(sheet: &mut [u8], month: usize, year: [u32; YEAR_READINGS])
     ensures { sheet.new ≡ month_filled (kwh_of_year year month) month readings sheet.old }
 {
     for place in 0..READINGS {
-        codec::store_u32(
+        codec::put(
             sheet,
             HEADER + 96 * month + 4 * place,
             year[READINGS * month + place],

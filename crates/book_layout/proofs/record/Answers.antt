@@ -13,6 +13,6 @@ pub returns : goal.returns
 unfolding record_at
 returns c =
     let b : List ℕ = c.args.book.now in
-    ap₂ (λ (to from : ℕ). take (to - from) (drop from b)) c.smaller-to.ensures c.smaller-from.ensures
+    ap₂ (λ (to from : ℕ). take (to - from) (drop from b)) c.min-to.ensures c.min-from.ensures
     ∙ part-clipped record_length c.start_of-start.result b
     ∙ ap (λ (at : ℕ). part record_length at b) c.start_of-start.ensures

@@ -1,30 +1,22 @@
--- A running test, by words and then by bytes.
-use Prim.Native.Nat.{ℕ, ◌+◌}
-use mathlib.Core.Path.{ap, sym}
-use lib.Dec.{eqb}
-use lib.ListN.{get_or}
-use Rattle.units.proofs.Folds.{all-zero, all-next}
-use Rattle.codec.specs.Bytes.{zeros}
-use Rattle.codec.proofs.Words.{word_next}
-use Rattle.std.proofs.Common.{rules}
+-- Byte by byte what stands within the string is zero.
+use Rattle.std.proofs.Common.{◌∙◌, ◌≡◌, ◌-◌, ◌<◌, arith, length-take, length-drop}
+use Rattle.std.proofs.lemmas.List.{get_or-take, get_or-drop}
+use Rattle.codec.proofs.ZeroBytes.{zeros_none, zeros_next, zeros_within}
 use Rattle.codec.proofs.zeros.Goals as goal
 
-pub loop-i-init : goal.loop-i-init
-unfolding zeros
-loop-i-init c = (search rules, sym (all-zero (λ j. eqb (get_or c.args.s.now (c.args.from + j) 0) 0)))
+pub loop-b-init : goal.loop-b-init
+loop-b-init c = zeros_none c.min-first.result c.args.s.now
 
-pub loop-i-preserved : goal.loop-i-preserved
-loop-i-preserved c =
-    let l = c.loop-i in
-    let a = c.args in
-    (search rules, word_next 4 a.from l.i a.s.now l.invariant.1 c.read_u32.ensures)
+pub loop-b-preserved : goal.loop-b-preserved
+loop-b-preserved c =
+    let room : c.loop-b.b-index < c.min-end.result - c.min-first.result = let l = rw length-take at c.loop-b-test.true in omega (arith, l) in
+    zeros_next c.min-first.result c.loop-b.b-index c.args.s.now c.loop-b.invariant
+    (get_or-take (c.min-end.result - c.min-first.result) _ c.loop-b.b-index 0 room ∙ get_or-drop c.min-first.result c.args.s.now c.loop-b.b-index 0)
 
-pub loop-i-2-preserved : goal.loop-i-2-preserved
-unfolding zeros
-loop-i-2-preserved c =
-    let l = c.loop-i-2 in
-    let a = c.args in (
-      search rules,
-      all-next l.i (λ j. eqb (get_or a.s.now (a.from + j) 0) 0) l.invariant.1 (ap (λ (n : ℕ). eqb n 0)
-          c.byte_at.ensures),
-    )
+pub returns : goal.returns
+returns c =
+    let most = rw (length-take, length-drop) at c.loop-b.auto.b-index-end in
+    let least = rw (length-take, length-drop) at c.loop-b-test.false in
+    let all : c.loop-b.b-index ≡ c.min-end.result - c.min-first.result = omega (arith, most, least, c.min-end.ensures) in
+    rw all at c.loop-b.invariant
+    ∙ zeros_within c.args.from c.args.count c.min-first.result c.min-end.result c.args.s.now c.min-end.ensures c.min-first.ensures

@@ -4,4 +4,4 @@ use Rattle.sheet.proofs.number_at.Goals as goal
 
 pub returns : goal.returns
 unfolding word
-returns c = c.load_u32.ensures
+returns c = c.get.ensures

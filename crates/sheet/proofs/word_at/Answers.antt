@@ -4,4 +4,4 @@ use Rattle.sheet.proofs.word_at.Goals as goal
 
 pub returns : goal.returns
 unfolding word
-returns c = c.read_u32.ensures
+returns c = c.read.ensures

@@ -19,7 +19,7 @@ first-stored s a a₀ column place n room e p v =
 
 pub loop-month-init : goal.loop-month-init
 loop-month-init c =
-    let w = c.store_u32 in
+    let w = c.put in
     let place = c.archive_place in
     let number = c.in_sheet-last in
     let a = c.args in
@@ -35,13 +35,13 @@ loop-month-init c =
 
 pub loop-month-preserved : goal.loop-month-preserved
 loop-month-preserved c =
-    let w = c.store_u32-in-loop-month in
+    let w = c.put-in-loop-month in
     let worked = c.difference in
     let place = c.archive_place-in-loop-month in
     let number = c.in_sheet-number in
     let l = c.loop-month in
     let a = c.args in
-    let t₀ = c.store_u32 in
+    let t₀ = c.put in
     let column = in_sheet sheet_columns a.sheet.now a.column in record {
       first = search rules;
       within = search rules;
@@ -56,7 +56,7 @@ loop-month-preserved c =
 pub returns : goal.returns
 returns c =
     let l = c.loop-month in
-    let w = c.store_u32 in
+    let w = c.put in
     let place = c.archive_place in
     let number = c.in_sheet-last in
     let a = c.args in

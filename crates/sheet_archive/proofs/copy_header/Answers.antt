@@ -20,7 +20,7 @@ loop-k-init c = record { within = search rules; words = c.header_words-words.ens
 
 pub loop-k-preserved : goal.loop-k-preserved
 loop-k-preserved c =
-    let w = c.store_u32 in
+    let w = c.put in
     let l = c.loop-k in
     let words = c.header_words-words in
     let a = c.args in

@@ -8,4 +8,4 @@ pub returns : goal.returns
 unfolding number_in
 returns c =
     let s = c.args.archive in
-    c.load_u32.ensures ∙ ap (λ (at : ℕ). number 4 at s.now) c.archive_place.ensures
+    c.get.ensures ∙ ap (λ (at : ℕ). number 4 at s.now) c.archive_place.ensures

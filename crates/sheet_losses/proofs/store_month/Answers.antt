@@ -9,5 +9,5 @@ pub returns : goal.returns
 unfolding by_band
 returns c =
     let a = c.args in
-    three-stored (injected_place a.month) (in_band a.raised) a.sheet.now c.store_u32.new.s c.store_u32-2.new.s c.store_u32-3.new.s
-    (omega arith) c.store_u32.ensures c.store_u32-2.ensures c.store_u32-3.ensures
+    three-stored (injected_place a.month) (in_band a.raised) a.sheet.now c.put.new.s c.put-2.new.s c.put-3.new.s
+    (omega arith) c.put.ensures c.put-2.ensures c.put-3.ensures

@@ -16,7 +16,7 @@ pub loop-place-preserved : goal.loop-place-preserved
 loop-place-preserved c =
     let l = c.loop-place in
     let a = c.args in
-    let put = c.store_u32 in record {
+    let put = c.put in record {
       within = search rules;
       same = put.auto.s ∙ l.invariant.same;
       written = put.ensures

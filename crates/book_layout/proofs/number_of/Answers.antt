@@ -1,9 +1,0 @@
--- `number_of` is held to `get`: the number that stands in the field.
-use mathlib.Core.Path.{ap}
-use Rattle.units.specs.Units.{user_number}
-use Rattle.book_layout.specs.Fields.{get}
-use Rattle.book_layout.proofs.number_of.Goals as goal
-
-pub returns : goal.returns
-unfolding get
-returns c = ap user_number c.read_u32.ensures
