@@ -15,6 +15,7 @@ use call_statement::Stated;
 use input::Found;
 use listing_text::Listed;
 use output::Row;
+use refusals::Refusal;
 use replay_script::{Digits, Request};
 use sheet::Position;
 use sheet_losses::{Raised, Rests};
@@ -280,6 +281,14 @@ fn say_written(rt: &HostRuntime, written: Written, buffer: &[u8], out: &mut [u8]
     say_hex(rt, buffer, out, 0)
 }
 
+// The number of a refusal, 0 for an accepted call.
+fn number_of(answer: Result<(), Refusal>) -> u32 {
+    match answer {
+        Ok(()) => 0,
+        Err(refusal) => refusal.number(),
+    }
+}
+
 // What is made of two words of bytes, the second of them lent.
 #[derive(Drop)]
 enum Work {
@@ -294,11 +303,11 @@ fn work_on(rt: &HostRuntime, work: Work, source: &[u8], lent: &mut [u8], out: &m
 {
     match work {
         Work::Archive => {
-            let refusal = sheet_archive::archive(source, lent);
+            let refusal = number_of(sheet_archive::archive(source, lent));
             say_buffer(rt, refusal, lent, out)
         }
         Work::Restore => {
-            let refusal = sheet_archive::restore(source, lent);
+            let refusal = number_of(sheet_archive::restore(source, lent));
             say_buffer(rt, refusal, lent, out)
         }
         Work::Read => {

@@ -5,17 +5,17 @@
 ghost use Rattle.std.specs.Prelude.{◌≡◌, ◌+◌, ◌*◌, ◌<◌, ◌≤◌, length};
 ghost use Rattle.codec.specs.Bytes.{stored};
 ghost use Rattle.sheet.specs.YearSheet.{sheet_length};
-ghost use Rattle.sheet_archive.specs.Tables.{header_length, header};
-ghost use Rattle.sheet_archive.specs.Archive.{minus, plus, in_sheet, in_archive, sheet_columns, sheet_months};
+ghost use Rattle.refusals.specs.Refusals.{refusal_in};
+ghost use Rattle.sheet_archive.specs.Tables.{header_length, header, number_in};
+ghost use Rattle.sheet_archive.specs.Archive.{sheet_columns, sheet_months};
 ghost use Rattle.sheet_archive.specs.Archive.{sizes_fit, size_answer, archive_after, restored_after};
-ghost use Rattle.sheet_archive.specs.InnerSteps.{Holds, header_words, header_word, column_written, next_four, four_stored, Restored};
+ghost use Rattle.sheet_archive.specs.InnerSteps.{column_written, next_four, four_stored, Restored};
 
+use refusals::Refusal;
 use sheet::{HEADER, LENGTH, MONTHS};
 
 // A month's numbers, the last one too.
 const COLUMNS: usize = 24;
-
-const HEADER_WORDS: usize = 8;
 
 // The numbers of four columns that stand side by side, in one month.
 #[derive(Clone, Copy)]
@@ -26,79 +26,37 @@ struct Four {
     fourth: u32,
 }
 
-// A buffer of another size.
-const WRONG_SIZE: u32 = 27;
-
 fn sizes_fit(source: usize, destination: usize) -> bool
     ensures { result ≡ sizes_fit source destination }
 {
     (source == LENGTH) & (destination == LENGTH)
 }
 
-// Where a number stands, in a sheet and in an archive.
-fn sheet_place(column: usize, month: usize) -> usize
-    requires { (column < sheet_columns) × (month < sheet_months) }
-    ensures { result ≡ header_length + 4 * (sheet_columns * month + column) }
+// Where the number at a place of a line stands, in a table of so many numbers a line: a sheet has a line for each month, an archive
+// one for each column.
+fn place_in(places: usize, line: usize, place: usize) -> usize
+    requires { header_length + 4 * (places * line + place) ≤ sheet_length }
+    ensures { result ≡ header_length + 4 * (places * line + place) }
 {
-    HEADER + 4 * (COLUMNS * month + column)
+    HEADER + 4 * (places * line + place)
 }
 
-fn archive_place(column: usize, month: usize) -> usize
-    requires { (column < sheet_columns) × (month < sheet_months) }
-    ensures { result ≡ header_length + 4 * (sheet_months * column + month) }
+#[tactic(auto, unfolding(crate::specs::Tables::number_in))]
+fn number_in(places: usize, table: &[u8], line: usize, place: usize) -> u32
+    requires whole_table { length table.now ≡ sheet_length }
+    requires within_table { header_length + 4 * (places * line + place) + 4 ≤ sheet_length }
+    ensures { result ≡ number_in places table.now line place }
 {
-    HEADER + 4 * (MONTHS * column + month)
+    codec::get(table, place_in(places, line, place))
 }
 
-fn in_sheet(sheet: &[u8], column: usize, month: usize) -> u32
-    requires whole_sheet { length sheet.now ≡ sheet_length }
-    requires column_bound { (column < sheet_columns) × (month < sheet_months) }
-    ensures { result ≡ in_sheet sheet_columns sheet.now column month }
-{
-    codec::get(sheet, sheet_place(column, month))
-}
-
-fn in_archive(archive: &[u8], column: usize, month: usize) -> u32
-    requires whole_archive { length archive.now ≡ sheet_length }
-    requires column_bound { (column < sheet_columns) × (month < sheet_months) }
-    ensures { result ≡ in_archive sheet_months archive.now column month }
-{
-    codec::get(archive, archive_place(column, month))
-}
-
-// Modulo 2^32.
-fn difference(x: u32, y: u32) -> u32
-    ensures { result ≡ minus x y }
-{
-    std::num::wrapping_sub_u32(x, y)
-}
-
-fn sum(x: u32, y: u32) -> u32
-    ensures { result ≡ plus x y }
-{
-    std::num::wrapping_add_u32(x, y)
-}
-
-// "The header goes first." Its words are held by value between, so that they can be read and written several at once.
-fn header_words(from: &[u8]) -> [u32; HEADER_WORDS]
-    requires { length from.now ≡ sheet_length }
-    ensures { Holds header_words (header_word from.now) result }
-{
-    let mut words = [0u32; HEADER_WORDS];
-    for k in 0..HEADER_WORDS {
-        words[k] = codec::get(from, 4 * k);
-    }
-    words
-}
-
+// "The header goes first."
 fn copy_header(from: &[u8], to: &mut [u8])
-    requires { (length from.now ≡ sheet_length) × (length to.old ≡ sheet_length) }
+    requires whole_source { length from.now ≡ sheet_length }
+    requires whole_destination { length to.old ≡ sheet_length }
     ensures { to.new ≡ stored 0 (header from.now) to.old }
 {
-    let words = header_words(from);
-    for k in 0..HEADER_WORDS {
-        codec::put(to, 4 * k, words[k]);
-    }
+    to[..HEADER].copy_from_slice(&from[..HEADER]);
 }
 
 // A column of the sheet goes to its line of the archive: "each number after the first of its column replaced by its
@@ -108,15 +66,12 @@ fn archive_column(sheet: &[u8], archive: &mut [u8], column: usize)
     requires column_bound { column < sheet_columns }
     ensures { archive.new ≡ column_written sheet.now column archive.old }
 {
-    let mut last = in_sheet(sheet, column, 0);
-    codec::put(archive, archive_place(column, 0), last);
+    let mut last = number_in(COLUMNS, sheet, 0, column);
+    codec::put(archive, place_in(MONTHS, column, 0), last);
     for month in 1..MONTHS {
-        let number = in_sheet(sheet, column, month);
-        codec::put(
-            archive,
-            archive_place(column, month),
-            difference(number, last),
-        );
+        let number = number_in(COLUMNS, sheet, month, column);
+        let difference = number.wrapping_sub(last);
+        codec::put(archive, place_in(MONTHS, column, month), difference);
         last = number;
     }
 }
@@ -127,10 +82,10 @@ fn next_four(archive: &[u8], last: Four, column: usize, month: usize) -> Four
     requires column_bound { (column + 4 ≤ sheet_columns) × (month < sheet_months) }
     ensures { result ≡ next_four archive.now last column month }
 {
-    let first = sum(last.first, in_archive(archive, column, month));
-    let second = sum(last.second, in_archive(archive, column + 1, month));
-    let third = sum(last.third, in_archive(archive, column + 2, month));
-    let fourth = sum(last.fourth, in_archive(archive, column + 3, month));
+    let first = number_in(MONTHS, archive, column, month).wrapping_add(last.first);
+    let second = number_in(MONTHS, archive, column + 1, month).wrapping_add(last.second);
+    let third = number_in(MONTHS, archive, column + 2, month).wrapping_add(last.third);
+    let fourth = number_in(MONTHS, archive, column + 3, month).wrapping_add(last.fourth);
     Four {
         first,
         second,
@@ -144,10 +99,10 @@ fn store_four(sheet: &mut [u8], column: usize, month: usize, numbers: Four)
     requires column_bound { (column + 4 ≤ sheet_columns) × (month < sheet_months) }
     ensures { sheet.new ≡ four_stored column month numbers sheet.old }
 {
-    codec::put(sheet, sheet_place(column, month), numbers.first);
-    codec::put(sheet, sheet_place(column + 1, month), numbers.second);
-    codec::put(sheet, sheet_place(column + 2, month), numbers.third);
-    codec::put(sheet, sheet_place(column + 3, month), numbers.fourth);
+    codec::put(sheet, place_in(COLUMNS, month, column), numbers.first);
+    codec::put(sheet, place_in(COLUMNS, month, column + 1), numbers.second);
+    codec::put(sheet, place_in(COLUMNS, month, column + 2), numbers.third);
+    codec::put(sheet, place_in(COLUMNS, month, column + 3), numbers.fourth);
 }
 
 fn restore_four(archive: &[u8], sheet: &mut [u8], column: usize)
@@ -167,32 +122,32 @@ fn restore_four(archive: &[u8], sheet: &mut [u8], column: usize)
     }
 }
 
-// Writes the archive of a sheet. The answer is 0, or the number of the refusal, which leaves the archive as it was.
-pub fn archive(sheet: &[u8], archive: &mut [u8]) -> u32
-    ensures size_answer { result ≡ size_answer sheet.now archive.old }
+// Writes the archive of a sheet. Where either is not of a sheet's length it refuses, and leaves the archive as it was.
+pub fn archive(sheet: &[u8], archive: &mut [u8]) -> Result<(), Refusal>
+    ensures size_answer { refusal_in result ≡ size_answer sheet.now archive.old }
     ensures after { archive.new ≡ archive_after sheet.now archive.old }
 {
     if !sizes_fit(sheet.len(), archive.len()) {
-        return WRONG_SIZE;
+        return Err(Refusal::BufferLength);
     }
     copy_header(sheet, archive);
     for column in 0..COLUMNS {
         archive_column(sheet, archive, column);
     }
-    0
+    Ok(())
 }
 
-// Writes the sheet of an archive. The answer is 0, or the number of the refusal, which leaves the sheet as it was.
-pub fn restore(archive: &[u8], sheet: &mut [u8]) -> u32
-    ensures size_answer { result ≡ size_answer archive.now sheet.old }
+// Writes the sheet of an archive. Where either is not of a sheet's length it refuses, and leaves the sheet as it was.
+pub fn restore(archive: &[u8], sheet: &mut [u8]) -> Result<(), Refusal>
+    ensures size_answer { refusal_in result ≡ size_answer archive.now sheet.old }
     ensures after { sheet.new ≡ restored_after archive.now sheet.old }
 {
     if !sizes_fit(archive.len(), sheet.len()) {
-        return WRONG_SIZE;
+        return Err(Refusal::BufferLength);
     }
     copy_header(archive, sheet);
     for four in 0..COLUMNS / 4 {
         restore_four(archive, sheet, 4 * four);
     }
-    0
+    Ok(())
 }

@@ -3,6 +3,7 @@
 #![tactic(auto)]
 
 ghost use Rattle.std.specs.Prelude.{◌≡◌};
+ghost use Rattle.refusals.specs.Refusals.{refusal_in};
 ghost use Rattle.sheet_archive.specs.Archive.{size_answer, archive_after, restored_after};
 ghost use Rattle.sheet_losses.specs.Losses.{answer_of, raised_after};
 ghost use Rattle.sheet_text.specs.Reading.{read_answer, read_after};
@@ -21,6 +22,7 @@ ghost use Rattle.call_statement.specs.Stated.{sums_stated};
 ghost use Rattle.ssp.specs.Flat.{interface_number, details_of, position_of, flat_closed, flat_sums, flat_read, flat_written, flat_raised};
 ghost use Rattle.ssp.specs.FlatSun.{flat_sun};
 
+use refusals::Refusal;
 use sheet_more_sun::Addition;
 use sheet_values::Details;
 use units::{Rate, UserNumber, WideKwh};
@@ -115,6 +117,16 @@ pub struct Sun {
     pub place: u32,
     pub found: u32,
     pub added: u32,
+}
+
+// The number of a refusal, 0 for an accepted call.
+fn refusal_in(answer: Result<(), Refusal>) -> u32
+    ensures { result ≡ refusal_in answer }
+{
+    match answer {
+        Ok(()) => 0,
+        Err(refusal) => refusal.number(),
+    }
 }
 
 fn flat_closed(closed: call_close::Closed) -> Closed
@@ -339,14 +351,14 @@ pub fn ssp_archive(sheet: &[u8], archive: &mut [u8]) -> u32
     ensures answer { result ≡ size_answer sheet.now archive.old }
     ensures after { archive.new ≡ archive_after sheet.now archive.old }
 {
-    sheet_archive::archive(sheet, archive)
+    refusal_in(sheet_archive::archive(sheet, archive))
 }
 
 pub fn ssp_restore(archive: &[u8], sheet: &mut [u8]) -> u32
     ensures answer { result ≡ size_answer archive.now sheet.old }
     ensures after { sheet.new ≡ restored_after archive.now sheet.old }
 {
-    sheet_archive::restore(archive, sheet)
+    refusal_in(sheet_archive::restore(archive, sheet))
 }
 
 pub fn ssp_raise(sheet: &mut [u8], factor: u32) -> Raised

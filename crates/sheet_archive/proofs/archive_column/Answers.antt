@@ -1,5 +1,5 @@
 -- The first number as it is, then each difference: after a turn one number more of the column stands in its line.
-use Rattle.std.proofs.Common.{◌≡◌, ℕ, ◌+◌, ◌*◌, ◌≤◌, List, length, sym, ◌∙◌, arith, rules}
+use Rattle.std.proofs.Common.{◌≡◌, ℕ, ◌+◌, ◌*◌, ◌≤◌, List, length, sym, refl, ◌∙◌, arith, rules}
 use Rattle.codec.specs.Bytes.{bytes_of, stored}
 use Rattle.sheet_archive.specs.Tables.{header_length, table_line}
 use Rattle.sheet_archive.specs.Archive.{differences, in_sheet, sheet_columns, sheet_months}
@@ -20,8 +20,8 @@ first-stored s a a₀ column place n room e p v =
 pub loop-month-init : goal.loop-month-init
 loop-month-init c =
     let w = c.put in
-    let place = c.archive_place in
-    let number = c.in_sheet-last in
+    let place = c.place_in in
+    let number = c.number_in-last in
     let a = c.args in
     let first = first-stored a.sheet.now a.archive.now w.new.s a.column place.result number.result (omega arith) w.ensures
     place.ensures number.ensures in record {
@@ -36,9 +36,8 @@ loop-month-init c =
 pub loop-month-preserved : goal.loop-month-preserved
 loop-month-preserved c =
     let w = c.put-in-loop-month in
-    let worked = c.difference in
-    let place = c.archive_place-in-loop-month in
-    let number = c.in_sheet-number in
+    let place = c.place_in-in-loop-month in
+    let number = c.number_in-number in
     let l = c.loop-month in
     let a = c.args in
     let t₀ = c.put in
@@ -48,17 +47,17 @@ loop-month-preserved c =
       carried = before-next column l.month number.ensures;
       same = omega (arith, w.auto.s);
       written = w.ensures
-          ∙ line-next (column_place a.column) (less a.sheet.now a.column) t₀.new.s l.month l.archive place.result worked.result
+          ∙ line-next (column_place a.column) (less a.sheet.now a.column) t₀.new.s l.month l.archive place.result _
           (omega (arith, t₀.auto.s, c.requires)) l.invariant.written (omega (arith, place.ensures))
-          (difference-worked column l.month (search rules) number.ensures l.invariant.carried worked.ensures);
+          (difference-worked column l.month (search rules) number.ensures l.invariant.carried refl);
     }
 
 pub returns : goal.returns
 returns c =
     let l = c.loop-month in
     let w = c.put in
-    let place = c.archive_place in
-    let number = c.in_sheet-last in
+    let place = c.place_in in
+    let number = c.number_in-last in
     let a = c.args in
     let end : l.month ≡ sheet_months = omega arith in
     let first = first-stored a.sheet.now a.archive.now w.new.s a.column place.result number.result (omega arith) w.ensures
