@@ -1,5 +1,7 @@
-pub mod Digits
+pub mod PlaceDigits
 pub mod HexDigits
-pub mod Fields
+pub mod PlaceFields
 pub mod HexTexts
 pub mod HexWriting
+pub mod ReadNumbers
+pub mod Spellings

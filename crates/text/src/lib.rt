@@ -6,6 +6,14 @@ ghost use Rattle.std.specs.Prelude.{◌≡◌, true, ◌+◌, ◌*◌, ◌^◌, 
 ghost use Rattle.units.specs.InnerWithin.{NumberWithin};
 ghost use Rattle.text.specs.InnerText.{narrow, is_hex_digit, hex_digit, hex_byte, is_hex, number_at, field_at};
 ghost use Rattle.text.specs.InnerText.{FieldsRead, HexRead, HexWritten, NumberRead, BlankPassed, WordEnds, DigitSpelt};
+ghost use Rattle.std.specs.Prelude.{None, Some, MatchOption, IfOk, string_bytes, false, ◌<◌, ◌/◌};
+ghost use Rattle.std.specs.Fmt.{digit_glyph};
+ghost use Rattle.std.specs.Str.Parse.{AllDigits};
+ghost use Rattle.text.specs.Text.{digits, number_of, first_number, field as field_of, fields, word_length, first_word, after_word};
+ghost use Rattle.text.specs.Text.{is_hex as is_spelling, is_hex_digit as is_spelling_digit, hex_of};
+
+use std::alloc::{AllocError, Global};
+use std::str;
 
 // A number that stands at a place, and the place after it.
 #[derive(Clone, Copy)]
@@ -207,4 +215,149 @@ pub fn hex_to(bytes: &[u8], out: &mut [u8]) -> usize
         out[2 * k + 1] = digit_of(bytes[k] % 16);
     }
     2 * bytes.len()
+}
+
+/// How many digits a text begins with.
+fn digits(text: &[u8]) -> usize
+    ensures count { result ≡ digits text.now }
+    ensures within { result ≤ length text.now }
+{
+    text.iter().take_while(|b| b.is_ascii_digit()).count()
+}
+
+/// The number that digits write; none where they are none, and where it is 2^64 or more.
+#[tactic(auto, unfolding(crate::specs::Text::number_of))]
+fn number_of(digits: &[u8]) -> Option<u64>
+    requires { AllDigits 10 digits.now }
+    ensures { result ≡ number_of digits.now }
+{
+    str::from_utf8(digits).ok()?.parse().ok()
+}
+
+/// The decimal number that a text begins with, and the text after it; none where no digit stands there, and where it is 2^64 or
+/// more.
+#[tactic(auto, using(crate::proofs::ReadNumbers::digits_in_front), unfolding(crate::specs::Text::first_number))]
+pub fn first_number(text: &[u8]) -> Option<(u64, &[u8])>
+    ensures { MatchOption result (first_number text.now ≡ None) (λ r. first_number text.now ≡ Some (r.0, r.1.now)) }
+{
+    let (digits, rest) = text.split_at(digits(text));
+    Some((number_of(digits)?, rest))
+}
+
+/// One blank, and the number after it.
+#[tactic(auto, unfolding(crate::specs::Text::field))]
+pub fn field(text: &[u8]) -> Option<(u64, &[u8])>
+    ensures { MatchOption result (field_of text.now ≡ None) (λ r. field_of text.now ≡ Some (r.0, r.1.now)) }
+{
+    first_number(text.strip_prefix(b" ")?)
+}
+
+/// So many numbers, each after one blank, and the text after them.
+#[tactic(auto, using(crate::proofs::ReadNumbers::fields_missing, crate::proofs::ReadNumbers::fields_more), unfolding(crate::specs::Text::fields))]
+pub fn fields<const N: usize>(text: &[u8]) -> Option<([u64; N], &[u8])>
+    ensures { MatchOption result (fields N text.now ≡ None) (λ r. fields N text.now ≡ Some (r.0, r.1.now)) }
+{
+    let mut values = [0; N];
+    let mut rest = text;
+    for value in values.iter_mut() {
+        (*value, rest) = field(rest)?;
+    }
+    Some((values, rest))
+}
+
+/// How many bytes stand before the first blank; all of them where there is none.
+fn word_length(text: &[u8]) -> usize
+    ensures count { result ≡ word_length text.now }
+    ensures within { result ≤ length text.now }
+{
+    text.iter().take_while(|b| **b != b' ').count()
+}
+
+/// What stands before the first blank, and what stands from that blank on; all of the text and nothing where there is no blank.
+#[tactic(auto, unfolding(crate::specs::Text::first_word, crate::specs::Text::after_word))]
+pub fn first_word(text: &[u8]) -> (&[u8], &[u8])
+    ensures word { result.0.now ≡ first_word text.now }
+    ensures after { result.1.now ≡ after_word text.now }
+{
+    text.split_at(word_length(text))
+}
+
+/// `0`–`9` and `a`–`f`.
+#[tactic(auto, unfolding(crate::specs::Text::is_hex_digit))]
+fn is_spelling_digit(b: u8) -> bool
+    ensures { result ≡ is_spelling_digit b }
+{
+    matches!(b, b'0'..=b'9' | b'a'..=b'f')
+}
+
+/// What a digit stands for.
+#[tactic(auto, unfolding(crate::specs::Text::is_hex_digit))]
+fn digit_value(b: u8) -> u8
+    requires { is_spelling_digit b ≡ true }
+    ensures small { result < 16 }
+    ensures digit { digit_glyph false result ≡ b }
+{
+    if b.is_ascii_digit() {
+        b - b'0'
+    } else {
+        b - b'a' + 10
+    }
+}
+
+#[tactic(auto, unfolding(crate::specs::Text::is_hex))]
+fn is_spelling(digits: &[u8]) -> bool
+    ensures { result ≡ is_spelling digits.now }
+{
+    digits.len() % 2 == 0 && digits.iter().all(|b| is_spelling_digit(*b))
+}
+
+/// Bytes in hexadecimal: the digits `0`–`9` and `a`–`f`, two for each byte.
+#[derive(Clone, Copy)]
+pub struct Hex<'a> {
+    pub digits: &'a [u8],
+    ghost spelling: { is_spelling digits.now ≡ true },
+}
+
+impl<'a> Hex<'a> {
+    /// None where a byte is no digit, or one digit has no second.
+    pub fn new(digits: &'a [u8]) -> Option<Hex<'a>>
+        ensures { MatchOption result (is_spelling digits.now ≡ false) (λ h. (is_spelling digits.now ≡ true) × (h.digits.now ≡ digits.now)) }
+    {
+        if is_spelling(digits) {
+            Some(Hex { digits })
+        } else {
+            None
+        }
+    }
+
+    /// How many bytes they spell.
+    pub fn count(self) -> usize
+        ensures { result ≡ length self.entry.digits.now / 2 }
+    {
+        self.digits.len() / 2
+    }
+
+    /// The bytes that they spell.
+    #[tactic(auto, using(crate::proofs::Spellings::spelling_begins, crate::proofs::Spellings::spelling_goes_on, crate::proofs::Spellings::one_more, crate::proofs::Spellings::spelling_ends), unfolding(crate::specs::Text::hex_of))]
+    pub fn bytes(self, alloc: Global) -> Result<Vec<u8>, AllocError>
+        ensures { IfOk result (λ v. hex_of v.items ≡ self.entry.digits.now) }
+    {
+        let mut bytes = Vec::with_capacity(alloc, self.count())?;
+        for pair in self.digits.chunks_exact(2) {
+            bytes.push(16 * digit_value(pair[0]) + digit_value(pair[1]))?;
+        }
+        Ok(bytes)
+    }
+}
+
+/// Bytes in hexadecimal, in lower case.
+#[tactic(auto, using(crate::proofs::Spellings::hex_of_more), unfolding(crate::specs::Text::hex_of))]
+pub fn hex_of(alloc: Global, bytes: &[u8]) -> Result<String, AllocError>
+    ensures { IfOk result (λ text. string_bytes text ≡ hex_of bytes.now) }
+{
+    let mut text = String::new(alloc);
+    for byte in bytes {
+        write!(text, "{byte:02x}")?;
+    }
+    Ok(text)
 }

@@ -1,5 +1,5 @@
 -- By the place after the blank.
-use Rattle.text.proofs.Fields.{field-none, field-some}
+use Rattle.text.proofs.PlaceFields.{field-none, field-some}
 use Rattle.text.proofs.field_at.Goals as goal
 
 pub returns-then-start-at : goal.returns-then-start-at

@@ -2,7 +2,7 @@
 use mathlib.Core.Path.{refl, sym, ◌∙◌}
 use native.Mathlib.Nat.{not-suc-le-zero}
 use lib.ListN.{length-set}
-use Rattle.text.proofs.Fields.{no_fields, field-more, each_more}
+use Rattle.text.proofs.PlaceFields.{no_fields, field-more, each_more}
 use Rattle.std.proofs.Common.{rules}
 use Rattle.text.proofs.fields_from.Goals as goal
 

@@ -4,7 +4,7 @@ use mathlib.Core.Path.{◌≡◌}
 use mathlib.Core.List.{List}
 use lib.ListN.{length}
 use Rattle.text.specs.InnerText.{after_fields}
-use Rattle.text.proofs.Fields.{Each}
+use Rattle.text.proofs.PlaceFields.{Each}
 use Rattle.text.proofs.fields_from.Given as goal
 
 pub record FieldsPassed (s : List ℕ) (at count : ℕ) (values : List ℕ) (next k : ℕ) : Type 0 where

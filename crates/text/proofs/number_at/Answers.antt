@@ -5,7 +5,7 @@ use native.Mathlib.Omega.{arith}
 use lib.ListN.{get_or, drop}
 use Rattle.decimals.specs.Decimals.{is_digit}
 use Rattle.decimals.proofs.Digits.{digit-bounds, digit-inside, digits_more, value-more, digits-none, value_none, value-least}
-use Rattle.text.proofs.Digits.{number_read, number-none, number-large}
+use Rattle.text.proofs.PlaceDigits.{number_read, number-none, number-large}
 use Rattle.std.proofs.Common.{rules}
 use Rattle.text.proofs.number_at.Goals as goal
 
