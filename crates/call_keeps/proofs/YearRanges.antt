@@ -14,7 +14,7 @@ use Rattle.units.specs.Folds.{sum_below}
 use Rattle.units.proofs.Folds.{sum-capped}
 use Rattle.units.proofs.Products.{product-capped}
 use Rattle.tariff.specs.Tariff.{domestic, tiers, annual_tiers, monthly_tiers, monthly_method, tier_sum, flat_rate_of}
-use Rattle.tariff.proofs.Tiers.{tiers-sum, first-tier-sum}
+use Rattle.tariff.proofs.Tiers.{tiers-sum, first_tier_sum}
 use Rattle.sheet.specs.YearSheet.{SheetPassed, withdrawn_reading, injected_reading, by_bands, word, month_withdrawn}
 use Rattle.sheet.proofs.Limits.{passed-energy, passed-price}
 use Rattle.sheet_prices.specs.ValueAndCost.{band_price, single_price, cost_in, cost_of, value_in, value_of}
@@ -81,7 +81,7 @@ annual-sum class w e h = by-class (domestic class)
   where
     by-class : (b : Bool) → tier_sum (cond b (tiers 1800 2640 4440 w e) (e ∷ 0 ∷ 0 ∷ 0 ∷ [])) ≡ e
     by-class true = tiers-sum (lit≤ tt) (lit≤ tt) h
-    by-class false = first-tier-sum e
+    by-class false = first_tier_sum e
 
 monthly-sum : (w e : ℕ) → e ≤ w → tier_sum (monthly_tiers w e) ≡ e
 unfolding monthly_tiers

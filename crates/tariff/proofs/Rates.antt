@@ -4,7 +4,7 @@ use mathlib.Core.Path.{◌≡◌}
 use native.Mathlib.Nat.{mul-div-le, lt-mul-div-succ, div-lt_iff_lt-mul, mul-add, mul-one}
 use native.Mathlib.Omega.{arith}
 use lib.Dec.{eqb, leb}
-use borrow.Author.Tests.{eq-eqb, ne_eqb, le-leb, lt-leb}
+use borrow.Author.Tests.{ne_eqb, lt-leb}
 use Rattle.units.proofs.Bools.{cond-capped}
 use Rattle.units.specs.Units.{units_per_euro_mwh}
 use Rattle.tariff.specs.Table1.{table_euro_per_mwh}
@@ -24,16 +24,6 @@ mean-rate-capped n s cap h k =
     let whole : 2 * s + n < (cap + 1) * (2 * n) = omega arith in
     let below : (2 * s + n) / (2 * n) < cap + 1 = (div-lt_iff_lt-mul positive).1 whole in
     omega arith
-
-pub rate-of-cogeneration : {plant : ℕ} (power net system : ℕ) → plant ≡ cogeneration → tier_rate plant power net system ≡ net
-unfolding tier_rate
-rate-of-cogeneration {plant} power net system q = rw (eq-eqb plant cogeneration q)
-
-pub rate-of-small :
-    {plant power : ℕ} (net system : ℕ) → (plant ≡ cogeneration → ⊥) → power ≤ small_power →
-    tier_rate plant power net system ≡ net + system
-unfolding tier_rate
-rate-of-small {plant} {power} net system n h = rw (ne_eqb plant cogeneration n, le-leb power small_power h)
 
 pub rate-of-large :
     {plant power : ℕ} (net system : ℕ) {table cap part : ℕ} → (plant ≡ cogeneration → ⊥) → small_power < power →

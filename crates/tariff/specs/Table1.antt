@@ -1,5 +1,5 @@
 -- Table 1 of source document 000, "in €/MWh", as "Year's values" of document 01 numbers its kinds: 1 to 16 in printed order.
-use Rattle.std.specs.Prelude.{ℕ, ◌+◌, ◌-◌, ◌*◌, Bool, true, cond, List, [], ◌∷◌, leb, eqb}
+use Rattle.std.specs.Prelude.{ℕ, ◌*◌, Bool, true, cond, List, [], ◌∷◌, leb, eqb}
 
 -- the powers of a row, in kW, above those of the row before: up to a bound that belongs to the row, or all
 pub data Power : Type 0 where
@@ -49,10 +49,6 @@ table1 =
     -- 16 sustainable bioliquids
     row 16 (up_to 5000) 39 ∷ row 16 beyond 28 ∷ []
 
--- what stands past the table's end
-abbrev pub no_row : Row
-no_row = row 0 (up_to 0) 0
-
 -- the rows of one kind, in their order
 unfoldable pub rows_of_kind : ℕ → List Row → List Row
 rows_of_kind k [] = []
@@ -70,7 +66,3 @@ first_reaching watts (r ∷ rs) = cond (reaches r.power watts) r.euro_per_mwh (f
 
 unfoldable pub table_euro_per_mwh : ℕ → ℕ → ℕ
 table_euro_per_mwh kind watts = first_reaching watts (rows_of_kind kind table1)
-
--- where the rows of a kind begin, among kinds from `first` on that have `each` rows and begin at `row`
-abbrev pub first_row : ℕ → ℕ → ℕ → ℕ → ℕ
-first_row first row each kind = row + each * (kind - first)

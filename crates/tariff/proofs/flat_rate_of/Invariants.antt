@@ -1,10 +1,8 @@
--- After t turns the sum is that of the tiers below t.
-use Prim.Native.Nat.{◌≤◌, ◌-◌}
-use Rattle.tariff.proofs.FlatRate.{Summed}
+-- The sum and what the tiers to come are worth make the flat-rate part.
+use Rattle.std.proofs.Common.{◌≡◌, ◌+◌}
+use Rattle.tariff.proofs.FlatRate.{flat_rate, worth}
 use Rattle.tariff.proofs.flat_rate_of.Given as goal
 
-abbrev pub invariant-loop-t : goal.invariant-loop-t
-invariant-loop-t l = (l.t ≤ 4) × Summed l.energies l.rates l.t l.sum
-
-abbrev pub decreases-loop-t : goal.decreases-loop-t
-decreases-loop-t l = 4 - l.t
+abbrev pub invariant-loop-energy : goal.invariant-loop-energy
+invariant-loop-energy l =
+    l.sum.0 + worth l.energy-iterator.a.rest.now l.energy-iterator.b.rest.now ≡ flat_rate l.fn.energies l.fn.rates

@@ -1,16 +1,9 @@
--- The search from row i on finds what the search in all rows of the kind finds. The checker computes that the program's lists
--- are those of `table1`.
-use Prim.Native.Nat.{◌≤◌, ◌-◌}
-use mathlib.Core.Path.{◌≡◌}
-use lib.ListN.{length}
-use lib.Seq.{slice}
-use Rattle.tariff.specs.Table1.{table1, first_reaching, table_euro_per_mwh}
+-- The search in the rows from the next one on finds what the search in all rows of the kind finds.
+use Rattle.std.proofs.Common.{◌≡◌, map, drop}
+use Rattle.tariff.specs.Table1.{first_reaching, table_euro_per_mwh}
+use Rattle.tariff.specs.InnerParts.{row_of}
 use Rattle.tariff.proofs.table1.euro_per_mwh.Given as goal
 
-abbrev pub invariant-loop-i : goal.invariant-loop-i
-invariant-loop-i l =
-    ((l.i ≤ l.end) × (l.end ≤ length table1)) × (first_reaching l.power (slice l.i l.end table1) ≡ table_euro_per_mwh l.plant
-    l.power)
-
-abbrev pub decreases-loop-i : goal.decreases-loop-i
-decreases-loop-i l = l.end - l.i
+abbrev pub invariant-loop-power : goal.invariant-loop-power
+invariant-loop-power l =
+    first_reaching l.watts (map (row_of l.kind) (drop l.power-index l.power-items)) ≡ table_euro_per_mwh l.kind l.watts
