@@ -8,6 +8,7 @@ ghost use Rattle.figures.specs.Accounts.{opened, year_with};
 use account_steps::{Account, Charge};
 use output::Row;
 use sheet_values::{Details, YearValues};
+use tariff::Plant;
 use units::{Kwh, Rate, Ticks, UserNumber};
 
 fn begin(figure: u64) -> Row {
@@ -35,7 +36,7 @@ fn line(rt: &HostRuntime, figure: u64, value: u64) -> bool {
 // (1) and (2): the tiers of a domestic user, class 1, and the flat-rate part of their energies.
 fn tiers_and_flat_rate(rt: &HostRuntime) -> bool {
     let withdrawn = Kwh(3_000);
-    let exchanged = units::smaller(withdrawn, Kwh(1_800));
+    let exchanged = withdrawn.min(Kwh(1_800));
     let tiers = tariff::annual_tiers(1, withdrawn, exchanged);
     let mut row = put_energy(begin(1), tiers[0]);
     row = put_energy(row, tiers[1]);
@@ -59,18 +60,15 @@ fn mean_rates(rt: &HostRuntime) -> bool {
 
 // (5) to (7): tier rates of plant 1.
 fn tier_rates(rt: &HostRuntime) -> bool {
-    let table = tariff::table_price(1, 50_000);
-    let limited = tariff::tier_rate(1, 50_000, table, Rate(2_000), Rate(6_000));
-    if !line(rt, 5, limited.0) {
+    let plant = Plant::new(1, 50_000);
+    if !line(rt, 5, plant.tier_rate(Rate(2_000), Rate(6_000)).0) {
         return false;
     }
-    let net_only = tariff::tier_rate(1, 50_000, table, Rate(8_000), Rate(6_000));
-    if !line(rt, 6, net_only.0) {
+    if !line(rt, 6, plant.tier_rate(Rate(8_000), Rate(6_000)).0) {
         return false;
     }
-    let table = tariff::table_price(1, 20_000);
-    let small = tariff::tier_rate(1, 20_000, table, Rate(2_000), Rate(6_000));
-    line(rt, 7, small.0)
+    let small = Plant::new(1, 20_000);
+    line(rt, 7, small.tier_rate(Rate(2_000), Rate(6_000)).0)
 }
 
 // (8) and (9): what a run pays.

@@ -2,10 +2,9 @@
 #![tactic(auto)]
 
 ghost use Rattle.std.specs.Prelude.{◌≡◌, [], ℕ, ◌+◌, ◌*◌, ◌≤◌, ◌<◌, min, ltb, get_or};
-ghost use Rattle.units.specs.Units.{kwh, rate, units_per_euro_mwh};
+ghost use Rattle.units.specs.Units.{kwh, rate};
 ghost use Rattle.units.specs.Limits.{max_kwh, max_price, max_tier_rate, max_flat_rate};
 ghost use Rattle.units.specs.Folds.{sum_below, any_below};
-ghost use Rattle.tariff.specs.Table1.{table_euro_per_mwh};
 ghost use Rattle.tariff.specs.Tariff.{monthly_threshold, monthly_tiers, annual_tiers, mean_rate, flat_rate_of};
 ghost use Rattle.sheet.specs.YearSheet.{SheetPassed, month_withdrawn, word};
 ghost use Rattle.sheet_prices.specs.InnerArrays.{energy_at, row_total};
@@ -13,7 +12,7 @@ ghost use Rattle.units.specs.InnerWithin.{NumberWithin, KwhWithin, RateWithin, T
 ghost use Rattle.sheet_values.specs.YearsValues.{month_injected, month_exchanged, month_rate, annual_rate, month_flat_rate, flat_rate_over};
 ghost use Rattle.sheet_values.specs.InnerArrays.{Months, Rates, ValuesWorked};
 
-use tariff::MONTHLY_THRESHOLD;
+use tariff::{MONTHLY_THRESHOLD, Plant};
 use units::{Kwh, Rate, Ticks};
 
 // What enrolment notes of a user: class and plant by document 01's numbers, power in watts, year and month of
@@ -65,7 +64,7 @@ fn exchanged(withdrawn: [Kwh; 12], injected: [Kwh; 12]) -> [Kwh; 12]
 {
     let mut months = [Kwh(0); 12];
     for month in 0..12 {
-        months[month] = units::smaller(withdrawn[month], injected[month]);
+        months[month] = withdrawn[month].min(injected[month]);
     }
     months
 }
@@ -122,17 +121,16 @@ fn rate_at(s: &[u8], month: usize, place: usize) -> Rate
 }
 
 // The tier rates of a month.
-fn month_rates(s: &[u8], month: usize, plant: u8, power: u32, table: Rate) -> [Rate; 4]
+fn month_rates(s: &[u8], month: usize, plant: Plant) -> [Rate; 4]
     requires sheet_passed { SheetPassed s.now }
     requires month_bound { month < 12 }
-    requires table_rate { table ≡ rate (units_per_euro_mwh * table_euro_per_mwh plant power) }
-    ensures { Rates (month_rate s.now plant power month) result }
+    ensures { Rates (month_rate s.now plant.kind plant.power month) result }
 {
     let mut rates = [Rate(0); 4];
     for tier in 0..4 {
         let net = rate_at(s, month, 15 + tier);
         let system = rate_at(s, month, 19 + tier);
-        rates[tier] = tariff::tier_rate(plant, power, table, net, system);
+        rates[tier] = plant.tier_rate(net, system);
     }
     rates
 }
@@ -163,47 +161,30 @@ fn mean_over(s: &[u8], place: usize, from: usize, count: usize) -> Rate
 }
 
 // The tier rates of the annual method, "net and system apart".
-fn annual_rates(
-    s: &[u8],
-    from: usize,
-    count: usize,
-    plant: u8,
-    power: u32,
-    table: Rate,
-) -> [Rate; 4]
+fn annual_rates(s: &[u8], from: usize, count: usize, plant: Plant) -> [Rate; 4]
     requires sheet_passed { SheetPassed s.now }
     requires months_of_year { (0 < count) × (from + count ≤ 12) }
-    requires table_rate { table ≡ rate (units_per_euro_mwh * table_euro_per_mwh plant power) }
-    ensures { Rates (annual_rate s.now plant power from count) result }
+    ensures { Rates (annual_rate s.now plant.kind plant.power from count) result }
 {
     let mut rates = [Rate(0); 4];
     for tier in 0..4 {
         let net = mean_over(s, 15 + tier, from, count);
         let system = mean_over(s, 19 + tier, from, count);
-        rates[tier] = tariff::tier_rate(plant, power, table, net, system);
+        rates[tier] = plant.tier_rate(net, system);
     }
     rates
 }
 
 // "It uses each month's rates": the flat-rate part of a month in the monthly method.
-fn month_flat_rate(
-    s: &[u8],
-    month: usize,
-    withdrawn: Kwh,
-    exchanged: Kwh,
-    plant: u8,
-    power: u32,
-    table: Rate,
-) -> Ticks
+fn month_flat_rate(s: &[u8], month: usize, withdrawn: Kwh, exchanged: Kwh, plant: Plant) -> Ticks
     requires sheet_passed { SheetPassed s.now }
     requires month_bound { month < 12 }
     requires exchanged_bound { (exchanged.0 ≤ withdrawn.0) × (withdrawn.0 ≤ 3 * max_kwh) }
-    requires table_rate { table ≡ rate (units_per_euro_mwh * table_euro_per_mwh plant power) }
-    ensures { NumberWithin (flat_rate_of (monthly_tiers withdrawn.0 exchanged.0) (month_rate s.now plant power month))
+    ensures { NumberWithin (flat_rate_of (monthly_tiers withdrawn.0 exchanged.0) (month_rate s.now plant.kind plant.power month))
         (max_tier_rate * exchanged.0) result.0 }
 {
     let energies = tariff::monthly_tiers(withdrawn, exchanged);
-    tariff::flat_rate_of(energies, month_rates(s, month, plant, power, table))
+    tariff::flat_rate_of(energies, month_rates(s, month, plant))
 }
 
 // The flat-rate part of a stretch of months in the annual method.
@@ -214,19 +195,16 @@ fn annual_flat_rate(
     withdrawn: Kwh,
     exchanged: Kwh,
     class: u8,
-    plant: u8,
-    power: u32,
-    table: Rate,
+    plant: Plant,
 ) -> Ticks
     requires sheet_passed { SheetPassed s.now }
     requires months_of_year { (0 < count) × (from + count ≤ 12) }
     requires exchanged_bound { (exchanged.0 ≤ withdrawn.0) × (withdrawn.0 ≤ 36 * max_kwh) }
-    requires table_rate { table ≡ rate (units_per_euro_mwh * table_euro_per_mwh plant power) }
     ensures { NumberWithin (flat_rate_of (annual_tiers class withdrawn.0 exchanged.0)
-        (annual_rate s.now plant power from count)) (max_tier_rate * exchanged.0) result.0 }
+        (annual_rate s.now plant.kind plant.power from count)) (max_tier_rate * exchanged.0) result.0 }
 {
     let energies = tariff::annual_tiers(class, withdrawn, exchanged);
-    tariff::flat_rate_of(energies, annual_rates(s, from, count, plant, power, table))
+    tariff::flat_rate_of(energies, annual_rates(s, from, count, plant))
 }
 
 // The flat-rate part of a stretch of months in the monthly method.
@@ -236,36 +214,24 @@ fn monthly_flat_rate(
     count: usize,
     withdrawn: [Kwh; 12],
     exchanged: [Kwh; 12],
-    plant: u8,
-    power: u32,
-    table: Rate,
+    plant: Plant,
 ) -> Ticks
     requires sheet_passed { SheetPassed s.now }
     requires months_of_year { from + count ≤ 12 }
     requires months { Months (month_withdrawn s.now) withdrawn × Months (month_exchanged s.now) exchanged }
-    requires table_rate { table ≡ rate (units_per_euro_mwh * table_euro_per_mwh plant power) }
-    ensures { NumberWithin (sum_below count (λ i. month_flat_rate s.now plant power (from + i)))
+    ensures { NumberWithin (sum_below count (λ i. month_flat_rate s.now plant.kind plant.power (from + i)))
         (max_tier_rate * (3 * max_kwh * count)) result.0 }
 {
     let mut sum: u64 = 0;
     for i in 0..count {
         let month = from + i;
-        let part = month_flat_rate(
-            s,
-            month,
-            withdrawn[month],
-            exchanged[month],
-            plant,
-            power,
-            table,
-        );
+        let part = month_flat_rate(s, month, withdrawn[month], exchanged[month], plant);
         sum = sum + part.0;
     }
     Ticks(sum)
 }
 
-// F, the flat-rate part, of a stretch of months for a class, a plant and its power in watts, by the months' energies.
-// Table 1 is looked up here, once for all months and tiers.
+// F, the flat-rate part, of a stretch of months for a class and a plant, by the months' energies.
 fn flat_rate(
     s: &[u8],
     withdrawn: [Kwh; 12],
@@ -273,15 +239,13 @@ fn flat_rate(
     from: usize,
     count: usize,
     class: u8,
-    plant: u8,
-    power: u32,
+    plant: Plant,
 ) -> Ticks
     requires sheet_passed { SheetPassed s.now }
     requires months_of_year { (0 < count) × (from + count ≤ 12) }
     requires months { Months (month_withdrawn s.now) withdrawn × Months (month_injected s.now) injected }
-    ensures { TicksWithin (flat_rate_over s.now from count class plant power) max_flat_rate result }
+    ensures { TicksWithin (flat_rate_over s.now from count class plant.kind plant.power) max_flat_rate result }
 {
-    let table = tariff::table_price(plant, power);
     if tariff::monthly_method(class, some_month_above(withdrawn, from, count)) {
         monthly_flat_rate(
             s,
@@ -290,13 +254,11 @@ fn flat_rate(
             withdrawn,
             exchanged(withdrawn, injected),
             plant,
-            power,
-            table,
         )
     } else {
         let total = energy_over(withdrawn, from, count);
-        let shared = units::smaller(total, energy_over(injected, from, count));
-        annual_flat_rate(s, from, count, total, shared, class, plant, power, table)
+        let shared = total.min(energy_over(injected, from, count));
+        annual_flat_rate(s, from, count, total, shared, class, plant)
     }
 }
 
@@ -309,11 +271,11 @@ pub fn year_values(s: &[u8], details: Details) -> YearValues
     let injected = injected(s);
     let months = exchanged(withdrawn, injected);
     let class = details.class;
-    let plant = details.plant;
+    let plant = Plant::new(details.plant, details.power);
     YearValues {
         value: sheet_prices::value(s, details.island == 1, details.plant == 1),
         cost: sheet_prices::cost(s),
-        flat_rate: flat_rate(s, withdrawn, injected, 0, 12, class, plant, details.power),
+        flat_rate: flat_rate(s, withdrawn, injected, 0, 12, class, plant),
         half1: energy_over(months, 0, 6),
         half2: energy_over(months, 6, 6),
     }

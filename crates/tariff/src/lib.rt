@@ -158,7 +158,8 @@ pub struct Plant {
 
 impl Plant {
     pub fn new(kind: u8, power: u32) -> Plant
-        ensures { (result.kind ≡ kind) × (result.power ≡ power) }
+        ensures kind { result.kind ≡ kind }
+        ensures power { result.power ≡ power }
     {
         Plant {
             kind,

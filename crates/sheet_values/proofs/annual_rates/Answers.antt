@@ -20,8 +20,8 @@ loop-tier-preserved c =
     let system-rate = ap (λ (x : Rate). x.0) c.mean_over-system.ensures.is in record {
       within = search rules;
       long = simp length-set l.invariant.long;
-      filled = filled_next (rate 0) (λ t. rate (annual_rate a.s.now a.plant a.power a.from a.count t)) l.tier l.rates
+      filled = filled_next (rate 0) (λ t. rate (annual_rate a.s.now a.plant.kind a.plant.power a.from a.count t)) l.tier l.rates
           c.tier_rate.result
-          (omega arith) (c.tier_rate.ensures.is ∙ ap₂ (λ (n m : ℕ). rate (tier_rate a.plant a.power n m)) net-rate system-rate)
+          (omega arith) (c.tier_rate.ensures.is ∙ ap₂ (λ (n m : ℕ). rate (tier_rate a.plant.kind a.plant.power n m)) net-rate system-rate)
           l.invariant.filled;
     }

@@ -1,6 +1,6 @@
 -- The method decides: the months one by one, or the whole stretch.
-use Prim.Native.Nat.{◌*◌}
-use mathlib.Core.Path.{ap, sym, ◌∙◌}
+use Prim.Native.Nat.{◌*◌, min}
+use mathlib.Core.Path.{◌≡◌, ap, sym, ◌∙◌}
 use native.Mathlib.Omega.{arith}
 use Rattle.units.specs.Units.{kwh, ticks}
 use Rattle.units.specs.Limits.{max_kwh}
@@ -15,14 +15,12 @@ use Rattle.sheet_values.proofs.flat_rate.Goals as goal
 pub monthly_flat_rate-requires : goal.monthly_flat_rate-requires
 monthly_flat_rate-requires c =
     let s = c.args.s.now in
-    let table = c.table_price-table.ensures in
     let months = c.requires.months in
     let shared = exchanged-months s c.args.withdrawn c.args.injected c.exchanged.result months.0 months.1 c.exchanged.ensures in
     record {
       sheet_passed = c.requires.sheet_passed;
       months_of_year = search rules;
       months = (months.0, shared);
-      table_rate = table;
     }
 
 pub energy_over-total-requires : goal.energy_over-total-requires
@@ -50,7 +48,7 @@ returns-then-monthly_method c =
     let test = sym (ap (monthly_method a.class) (above.ensures ∙ above-over s c.args.withdrawn c.requires.months.0 a.from a.count
     c.requires.months_of_year.1)) ∙ sym method.ensures
     ∙ c.if-monthly_method.true in record {
-      is = ap ticks (flat-monthly s a.from a.count a.class a.plant a.power c.monthly_flat_rate.result.0 test
+      is = ap ticks (flat-monthly s a.from a.count a.class a.plant.kind a.plant.power c.monthly_flat_rate.result.0 test
           c.monthly_flat_rate.ensures.is);
       most = omega
           (arith, c.monthly_flat_rate.ensures.most);
@@ -67,11 +65,11 @@ returns-else-monthly_method c =
     let test = sym (ap (monthly_method a.class) (above.ensures ∙ above-over s c.args.withdrawn c.requires.months.0 a.from a.count
     c.requires.months_of_year.1)) ∙ sym method.ensures
     ∙ c.if-monthly_method.false in
-    let shared = c.smaller-shared.ensures in record {
-      is = ap ticks (flat-annual s c.args.withdrawn c.args.injected a.from a.count a.class a.plant a.power
+    let shared : c.min-shared.result.0 ≡ min total.result.0 injected.result.0 = search rules in record {
+      is = ap ticks (flat-annual s c.args.withdrawn c.args.injected a.from a.count a.class a.plant.kind a.plant.power
           c.annual_flat_rate.result.0 total.result
-          injected.result c.smaller-shared.result c.requires.months_of_year.1 c.requires.months.0 c.requires.months.1 test
+          injected.result c.min-shared.result c.requires.months_of_year.1 c.requires.months.0 c.requires.months.1 test
           total.ensures.is injected.ensures.is
-          (ap kwh c.smaller-shared.ensures) c.annual_flat_rate.ensures.is);
+          (ap kwh shared) c.annual_flat_rate.ensures.is);
       most = omega (arith, c.annual_flat_rate.ensures.most, total.ensures.most);
     }

@@ -13,9 +13,9 @@ flat_rate_of-requires c =
     let a = c.args in
     let s = a.s.now in
     let p = c.requires.sheet_passed in record {
-      tier_rates = rates-capped (month_rate s a.plant a.power a.month)
+      tier_rates = rates-capped (month_rate s a.plant.kind a.plant.power a.month)
           c.month_rates.result c.month_rates.ensures
-          (λ t l. month-rate-capped s p a.plant a.power a.month t c.requires.month_bound l);
+          (λ t l. month-rate-capped s p a.plant.kind a.plant.power a.month t c.requires.month_bound l);
       energies_bound = omega (arith, c.monthly_tiers-energies.ensures.whole);
     }
 
@@ -24,8 +24,7 @@ returns c =
     let a = c.args in
     let s = a.s.now in
     let f = c.flat_rate_of.ensures in record {
-      is = f.is ∙ flat-rate-of-parts c.month_rates.result (monthly_tiers a.withdrawn.0 a.exchanged.0) (month_rate s a.plant
-          a.power a.month)
+      is = f.is ∙ flat-rate-of-parts c.month_rates.result (monthly_tiers a.withdrawn.0 a.exchanged.0) (month_rate s a.plant.kind a.plant.power a.month)
           c.monthly_tiers-energies.ensures.tiers c.month_rates.ensures;
       most = omega (arith, f.most, c.monthly_tiers-energies.ensures.whole);
     }

@@ -30,7 +30,7 @@ pub loop-i-init : goal.loop-i-init
 loop-i-init c = record {
   within = search rules;
   bounded = search rules;
-  sums = sym (sum-zero (λ j. month_flat_rate c.args.s.now c.args.plant c.args.power (c.args.from + j)));
+  sums = sym (sum-zero (λ j. month_flat_rate c.args.s.now c.args.plant.kind c.args.plant.power (c.args.from + j)));
 }
 
 pub month_flat_rate-part-requires : goal.month_flat_rate-part-requires
@@ -46,7 +46,6 @@ month_flat_rate-part-requires c =
       sheet_passed = c.requires.sheet_passed;
       month_bound = inside;
       exchanged_bound = (rw (months.0 m inside, months.1 m inside) (exchanged-within s m), capped);
-      table_rate = c.requires.table_rate;
     }
 
 pub overflow_add-sum : goal.overflow_add-sum
@@ -64,7 +63,7 @@ loop-i-preserved c =
     let small = within (goal.at.loop-i-preserved c).After-struct_known-1 in record {
       within = search rules;
       bounded = omega arith;
-      sums = sum-next l.i (λ j. month_flat_rate s a.plant a.power (a.from + j)) l.invariant.sums
-          (month-flat s a.withdrawn a.exchanged a.plant a.power m c.month_flat_rate-part.result.0 inside months.0 months.1
+      sums = sum-next l.i (λ j. month_flat_rate s a.plant.kind a.plant.power (a.from + j)) l.invariant.sums
+          (month-flat s a.withdrawn a.exchanged a.plant.kind a.plant.power m c.month_flat_rate-part.result.0 inside months.0 months.1
           part.is);
     }

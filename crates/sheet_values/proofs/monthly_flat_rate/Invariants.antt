@@ -7,7 +7,7 @@ use Rattle.sheet_values.proofs.monthly_flat_rate.Given as goal
 
 abbrev pub invariant-loop-i : goal.invariant-loop-i
 invariant-loop-i l =
-    Summing (λ j. month_flat_rate l.s l.plant l.power (l.from + j)) l.count (max_tier_rate * (3 * max_kwh * l.i)) l.i l.sum
+    Summing (λ j. month_flat_rate l.s l.plant.kind l.plant.power (l.from + j)) l.count (max_tier_rate * (3 * max_kwh * l.i)) l.i l.sum
 
 abbrev pub decreases-loop-i : goal.decreases-loop-i
 decreases-loop-i l = l.count - l.i

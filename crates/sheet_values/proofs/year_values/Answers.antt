@@ -44,12 +44,12 @@ returns c =
     let second = half_is s e.result 1 c.energy_over-2.result (lit< tt) months c.energy_over-2.ensures.is in
     let value = c.value.ensures in
     let cost = c.cost.ensures in
-    let flat = c.flat_rate.ensures in record {
-      are = λ k. record { value = value.is k; cost = cost.is k; flat_rate = flat.is k; half1 = first k; half2 = second k };
+    let flat = rw (c.new-plant.ensures.kind, c.new-plant.ensures.power) at c.flat_rate.ensures.is in record {
+      are = λ k. record { value = value.is k; cost = cost.is k; flat_rate = flat k; half1 = first k; half2 = second k };
       fit = record {
         value = value.most;
         cost = cost.most;
-        flat_rate = flat.most;
+        flat_rate = c.flat_rate.ensures.most;
         half1 = omega (arith, c.energy_over.ensures.most);
         half2 = omega (arith, c.energy_over-2.ensures.most);
       };
