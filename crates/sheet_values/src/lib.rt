@@ -2,7 +2,7 @@
 #![tactic(auto)]
 
 ghost use Rattle.std.specs.Prelude.{◌≡◌, [], ℕ, ◌+◌, ◌*◌, ◌≤◌, ◌<◌, min, ltb, get_or};
-ghost use Rattle.units.specs.Units.{kwh, rate};
+ghost use Rattle.units.specs.Units.{kwh};
 ghost use Rattle.units.specs.Limits.{max_kwh, max_price, max_tier_rate, max_flat_rate};
 ghost use Rattle.units.specs.Folds.{sum_below, any_below};
 ghost use Rattle.tariff.specs.Tariff.{monthly_threshold, monthly_tiers, annual_tiers, mean_rate, flat_rate_of};
