@@ -11,8 +11,9 @@ use Rattle.units.proofs.Bools.{and_left, and_right}
 use Rattle.units.specs.declared.RecordIndex.{RecordIndex}
 use Rattle.units.specs.Units.{record_index}
 use Rattle.units.specs.Limits.{last_activation}
-use Rattle.sheet.specs.YearSheet.{sheet_user, sheet_year, refused11, nowhere, Tells, SheetPassed}
-use Rattle.sheet.specs.declared.Position.{Position}
+use Rattle.sheet.specs.YearSheet.{sheet_user, sheet_year, refused11, Tells, SheetPassed}
+use Rattle.refusals.specs.Refusals.{nowhere}
+use Rattle.refusals.specs.declared.Position.{Position}
 use Rattle.sheet.proofs.Faults.{untold-before}
 use Rattle.sheet_values.specs.declared.YearValues.{YearValues}
 use Rattle.sheet_values.specs.YearsValues.{year_values, ValuesFit}

@@ -13,7 +13,7 @@ use Rattle.call_rules.specs.Refusals.{user_at}
 use Rattle.call_answers.specs.InnerRooms.{EntryFits}
 use Rattle.account_steps.specs.declared.ClosingSums.{ClosingSums}
 use Rattle.call_answers.specs.declared.Reply.{Reply}
-use Rattle.sheet.specs.declared.Position.{Position}
+use Rattle.refusals.specs.declared.Position.{Position}
 use Rattle.call_close.specs.declared.Closed.{Closed}
 
 unfoldable pub no_sums : ClosingSums

@@ -13,7 +13,7 @@ ghost use Rattle.call_close.specs.InnerBooked.{YearEntered};
 use account_steps::{Account, Balance, ClosingSums, Settlement};
 use book_records::ClosingRecord;
 use call_answers::Reply;
-use sheet::{NOWHERE, Position};
+use refusals::{NOWHERE, Position};
 use sheet_values::YearValues;
 use units::{RecordIndex, Ticks};
 

@@ -7,8 +7,9 @@ use native.Mathlib.Omega.{arith}
 use borrow.Author.Tests.{eq-eqb, ne_eqb, not-true}
 use Rattle.units.specs.declared.RecordIndex.{RecordIndex}
 use Rattle.units.specs.Units.{record_index}
-use Rattle.sheet.specs.declared.Position.{Position}
-use Rattle.sheet.specs.YearSheet.{sheet_user, refused11, refused13, refused19, nowhere, Tells, SheetPassed}
+use Rattle.refusals.specs.declared.Position.{Position}
+use Rattle.sheet.specs.YearSheet.{sheet_user, refused11, refused13, refused19, Tells, SheetPassed}
+use Rattle.refusals.specs.Refusals.{nowhere}
 use Rattle.sheet.proofs.Faults.{untold-before}
 use Rattle.account_steps.specs.declared.Account.{Account}
 use Rattle.book_rules.specs.Book.{account_at}

@@ -1,5 +1,5 @@
 -- An answer beside a refusal: for the contracts of the inner functions alone.
-use Rattle.sheet.specs.declared.Position.{Position}
+use Rattle.refusals.specs.declared.Position.{Position}
 use Rattle.call_answers.specs.declared.Reply.{Reply}
 use Rattle.sheet_more_sun.specs.declared.Addition.TheVariants as addition
 use Rattle.call_more_sun.specs.declared.MoreSun.{MoreSun}

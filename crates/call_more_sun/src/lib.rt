@@ -10,7 +10,8 @@ ghost use Rattle.call_more_sun.specs.InnerAnswers.{refused_sun};
 ghost use Rattle.call_more_sun.specs.InnerObjections.{FieldObjected};
 
 use call_answers::Reply;
-use sheet::{NOWHERE, Objection, Position};
+use refusals::{NOWHERE, Position};
+use sheet::Objection;
 use sheet_more_sun::Addition;
 use units::RecordIndex;
 

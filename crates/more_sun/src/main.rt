@@ -8,7 +8,7 @@ ghost use Rattle.std.specs.Prelude.{◌≤◌};
 use call_answers::Reply;
 use input::Input;
 use output::Row;
-use sheet::Position;
+use refusals::Position;
 use sheet_more_sun::Addition;
 use std::rt::Env;
 

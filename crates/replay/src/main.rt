@@ -17,8 +17,7 @@ use listing_text::Listed;
 use output::Row;
 use refusals::Refusal;
 use replay_script::{Digits, Request};
-use sheet::Position;
-use sheet_losses::{Raised, Rests};
+use refusals::Position;
 use sheet_more_sun::Addition;
 use sheet_text::{Read, Written};
 use sheet_values::Details;
@@ -345,10 +344,12 @@ fn rearrange(
     work_on(rt, work, &from[..read], &mut to[..room], out)
 }
 
-fn put_rests(row: Row, rests: Rests) -> Row {
-    let mut longer = output::put_field(row, rests.first as u64);
-    longer = output::put_field(longer, rests.second as u64);
-    output::put_field(longer, rests.third as u64)
+fn put_rests(row: Row, rests: [u32; 3]) -> Row {
+    let mut longer = row;
+    for rest in rests {
+        longer = output::put_field(longer, u64::from(rest));
+    }
+    longer
 }
 
 // How many bytes of a row stand in it.
@@ -373,20 +374,23 @@ fn put_front(row: Row, out: &mut [u8]) -> usize
 
 // Prints the number of an answer and the rests, and of an accepted call the sheet after it, by way of `out`. After a 13 the month
 // and the place of the reading at fault stand in the place of the values.
-fn say_raised(rt: &HostRuntime, answer: Raised, sheet: &[u8], out: &mut [u8]) -> bool
+fn say_raised(rt: &HostRuntime, answer: Result<[u32; 3], Refusal>, sheet: &[u8], out: &mut [u8]) -> bool
     requires { 2 * length sheet.now + 257 ≤ length out.old }
 {
-    let number = output::put_number(output::no_text(), answer.refusal as u64);
-    let position = answer.position;
-    if position.month != 0 {
-        return say(rt, put_position(number, position));
+    match answer {
+        Ok(rests) => {
+            let row = put_rests(output::put_number(output::no_text(), 0), rests);
+            let at = put_front(output::put(row, b' '), out);
+            say_hex(rt, sheet, out, at)
+        }
+        Err(refusal) => {
+            let number = output::put_number(output::no_text(), u64::from(refusal.number()));
+            match refusal {
+                Refusal::AboveLimit(position) => say(rt, put_position(number, position)),
+                _ => say(rt, put_rests(number, [0; 3])),
+            }
+        }
     }
-    let row = put_rests(number, answer.rests);
-    if answer.refusal != 0 {
-        return say(rt, row);
-    }
-    let at = put_front(output::put(row, b' '), out);
-    say_hex(rt, sheet, out, at)
 }
 
 // Raises the injected readings of the sheet that the word's bytes are.

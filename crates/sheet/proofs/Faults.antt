@@ -10,9 +10,10 @@ use lib.Dec.{eqb, ltb}
 use Rattle.units.specs.Folds.{all_below, any_below}
 use Rattle.units.proofs.Bools.{and_left, and_right, and_both, or-neither}
 use Rattle.units.proofs.Folds.{all-at, all_of, none-at, none_of, any_of, First, first_below_lem}
-use Rattle.sheet.specs.declared.Position.{Position}
+use Rattle.refusals.specs.declared.Position.{Position}
 use Rattle.sheet.specs.declared.Objection.{Objection}
-use Rattle.sheet.specs.YearSheet.{word, limit_at, above_limit, unused_band, stray_band, at_fault, earliest, refused13, refused19, EarliestAt, OneEarliest, tells, nowhere, Tells, Past13}
+use Rattle.sheet.specs.YearSheet.{word, limit_at, above_limit, unused_band, stray_band, at_fault, earliest, refused13, refused19, EarliestAt, OneEarliest, tells, Tells, Past13}
+use Rattle.refusals.specs.Refusals.{nowhere}
 use Rattle.sheet.specs.Objections.{objection_of, number_of_fault, FaultTold}
 
 -- every other answer tells zeros

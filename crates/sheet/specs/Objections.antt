@@ -2,7 +2,8 @@
 use Rattle.std.specs.Prelude.{ℕ, ◌≤◌, ◌<◌, ◌≡◌, Bool, true, false, cond, List}
 use Rattle.units.specs.Folds.{any_below}
 use Rattle.sheet.specs.declared.Objection.{Objection}
-use Rattle.sheet.specs.YearSheet.{at_fault, refused13, refused19, nowhere, Tells}
+use Rattle.sheet.specs.YearSheet.{at_fault, refused13, refused19, Tells}
+use Rattle.refusals.specs.Refusals.{nowhere}
 
 abbrev pub objection_of : ℕ → Objection
 objection_of refusal = record { refusal = refusal; position = nowhere }

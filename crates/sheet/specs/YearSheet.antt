@@ -5,7 +5,8 @@ use Rattle.units.specs.Limits.{max_kwh, max_price}
 use Rattle.units.specs.Folds.{all_below, any_below}
 use Rattle.codec.specs.Bytes.{number, zeros}
 use Rattle.tariff.specs.Tariff.{domestic, monthly_threshold}
-use Rattle.sheet.specs.declared.Position.{Position}
+use Rattle.refusals.specs.declared.Position.{Position}
+use Rattle.refusals.specs.Refusals.{nowhere}
 
 -- "1,184 bytes. Header of 32 .. Then twelve months of 24 numbers of 32 bits"
 abbrev pub sheet_length : ℕ
@@ -139,9 +140,6 @@ OneEarliest = (s : List ℕ) (p q : Position) → EarliestAt s p → EarliestAt 
 -- "both, in every call that gives them, tell month .. and place in it .. instead of zeros"; every other answer tells zeros there
 abbrev pub tells : ℕ → Bool
 tells refusal = eqb refusal 13 || eqb refusal 19
-
-abbrev pub nowhere : Position
-nowhere = record { month = 0; place = 0 }
 
 pub record Tells (s : List ℕ) (refusal : ℕ) (p : Position) : Type 0 where
   pub position : tells refusal ≡ true → EarliestAt s p

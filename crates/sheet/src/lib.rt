@@ -10,6 +10,7 @@ ghost use Rattle.sheet.specs.YearSheet.{sheet_length, sheet_user, sheet_year, wi
 ghost use Rattle.sheet.specs.YearSheet.{unused_band, at_fault, header_fits, last_words_fit, form_fits, version_zero, point_zero, refused11};
 ghost use Rattle.sheet.specs.YearSheet.{refused14, month_withdrawn, Past13};
 
+use refusals::{NOWHERE, Position};
 use tariff::MONTHLY_THRESHOLD;
 use units::{Kwh, MAX_KWH, MAX_PRICE, UserNumber};
 
@@ -20,16 +21,6 @@ pub const HEADER: usize = 32;
 pub const MONTHS: usize = 12;
 // A month's numbers that have a limit; the one after them is zero.
 const NUMBERS: usize = 23;
-
-// Where a number of a sheet stands: its month, 1–12, and its place in the month, 1–24, as the documents count them; zeros for
-// none.
-#[derive(Clone, Copy)]
-pub struct Position {
-    pub month: u32,
-    pub place: u32,
-}
-
-pub const NOWHERE: Position = Position { month: 0, place: 0 };
 
 // A refusal, 0 for none, and after 13 or 19 where the number at fault stands.
 #[derive(Clone, Copy)]

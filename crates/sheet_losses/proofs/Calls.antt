@@ -1,20 +1,17 @@
 -- The call: what it answers and leaves, refused and accepted.
-use Prim.Native.Nat.{ℕ, zero, suc, ◌<◌}
-use mathlib.Core.Path.{◌≡◌, refl, sym, ap, ap₂, ◌∙◌}
-use mathlib.Core.Bool.{Bool, true, false, cond, not}
-use mathlib.Core.List.{List, ◌++◌}
-use native.Mathlib.Omega.{arith}
-use borrow.Author.Tests.{eq-eqb, ne_eqb}
+use Rattle.std.proofs.Common.{ℕ, zero, suc, ◌<◌, ◌≤◌, ◌≡◌, Bool, true, false, cond, not, List, ◌++◌, length, refl, ap, ap₂, ◌∙◌, arith, Ok, Err}
+use borrow.Author.Tests.{ne_eqb, le-ltb, lt-ltb}
 use lib.Dec.{ltb}
-use lib.ListN.{length}
 use Rattle.codec.specs.Bytes.{bytes_of, stored}
+use Rattle.refusals.specs.Refusals.{refusal_in}
+use Rattle.refusals.specs.declared.Position.{Position}
+use Rattle.refusals.specs.declared.Refusal.{Refusal}
+use Rattle.refusals.specs.declared.Refusal.TheVariants.{SheetForm, FactorAboveLimit, AboveLimit}
 use Rattle.sheet.specs.YearSheet.{sheet_length, form_fits}
 use Rattle.sheet.proofs.Limits.{form-length}
-use Rattle.sheet_losses.specs.declared.Raised.{Raised}
-use Rattle.sheet_losses.specs.declared.Bands.{Bands}
-use Rattle.sheet_losses.specs.declared.Worked.{Worked}
-use Rattle.sheet_losses.specs.Losses.{max_factor, raised_reading, injected_place, three_readings, with_injected, raised_sheet, some_above, raise_refusal, decembers_rests, answer_of, raised_after}
-use Rattle.sheet_losses.specs.InnerSteps.{by_band, in_band, readings_in, WorkedOut}
+use Rattle.units.specs.declared.Kwh.{Kwh}
+use Rattle.sheet_losses.specs.Losses.{max_factor, raised_reading, injected_place, three_readings, with_injected, raised_sheet, some_above, earliest_above, raise_refusal, decembers_rests, answer_of, raised_after}
+use Rattle.sheet_losses.specs.InnerSteps.{readings_in, YearRaised, YearAbove}
 
 -- readings that are the same in each band make the same sheet
 three-cong : (f g : ℕ → ℕ) → f 0 ≡ g 0 → f 1 ≡ g 1 → f 2 ≡ g 2 → three_readings f ≡ three_readings g
@@ -36,6 +33,25 @@ passed-all true false true z = let none : ⊥ = omega arith in absurd none
 passed-all true false false z = (refl, refl)
 passed-all false larger above z = let none : ⊥ = omega arith in absurd none
 
+last-of : {X : Type 0} (form larger_factor above_limit done : X) (fits larger above : Bool) → first_of fits larger above ≡ 0
+    → cond (not fits) form (cond larger larger_factor (cond above above_limit done)) ≡ done
+last-of form larger_factor above_limit done true true above z = let none : ⊥ = omega arith in absurd none
+last-of form larger_factor above_limit done true false true z = let none : ⊥ = omega arith in absurd none
+last-of form larger_factor above_limit done true false false z = refl
+last-of form larger_factor above_limit done false larger above z = let none : ⊥ = omega arith in absurd none
+
+-- the number of an answer
+number-of : {X : Type 0} (at : Position) (x : X) (fits larger above : Bool)
+    → refusal_in (cond (not fits) (Err SheetForm) (cond larger (Err FactorAboveLimit) (cond above (Err (AboveLimit at)) (Ok x)))) ≡ first_of fits larger above
+number-of at x true true above = refl
+number-of at x true false true = refl
+number-of at x true false false = refl
+number-of at x false larger above = refl
+
+pub answered-number : (factor : ℕ) (s : List ℕ) → refusal_in (answer_of factor s) ≡ raise_refusal factor s
+unfolding answer_of raise_refusal
+answered-number factor s = number-of (earliest_above factor s) (decembers_rests factor s) (form_fits s) (ltb max_factor factor) (some_above factor s)
+
 module _ (factor : ℕ) (s : List ℕ) (accepted : raise_refusal factor s ≡ 0) where
   passed : (form_fits s ≡ true) × (some_above factor s ≡ false)
   unfolding raise_refusal
@@ -47,41 +63,36 @@ module _ (factor : ℕ) (s : List ℕ) (accepted : raise_refusal factor s ≡ 0)
   pub accepted-within : some_above factor s ≡ false
   accepted-within = passed.1
 
-  pub accepted-rests : (answer_of factor s).rests ≡ decembers_rests factor s
-  unfolding answer_of
-  accepted-rests = rw accepted
+  pub accepted-answer : answer_of factor s ≡ Ok (decembers_rests factor s)
+  unfolding answer_of raise_refusal
+  accepted-answer = last-of _ _ _ _ (form_fits s) (ltb max_factor factor) (some_above factor s) accepted
 
 -- a refused call leaves the sheet
 pub refused-leaves : (factor : ℕ) (s : List ℕ) → (raise_refusal factor s ≡ 0 → ⊥) → raised_after factor s ≡ s
 unfolding raised_after
 refused-leaves factor s other = rw (ne_eqb (raise_refusal factor s) 0 other)
 
--- WHAT THE CALL ANSWERS AND LEAVES
-module _ (factor : ℕ) (s : List ℕ) {w : Worked} (out : WorkedOut factor s (raise_refusal factor s) w) where
-  refusal_is : w.answer.refusal ≡ raise_refusal factor s
-  refusal_is = ap (λ (r : Raised). r.refusal) out.answered
+-- WHAT THE CALL ANSWERS AND LEAVES: one after the other in their order
+module _ (factor : ℕ) (s : List ℕ) where
+  pub refused-form : form_fits s ≡ false → (Err SheetForm ≡ answer_of factor s) × (s ≡ raised_after factor s)
+  unfolding answer_of raised_after raise_refusal
+  refused-form e = (rw e, rw e)
 
-  answered : w.answer ≡ answer_of factor s
-  unfolding answer_of
-  answered = out.answered
+  module _ (fits : form_fits s ≡ true) where
+    pub refused-factor : max_factor < factor → (Err FactorAboveLimit ≡ answer_of factor s) × (s ≡ raised_after factor s)
+    unfolding answer_of raised_after raise_refusal
+    refused-factor l = (rw (fits, lt-ltb max_factor factor l), rw (fits, lt-ltb max_factor factor l))
 
-  pub refused-call : (w.answer.refusal ≡ 0 → ⊥) → (w.answer ≡ answer_of factor s) × (s ≡ raised_after factor s)
-  refused-call other = (answered, sym (refused-leaves factor s (λ e. other (refusal_is ∙ e))))
+    module _ (within : factor ≤ max_factor) where
+      pub refused-above : {refusal : Refusal} → YearAbove factor s refusal → (Err refusal ≡ answer_of factor s) × (s ≡ raised_after factor s)
+      unfolding answer_of raised_after raise_refusal
+      refused-above y = (rw (fits, le-ltb max_factor factor within, y.above, y.at), rw (fits, le-ltb max_factor factor within, y.above))
 
-  module _ (zero-answered : w.answer.refusal ≡ 0) where
-    accepted : raise_refusal factor s ≡ 0
-    accepted = sym refusal_is ∙ zero-answered
-
-    pub long-enough : length s ≡ sheet_length
-    long-enough = accepted-length factor s accepted
-
-    same-readings : (m : ℕ) → m < 12 → three_readings (readings_in w.months m) ≡ three_readings (raised_reading factor s m)
-    unfolding by_band
-    same-readings m l =
-        let e = out.months accepted m l in
-        three-cong (readings_in w.months m) (raised_reading factor s m) (ap (λ (b : Bands). in_band b 0) e) (ap (λ (b : Bands). in_band b 1) e) (ap (λ (b : Bands). in_band b 2) e)
-
-    pub accepted-call : {t : List ℕ} → t ≡ with_injected (readings_in w.months) s 12 → (w.answer ≡ answer_of factor s) × (t ≡ raised_after factor s)
-    unfolding raised_after raised_sheet
-    accepted-call e =
-        (answered, rw (eq-eqb (raise_refusal factor s) 0 accepted) (e ∙ same-months (readings_in w.months) (raised_reading factor s) s 12 same-readings))
+      pub accepted : {months : List (List Kwh)} {rests t : List ℕ} → YearRaised factor s months rests → t ≡ with_injected (readings_in months) s 12
+          → (Ok rests ≡ answer_of factor s) × (t ≡ raised_after factor s)
+      unfolding answer_of raised_after raise_refusal raised_sheet
+      accepted {months} y e = (
+        rw (fits, le-ltb max_factor factor within, y.within, y.passed),
+        rw (fits, le-ltb max_factor factor within, y.within) (e ∙ same-months (readings_in months) (raised_reading factor s) s 12
+            (λ m l. three-cong (readings_in months m) (raised_reading factor s m) (y.raised m l 0 (omega arith)) (y.raised m l 1 (omega arith)) (y.raised m l 2 (omega arith)))),
+      )

@@ -1,13 +1,13 @@
 -- "Raw injected readings" (document 02, ticket 12): one band over any number of months, and a sheet's three bands over twelve.
 -- Months and bands are counted from 0.
-use Rattle.std.specs.Prelude.{ℕ, zero, suc, ◌+◌, ◌*◌, ◌/◌, ◌%◌, Bool, cond, not, List, ◌++◌, ltb, eqb}
+use Rattle.std.specs.Prelude.{ℕ, zero, suc, ◌+◌, ◌*◌, ◌/◌, ◌%◌, Bool, cond, not, List, [], ◌∷◌, ◌++◌, ltb, eqb, Result, Ok, Err}
 use Rattle.units.specs.Limits.{max_kwh}
 use Rattle.units.specs.Folds.{any_below, first_below}
 use Rattle.codec.specs.Bytes.{bytes_of, stored}
-use Rattle.sheet.specs.declared.Position.{Position}
-use Rattle.sheet.specs.YearSheet.{injected, form_fits, nowhere}
-use Rattle.sheet_losses.specs.declared.Rests.{Rests}
-use Rattle.sheet_losses.specs.declared.Raised.{Raised}
+use Rattle.refusals.specs.declared.Position.{Position}
+use Rattle.refusals.specs.declared.Refusal.{Refusal}
+use Rattle.refusals.specs.declared.Refusal.TheVariants.{SheetForm, FactorAboveLimit, AboveLimit}
+use Rattle.sheet.specs.YearSheet.{injected, form_fits}
 
 -- "by a factor of 0 to 200 thousandths"
 abbrev pub max_factor : ℕ
@@ -77,25 +77,16 @@ earliest_above factor s =
 unfoldable pub raise_refusal : ℕ → List ℕ → ℕ
 raise_refusal factor s = cond (not (form_fits s)) 11 (cond (ltb max_factor factor) 26 (cond (some_above factor s) 13 0))
 
--- THE CALL: its answer, and the sheet after it. A refusal answers zeros beside its number, but for the position of a 13, and
--- leaves the sheet
-abbrev pub no_rests : Rests
-no_rests = record { first = 0; second = 0; third = 0 }
+-- THE CALL: its answer, which is December's rest of each band, or the refusal, of a 13 with the position; and the sheet after it. A
+-- refusal leaves the sheet
+abbrev pub decembers_rests : ℕ → List ℕ → List ℕ
+decembers_rests factor s = decembers_rest factor s 0 ∷ decembers_rest factor s 1 ∷ decembers_rest factor s 2 ∷ []
 
-abbrev pub decembers_rests : ℕ → List ℕ → Rests
-decembers_rests factor s =
-    record { first = decembers_rest factor s 0; second = decembers_rest factor s 1; third = decembers_rest factor s 2 }
-
-abbrev pub answer_to : ℕ → List ℕ → ℕ → Raised
-answer_to factor s refusal =
-    record {
-      refusal = refusal;
-      position = cond (eqb refusal 13) (earliest_above factor s) nowhere;
-      rests = cond (eqb refusal 0) (decembers_rests factor s) no_rests;
-    }
-
-unfoldable pub answer_of : ℕ → List ℕ → Raised
-answer_of factor s = answer_to factor s (raise_refusal factor s)
+unfoldable pub answer_of : ℕ → List ℕ → Result (List ℕ) Refusal
+answer_of factor s =
+    cond (not (form_fits s)) (Err SheetForm)
+    (cond (ltb max_factor factor) (Err FactorAboveLimit)
+    (cond (some_above factor s) (Err (AboveLimit (earliest_above factor s))) (Ok (decembers_rests factor s))))
 
 unfoldable pub raised_after : ℕ → List ℕ → List ℕ
 raised_after factor s = cond (eqb (raise_refusal factor s) 0) (raised_sheet factor s) s

@@ -10,7 +10,8 @@ use Rattle.units.specs.Limits.{max_kwh}
 use Rattle.units.specs.Folds.{any_below}
 use Rattle.units.proofs.Bools.{and_left, and_right, or-neither}
 use Rattle.units.proofs.Folds.{any-zero, any_step, any_of, none-at, first-is}
-use Rattle.sheet.specs.YearSheet.{sheet_length, word, nowhere}
+use Rattle.sheet.specs.YearSheet.{sheet_length, word}
+use Rattle.refusals.specs.Refusals.{nowhere}
 use Rattle.sheet_text.specs.Lines.{months, readings}
 use Rattle.sheet_text.specs.Reading.{some_kwh_above, Within}
 use Rattle.sheet_text.specs.Writing.{text_room, buffers_fit, sheet_above, first_month_above}

@@ -7,8 +7,9 @@ use native.Mathlib.Omega.{arith}
 use lib.Dec.{eqb}
 use lib.ListN.{length}
 use Rattle.codec.specs.Bytes.{stored}
-use Rattle.sheet.specs.declared.Position.{Position}
-use Rattle.sheet.specs.YearSheet.{sheet_length, word, nowhere}
+use Rattle.refusals.specs.declared.Position.{Position}
+use Rattle.sheet.specs.YearSheet.{sheet_length, word}
+use Rattle.refusals.specs.Refusals.{nowhere}
 use Rattle.sheet_text.specs.Lines.{year_text}
 use Rattle.sheet_text.specs.Reading.{first_above}
 use Rattle.sheet_text.specs.Writing.{text_room, buffers_fit, sheet_above, first_month_above, size_refused, text_written, write_answer, buffer_after}

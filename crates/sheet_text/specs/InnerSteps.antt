@@ -1,8 +1,9 @@
 -- What the inner functions of reader and writer do: for their contracts alone.
 use Rattle.std.specs.Prelude.{ℕ, zero, suc, ◌+◌, ◌*◌, ◌<◌, min, ◌≤◌, ◌≡◌, false, cond, List, [], ◌++◌, eqb, get_or, drop, length}
 use Rattle.units.specs.Limits.{max_kwh}
-use Rattle.sheet.specs.declared.Position.{Position}
-use Rattle.sheet.specs.YearSheet.{word, nowhere}
+use Rattle.refusals.specs.declared.Position.{Position}
+use Rattle.sheet.specs.YearSheet.{word}
+use Rattle.refusals.specs.Refusals.{nowhere}
 use Rattle.decimals.specs.Decimals.{field, line_feed}
 use Rattle.sheet_text.specs.declared.MonthLine.{MonthLine}
 use Rattle.sheet_text.specs.declared.Measures.{Measures}

@@ -12,7 +12,8 @@ ghost use Rattle.sheet_text.specs.InnerSteps.{kwh_of, kwh_of_year, place_above, 
 ghost use Rattle.sheet_text.specs.InnerSteps.{MonthLineRead, MonthPut};
 ghost use Rattle.sheet_text.specs.InnerSteps.{MeasuresRead, MonthOf, YearPut};
 
-use sheet::{HEADER, LENGTH, MONTHS, NOWHERE, Position};
+use refusals::{NOWHERE, Position};
+use sheet::{HEADER, LENGTH, MONTHS};
 use units::MAX_KWH;
 
 // A month's kWh: three withdrawn, three injected.

@@ -6,7 +6,7 @@ use lib.IntN.{ℤ}
 use mir.Syntax.{w64}
 use mir.Val.{Fits, to_z, of_z}
 use mir.Facts.{of_z-to_z}
-use Rattle.sheet.specs.declared.Position.{Position}
+use Rattle.refusals.specs.declared.Position.{Position}
 use Rattle.sheet.specs.YearSheet.{Tells}
 use Rattle.call_rules.specs.Calls.{close, statement}
 use Rattle.call_answers.specs.Answers.{Answered}

@@ -1,15 +1,16 @@
 -- Flat answers: each sum in its field as a plain number, and the balance signed. And an enrolment's details from plain numbers.
-use Rattle.std.specs.Prelude.{ℕ}
+use Rattle.std.specs.Prelude.{ℕ, List, [], get_or, Result, result_unwrap_or}
 use Rattle.std.specs.Int.{w64}
 use Rattle.std.proofs.Common.{to_z}
 use Rattle.sheet_values.specs.declared.Details.{Details}
-use Rattle.sheet.specs.declared.Position.{Position}
+use Rattle.refusals.specs.declared.Position.{Position}
+use Rattle.refusals.specs.declared.Refusal.{Refusal}
+use Rattle.refusals.specs.Refusals.{refusal_in, position_in}
 use Rattle.account_steps.specs.declared.ClosingSums.{ClosingSums}
 use Rattle.statements.specs.declared.Sums as statements
 use Rattle.sheet_text.specs.declared.Read as sheet-text-read
 use Rattle.sheet_text.specs.declared.Written as sheet-text-written
 use Rattle.ssp.specs.declared.Closed.{Closed}
-use Rattle.sheet_losses.specs.declared.Raised as losses
 use Rattle.ssp.specs.declared.Read.{Read}
 use Rattle.ssp.specs.declared.Written.{Written}
 use Rattle.ssp.specs.declared.Sums.{Sums}
@@ -60,15 +61,16 @@ flat_sums refusal named s =
       closed_advances = s.closed_advances.0;
     }
 
-unfoldable pub flat_raised : losses.Raised → Raised
+-- December's rest of each band, zeros after a refusal
+unfoldable pub flat_raised : Result (List ℕ) Refusal → Raised
 flat_raised r =
     record {
-      refusal = r.refusal;
-      month = r.position.month;
-      place = r.position.place;
-      rest1 = r.rests.first;
-      rest2 = r.rests.second;
-      rest3 = r.rests.third;
+      refusal = refusal_in r;
+      month = (position_in r).month;
+      place = (position_in r).place;
+      rest1 = get_or (result_unwrap_or r []) 0 0;
+      rest2 = get_or (result_unwrap_or r []) 1 0;
+      rest3 = get_or (result_unwrap_or r []) 2 0;
     }
 
 abbrev pub flat_read : sheet-text-read.Read → Read

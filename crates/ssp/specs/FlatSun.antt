@@ -1,6 +1,6 @@
 -- A flat answer to how much more sun: "the least added kWh .., or the answer that none does" as two numbers.
 use Rattle.std.specs.Prelude.{ℕ}
-use Rattle.sheet.specs.declared.Position.{Position}
+use Rattle.refusals.specs.declared.Position.{Position}
 use Rattle.sheet_more_sun.specs.declared.Addition.{Addition}
 use Rattle.sheet_more_sun.specs.declared.Addition.TheVariants as addition
 use Rattle.ssp.specs.declared.Sun.{Sun}

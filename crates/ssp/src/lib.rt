@@ -171,16 +171,30 @@ fn flat_sums(stated: call_statement::Stated) -> Sums
     }
 }
 
-fn flat_raised(raised: sheet_losses::Raised) -> Raised
-    ensures { result ≡ flat_raised raised }
+// December's rest of each band, zeros after a refusal.
+fn flat_raised(answer: Result<[u32; 3], Refusal>) -> Raised
+    ensures { result ≡ flat_raised answer }
 {
-    Raised {
-        refusal: raised.refusal,
-        month: raised.position.month,
-        place: raised.position.place,
-        rest1: raised.rests.first,
-        rest2: raised.rests.second,
-        rest3: raised.rests.third,
+    match answer {
+        Ok(rests) => Raised {
+            refusal: 0,
+            month: 0,
+            place: 0,
+            rest1: rests[0],
+            rest2: rests[1],
+            rest3: rests[2],
+        },
+        Err(refusal) => {
+            let position = refusal.position();
+            Raised {
+                refusal: refusal.number(),
+                month: position.month,
+                place: position.place,
+                rest1: 0,
+                rest2: 0,
+                rest3: 0,
+            }
+        }
     }
 }
 

@@ -3,14 +3,14 @@ use Prim.Native.Nat.{ℕ, ◌<◌}
 use mathlib.Core.Path.{◌≡◌, refl, sym, ap, ◌∙◌}
 use mathlib.Core.Bool.{Bool, true, false}
 use mathlib.Core.List.{List}
+use Rattle.std.specs.Prelude.{Ok}
 use native.Mathlib.Omega.{arith}
 use borrow.Author.Tests.{eqb-true, eqb-false}
 use lib.Dec.{eqb}
 use lib.ListN.{get_or}
-use Rattle.sheet_losses.specs.declared.Rests.{Rests}
-use Rattle.sheet_losses.specs.Losses.{decembers_rest, raise_refusal, answer_of, raised_after}
+use Rattle.sheet_losses.specs.Losses.{decembers_rest, decembers_rests, raise_refusal, answer_of, raised_after}
 use Rattle.sheet_losses.specs.Laws.{Elsewhere}
-use Rattle.sheet_losses.proofs.Calls.{accepted-rests, refused-leaves}
+use Rattle.sheet_losses.proofs.Calls.{accepted-answer, answered-number, refused-leaves}
 use Rattle.sheet_losses.proofs.Laws.{raised-well}
 use Rattle.ssp.specs.declared.Raised.{Raised}
 use Rattle.ssp.specs.Flat.{flat_raised}
@@ -20,8 +20,8 @@ use Rattle.theorem_ssp.specs.Archives.{Bytes}
 
 module _ (factor : ℕ) (before after : List ℕ) (r : Raised) (said : (r ≡ flat_raised (answer_of factor before)) × (after ≡ raised_after factor before)) where
   refusal_is : r.refusal ≡ raise_refusal factor before
-  unfolding flat_raised answer_of
-  refusal_is = ap (λ (x : Raised). x.refusal) said.0
+  unfolding flat_raised
+  refusal_is = ap (λ (x : Raised). x.refusal) said.0 ∙ answered-number factor before
 
   module _ (accepted : r.refusal ≡ 0) where
     passed : raise_refusal factor before ≡ 0
@@ -30,17 +30,20 @@ module _ (factor : ℕ) (before after : List ℕ) (r : Raised) (said : (r ≡ fl
     kept : (band : ℕ) → band < 3 → (rest : ℕ) → rest ≡ decembers_rest factor before band → SumKept before after factor band rest
     kept band l rest e = rw (said.1, e) ((raised-well factor before passed).bands band l)
 
+    answered : r ≡ flat_raised (Ok (decembers_rests factor before))
+    answered = said.0 ∙ ap flat_raised (accepted-answer factor before passed)
+
     rest1-is : r.rest1 ≡ decembers_rest factor before 0
     unfolding flat_raised
-    rest1-is = ap (λ (x : Raised). x.rest1) said.0 ∙ ap (λ (x : Rests). x.first) (accepted-rests factor before passed)
+    rest1-is = ap (λ (x : Raised). x.rest1) answered
 
     rest2-is : r.rest2 ≡ decembers_rest factor before 1
     unfolding flat_raised
-    rest2-is = ap (λ (x : Raised). x.rest2) said.0 ∙ ap (λ (x : Rests). x.second) (accepted-rests factor before passed)
+    rest2-is = ap (λ (x : Raised). x.rest2) answered
 
     rest3-is : r.rest3 ≡ decembers_rest factor before 2
     unfolding flat_raised
-    rest3-is = ap (λ (x : Raised). x.rest3) said.0 ∙ ap (λ (x : Rests). x.third) (accepted-rests factor before passed)
+    rest3-is = ap (λ (x : Raised). x.rest3) answered
 
     kept1 : SumKept before after factor 0 r.rest1
     kept1 = kept 0 (omega arith) r.rest1 rest1-is

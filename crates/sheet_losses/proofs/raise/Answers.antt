@@ -1,26 +1,41 @@
--- The sheet is written where nothing is refused.
-use mathlib.Core.Path.{◌≡◌}
-use native.Mathlib.Omega.{arith}
-use Rattle.sheet_losses.proofs.Calls.{refused-call, long-enough, accepted-call}
+-- The refusals one by one, in their order; the sheet is written where nothing is refused.
+use Rattle.std.proofs.Common.{sym, ◌∙◌, rules}
+use Rattle.sheet.proofs.Limits.{form-length}
+use Rattle.sheet_losses.proofs.Calls.{refused-form, refused-factor, refused-above, accepted}
 use Rattle.sheet_losses.proofs.raise.Goals as goal
 
-pub returns-then-answer-gt0 : goal.returns-then-answer-gt0
-returns-then-answer-gt0 c =
-    let a = c.args in
-    let refused : c.work-worked.result.answer.refusal ≡ 0 → ⊥ = λ z. omega (arith, c.if-answer-gt0.true) in
-    let all = refused-call a.factor a.sheet.now c.work-worked.ensures refused in record { answer = all.0; after = all.1 }
+pub returns-then-not-form_fits : goal.returns-then-not-form_fits
+returns-then-not-form_fits c =
+    let all = refused-form c.args.factor c.args.sheet.now (sym c.form_fits.ensures ∙ c.if-not-form_fits.true) in
+    record { answer = all.0; after = all.1 }
+
+pub returns-then-factor-gt-MAX_FACTOR : goal.returns-then-factor-gt-MAX_FACTOR
+returns-then-factor-gt-MAX_FACTOR c =
+    let fits = sym c.form_fits.ensures ∙ c.if-not-form_fits.false in
+    let all = refused-factor c.args.factor c.args.sheet.now fits c.if-factor-gt-MAX_FACTOR.true in
+    record { answer = all.0; after = all.1 }
+
+pub raised_year-requires : goal.raised_year-requires
+raised_year-requires c =
+    record { whole_sheet = form-length c.args.sheet.now (sym c.form_fits.ensures ∙ c.if-not-form_fits.false); factor_bound = c.if-factor-gt-MAX_FACTOR.false }
 
 pub write_year-requires : goal.write_year-requires
-write_year-requires c =
-    let a = c.args in
-    let accepted : c.work-worked.result.answer.refusal ≡ 0 = omega (arith, c.if-answer-gt0.false) in
-    long-enough a.factor a.sheet.now c.work-worked.ensures accepted
+write_year-requires c = form-length c.args.sheet.now (sym c.form_fits.ensures ∙ c.if-not-form_fits.false)
+
+pub returns-in_err-months-clause-answer : goal.returns-in_err-months-clause-answer
+returns-in_err-months-clause-answer c =
+    let fits = sym c.form_fits.ensures ∙ c.if-not-form_fits.false in
+    let all = refused-above c.args.factor c.args.sheet.now fits c.if-factor-gt-MAX_FACTOR.false c.in_err-months.ensures in
+    search rules
+
+pub returns-in_err-months-clause-after : goal.returns-in_err-months-clause-after
+returns-in_err-months-clause-after c =
+    let fits = sym c.form_fits.ensures ∙ c.if-not-form_fits.false in
+    let all = refused-above c.args.factor c.args.sheet.now fits c.if-factor-gt-MAX_FACTOR.false c.in_err-months.ensures in
+    all.1
 
 pub returns : goal.returns
 returns c =
-    let a = c.args in
-    let accepted : c.work-worked.result.answer.refusal ≡ 0 = omega (arith, c.if-answer-gt0.false) in
-    let all = accepted-call a.factor a.sheet.now c.work-worked.ensures accepted c.write_year.ensures in record {
-      answer = all.0;
-      after = all.1;
-    }
+    let fits = sym c.form_fits.ensures ∙ c.if-not-form_fits.false in
+    let all = accepted c.args.factor c.args.sheet.now fits c.if-factor-gt-MAX_FACTOR.false c.in_ok-months.ensures c.write_year.ensures in
+    record { answer = all.0; after = all.1 }
