@@ -6,77 +6,43 @@ ghost use Rattle.std.specs.Prelude.{◌≡◌};
 ghost use Rattle.figures.specs.Accounts.{opened, year_with};
 
 use account_steps::{Account, Charge};
-use output::Row;
+use output::{Failure, Printer};
 use sheet_values::{Details, YearValues};
 use tariff::Plant;
 use units::{Kwh, Rate, Ticks, UserNumber};
 
-fn begin(figure: u64) -> Row {
-    output::put_number(output::no_text(), figure)
-}
-
-fn put_energy(row: Row, energy: Kwh) -> Row {
-    output::put_field(row, energy.0 as u64)
-}
-
-// What says something answers whether it was written.
-fn say(rt: &HostRuntime, row: Row) -> bool {
-    output::write_row(
-        &mut rt.stdout(),
-        &mut rt.stderr(),
-        b"figures: standard output",
-        output::put(row, b'\n'),
-    )
-}
-
-fn line(rt: &HostRuntime, figure: u64, value: u64) -> bool {
-    say(rt, output::put_field(begin(figure), value))
-}
+const USAGE: &str = "give no argument";
 
 // (1) and (2): the tiers of a domestic user, class 1, and the flat-rate part of their energies.
-fn tiers_and_flat_rate(rt: &HostRuntime) -> bool {
+fn tiers_and_flat_rate(out: &mut Printer) -> Result<(), Failure> {
     let withdrawn = Kwh(3_000);
     let exchanged = withdrawn.min(Kwh(1_800));
     let tiers = tariff::annual_tiers(1, withdrawn, exchanged);
-    let mut row = put_energy(begin(1), tiers[0]);
-    row = put_energy(row, tiers[1]);
-    row = put_energy(row, tiers[2]);
-    row = put_energy(row, tiers[3]);
+    let [first, second, third, fourth] = tiers.map(|energy| energy.0);
+    out.line(format_args!("1 {first} {second} {third} {fourth}"))?;
     let rates = [Rate(3_000), Rate(4_000), Rate(6_000), Rate(7_000)];
-    let flat_rate = tariff::flat_rate_of(tiers, rates);
-    if !say(rt, row) {
-        return false;
-    }
-    line(rt, 2, flat_rate.0)
+    out.line(format_args!("2 {}", tariff::flat_rate_of(tiers, rates).0))
 }
 
 // (3) and (4): mean rates.
-fn mean_rates(rt: &HostRuntime) -> bool {
-    if !line(rt, 3, tariff::mean_rate(Rate(18), 12).0) {
-        return false;
-    }
-    line(rt, 4, tariff::mean_rate(Rate(17), 12).0)
+fn mean_rates(out: &mut Printer) -> Result<(), Failure> {
+    out.line(format_args!("3 {}", tariff::mean_rate(Rate(18), 12).0))?;
+    out.line(format_args!("4 {}", tariff::mean_rate(Rate(17), 12).0))
 }
 
 // (5) to (7): tier rates of plant 1.
-fn tier_rates(rt: &HostRuntime) -> bool {
+fn tier_rates(out: &mut Printer) -> Result<(), Failure> {
     let plant = Plant::new(1, 50_000);
-    if !line(rt, 5, plant.tier_rate(Rate(2_000), Rate(6_000)).0) {
-        return false;
-    }
-    if !line(rt, 6, plant.tier_rate(Rate(8_000), Rate(6_000)).0) {
-        return false;
-    }
+    out.line(format_args!("5 {}", plant.tier_rate(Rate(2_000), Rate(6_000)).0))?;
+    out.line(format_args!("6 {}", plant.tier_rate(Rate(8_000), Rate(6_000)).0))?;
     let small = Plant::new(1, 20_000);
-    line(rt, 7, small.tier_rate(Rate(2_000), Rate(6_000)).0)
+    out.line(format_args!("7 {}", small.tier_rate(Rate(2_000), Rate(6_000)).0))
 }
 
 // (8) and (9): what a run pays.
-fn advances(rt: &HostRuntime) -> bool {
-    if !line(rt, 8, calendar::paid_of(Ticks(1_500_000)).0) {
-        return false;
-    }
-    line(rt, 9, calendar::paid_of(Ticks(1_500_001)).0)
+fn advances(out: &mut Printer) -> Result<(), Failure> {
+    out.line(format_args!("8 {}", calendar::paid_of(Ticks(1_500_000)).0))?;
+    out.line(format_args!("9 {}", calendar::paid_of(Ticks(1_500_001)).0))
 }
 
 // An account on credit, before its first closing.
@@ -123,37 +89,35 @@ fn year_with(value: u64, cost: u64) -> YearValues
 }
 
 // (10): two years on credit and one liquidated.
-fn closings(rt: &HostRuntime) -> bool {
+fn closings(out: &mut Printer) -> Result<(), Failure> {
     let first = opened().closed(year_with(10, 4));
-    let after_first = first.account;
-    let second = after_first.closed(year_with(3, 5));
-    let after_second = second.account;
-    let third = after_second.elected(1).closed(year_with(9, 2));
+    let second = first.account.closed(year_with(3, 5));
+    let third = second.account.elected(1).closed(year_with(9, 2));
     let outcome = third.settlement.outcome;
-    let mut row = output::put_field(begin(10), first.settlement.contribution.0);
-    row = output::put_field(row, second.settlement.contribution.0);
-    row = output::put_field(row, third.settlement.contribution.0);
-    row = output::put_field(row, account_steps::liquidation_in(outcome).0);
-    row = output::put_field(row, account_steps::lapsed_in(outcome).0);
-    say(rt, output::put_field(row, third.account.credit.0))
+    out.line(format_args!(
+        "10 {} {} {} {} {} {}",
+        first.settlement.contribution.0,
+        second.settlement.contribution.0,
+        third.settlement.contribution.0,
+        account_steps::liquidation_in(outcome).0,
+        account_steps::lapsed_in(outcome).0,
+        third.account.credit.0,
+    ))
+}
+
+fn run(rt: &HostRuntime) -> Result<(), Failure> {
+    if output::has_argument(rt, 1) {
+        return Err(Failure::Use);
+    }
+    let out = &mut Printer::new(rt.alloc(), rt.stdout());
+    tiers_and_flat_rate(out)?;
+    mean_rates(out)?;
+    tier_rates(out)?;
+    advances(out)?;
+    closings(out)
 }
 
 fn main(rt: HostRuntime) {
-    if output::has_argument(&rt, 1) {
-        output::tell_use(&mut rt.stderr(), b"figures: give no argument\n");
-        return;
-    }
-    if !tiers_and_flat_rate(&rt) {
-        return;
-    }
-    if !mean_rates(&rt) {
-        return;
-    }
-    if !tier_rates(&rt) {
-        return;
-    }
-    if !advances(&rt) {
-        return;
-    }
-    closings(&rt);
+    let outcome = run(&rt);
+    output::report(&mut rt.stderr(), "figures", USAGE, outcome);
 }

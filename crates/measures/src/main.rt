@@ -2,107 +2,79 @@
 // each month, a line each, or which line is wrong and why. What is right is `sheet_text`'s; here it is only read and written.
 #![tactic(auto)]
 
-ghost use Rattle.std.specs.Prelude.{◌≡◌, ◌+◌, ◌≤◌, ◌<◌, get_or};
+ghost use Rattle.std.specs.Prelude.{◌≡◌, ◌≤◌, length, sum};
 
-use input::Input;
-use output::Row;
+use output::{Failure, Printer};
 use sheet::MONTHS;
 use sheet_text::{Read, YEAR_READINGS};
 use units::MAX_KWH;
 
-// More than an operator's file has; what fills the buffer goes on behind it.
+const USAGE: &str = "give the operator's file on standard input, and no argument";
+
+// A file that has so many bytes has more than any operator's; what comes behind them is not read.
 const TOO_LONG: usize = input::BOOK;
 
-// What says something answers whether it was written.
-fn say(rt: &HostRuntime, row: Row) -> bool {
-    output::write_row(
-        &mut rt.stdout(),
-        &mut rt.stderr(),
-        b"measures: standard output",
-        output::put(row, b'\n'),
-    )
-}
+// The numbers of a month, withdrawn and injected.
+const MONTH_READINGS: usize = 6;
 
-fn wide(n: u32) -> u64
-    ensures { (result ≡ n) × (result < 4294967296) }
+// The sum of three numbers: a month's kWh withdrawn, or injected.
+fn total(kwh: &[u32]) -> u64
+    requires { length kwh.now ≤ 3 }
+    ensures { result ≡ sum kwh.now }
 {
-    n as u64
+    kwh.iter().map(|kwh| u64::from(*kwh)).sum()
 }
 
-// The sum of three numbers that stand side by side: a month's kWh withdrawn, or injected.
-fn three(kwh: [u32; YEAR_READINGS], from: usize) -> u64
-    requires { from + 3 ≤ 72 }
-    ensures { result ≡ get_or kwh from 0 + get_or kwh (from + 1) 0 + get_or kwh (from + 2) 0 }
-{
-    wide(kwh[from]) + wide(kwh[from + 1]) + wide(kwh[from + 2])
-}
-
-fn say_sums(rt: &HostRuntime, kwh: [u32; YEAR_READINGS]) -> bool {
-    for month in 0..MONTHS {
-        let number = output::put_number(output::no_text(), month as u64 + 1);
-        let withdrawn = output::put_field(number, three(kwh, 6 * month));
-        if !say(rt, output::put_field(withdrawn, three(kwh, 6 * month + 3))) {
-            return false;
-        }
+fn say_sums(out: &mut Printer, kwh: [u32; YEAR_READINGS]) -> Result<(), Failure> {
+    for (month, readings) in kwh.chunks_exact(MONTH_READINGS).enumerate() {
+        let (withdrawn, injected) = readings.split_at(MONTH_READINGS / 2);
+        out.line(format_args!("{} {} {}", month + 1, total(withdrawn), total(injected)))?;
     }
-    true
+    Ok(())
 }
 
-fn line_of(line: u32) -> Row {
-    output::put_number(output::put_text(output::no_text(), b"line "), line as u64)
-}
-
-fn say_refused(rt: &HostRuntime, read: Read) -> bool {
-    if read.month != 0 {
-        let place = output::put_text(line_of(read.month), b": number ");
-        let number = output::put_number(place, read.place as u64 + 1);
-        let limit = output::put_number(output::put_text(number, b" is above "), MAX_KWH as u64);
-        return say(rt, output::put_text(limit, b" kWh"));
+fn say_refused(out: &mut Printer, read: Read) -> Result<(), Failure> {
+    let Read {
+        line,
+        month,
+        place,
+        ..
+    } = read;
+    if month != 0 {
+        return out.line(format_args!(
+            "line {month}: number {} is above {MAX_KWH} kWh",
+            u64::from(place) + 1
+        ));
     }
-    let front = line_of(read.line);
-    if MONTHS < read.line as usize {
-        return say(
-            rt,
-            output::put_text(front, b": the file goes on behind its twelfth line"),
-        );
+    if MONTHS < line as usize {
+        return out.line(format_args!("line {line}: the file goes on behind its twelfth line"));
     }
-    let shape = output::put_text(
-        front,
-        b": not seven numbers with semicolons and a line feed, the first of them ",
-    );
-    say(rt, output::put_number(shape, read.line as u64))
+    out.line(format_args!(
+        "line {line}: not seven numbers with semicolons and a line feed, the first of them {line}"
+    ))
 }
 
-fn check(rt: &HostRuntime, text: &[u8]) -> bool {
+fn check(out: &mut Printer, text: &[u8]) -> Result<(), Failure> {
     if TOO_LONG <= text.len() {
-        return say(
-            rt,
-            output::put_text(output::no_text(), b"the file has more than 64000 bytes"),
-        );
+        return out.line("the file has more than 64000 bytes");
     }
     let measures = sheet_text::measures_of(text);
-    let answer = measures.answer;
-    if answer.refusal != 0 {
-        return say_refused(rt, answer);
+    if measures.answer.refusal != 0 {
+        return say_refused(out, measures.answer);
     }
-    let year = measures.year;
-    let kwh = year.kwh;
-    say_sums(rt, kwh)
+    say_sums(out, measures.year.kwh)
+}
+
+fn run(rt: &HostRuntime) -> Result<(), Failure> {
+    if output::has_argument(rt, 1) {
+        return Err(Failure::Use);
+    }
+    let mut file = Vec::new(rt.alloc());
+    input::read_book_into(&mut rt.stdin(), &mut file).map_err(Failure::Input)?;
+    check(&mut Printer::new(rt.alloc(), rt.stdout()), &file)
 }
 
 fn main(rt: HostRuntime) {
-    if output::has_argument(&rt, 1) {
-        output::tell_use(
-            &mut rt.stderr(),
-            b"measures: give the operator's file on standard input, and no argument\n",
-        );
-        return;
-    }
-    let mut file = input::book_buffer();
-    match input::read_book(&mut rt.stdin(), &mut file) {
-        Input::Read(count) => {
-            check(&rt, text::front(&file, count));
-        }
-        Input::Failed(error) => output::fail(&mut rt.stderr(), b"measures: standard input", error),
-    }
+    let outcome = run(&rt);
+    output::report(&mut rt.stderr(), "measures", USAGE, outcome);
 }
