@@ -1,13 +1,11 @@
 -- Rates: the mean of n months is the number nearest to the sum divided by n, halves up; the three cases of a tier rate.
-use Prim.Native.Nat.{ℕ, ◌+◌, ◌-◌, ◌*◌, ◌/◌, ◌≤◌, ◌<◌, min}
+use Prim.Native.Nat.{ℕ, ◌+◌, ◌*◌, ◌/◌, ◌≤◌, ◌<◌, min}
 use mathlib.Core.Path.{◌≡◌}
 use native.Mathlib.Nat.{mul-div-le, lt-mul-div-succ, div-lt_iff_lt-mul, mul-add, mul-one}
 use native.Mathlib.Omega.{arith}
 use lib.Dec.{eqb, leb}
-use borrow.Author.Tests.{ne_eqb, lt-leb}
+use borrow.Author.Tests.{ne_eqb, le-leb, lt-leb}
 use Rattle.units.proofs.Bools.{cond-capped}
-use Rattle.units.specs.Units.{units_per_euro_mwh}
-use Rattle.tariff.specs.Table1.{table_euro_per_mwh}
 use Rattle.tariff.specs.Tariff.{mean_rate, cogeneration, small_power, limit, tier_rate}
 
 pub mean-rate-near :
@@ -25,12 +23,17 @@ mean-rate-capped n s cap h k =
     let below : (2 * s + n) / (2 * n) < cap + 1 = (div-lt_iff_lt-mul positive).1 whole in
     omega arith
 
+pub rate-of-small :
+    {plant power : ℕ} (net system : ℕ) → (plant ≡ cogeneration → ⊥) → power ≤ small_power →
+    tier_rate plant power net system ≡ net + system
+unfolding tier_rate
+rate-of-small {plant} {power} net system n h = rw (ne_eqb plant cogeneration n, le-leb power small_power h)
+
 pub rate-of-large :
-    {plant power : ℕ} (net system : ℕ) {table cap part : ℕ} → (plant ≡ cogeneration → ⊥) → small_power < power →
-    table ≡ units_per_euro_mwh * table_euro_per_mwh plant power → cap ≡ table - net → part ≡ min system cap →
-    tier_rate plant power net system ≡ net + part
-unfolding tier_rate limit
-rate-of-large {plant} {power} net system n h t l p = rw (ne_eqb plant cogeneration n, lt-leb power small_power h, p, l, t)
+    {plant power : ℕ} (net system : ℕ) → (plant ≡ cogeneration → ⊥) → small_power < power →
+    tier_rate plant power net system ≡ net + min system (limit plant power net)
+unfolding tier_rate
+rate-of-large {plant} {power} net system n h = rw (ne_eqb plant cogeneration n, lt-leb power small_power h)
 
 pub tier-rate-capped :
     (plant power cap : ℕ) {net system : ℕ} → net ≤ cap → system ≤ cap → tier_rate plant power net system ≤ cap + cap

@@ -6,7 +6,6 @@ mod table1;
 ghost use Rattle.std.specs.Prelude.{◌≡◌, ℕ, ◌*◌, ◌≤◌, ◌<◌, map, get_or};
 ghost use Rattle.units.specs.Units.{kwh, rate, units_per_euro_mwh};
 ghost use Rattle.units.specs.Limits.{max_price, max_tier_rate};
-ghost use Rattle.units.specs.InnerWithin.{NumberWithin, RateWithin};
 ghost use Rattle.tariff.specs.Table1.{table_euro_per_mwh};
 ghost use Rattle.tariff.specs.Tariff.{domestic, monthly_method, between, above, tiers, numbers, tier_sum};
 ghost use Rattle.tariff.specs.Tariff.{annual_tiers, monthly_tiers, mean_rate, limit, tier_rate, max_year_kwh, flat_rate_of};
@@ -180,7 +179,8 @@ impl Plant {
     #[tactic(auto, unfolding(crate::specs::Tariff::tier_rate))]
     pub fn tier_rate(self, net: Rate, system: Rate) -> Rate
         requires { (net.0 ≤ max_price) × (system.0 ≤ max_price) }
-        ensures { RateWithin (tier_rate self.kind self.power net.0 system.0) max_tier_rate result }
+        ensures is { result ≡ rate (tier_rate self.kind self.power net.0 system.0) }
+        ensures most { result.0 ≤ max_tier_rate }
     {
         if self.kind == COGENERATION {
             return net;
@@ -198,8 +198,8 @@ impl Plant {
 pub fn flat_rate_of(energies: [Kwh; 4], rates: [Rate; 4]) -> Ticks
     requires tier_rates { (t : ℕ) → t < 4 → (get_or rates t (rate 0)).0 ≤ max_tier_rate }
     requires energies_bound { tier_sum (numbers energies) ≤ max_year_kwh }
-    ensures { NumberWithin (flat_rate_of (numbers energies) (λ t. (get_or rates t (rate 0)).0))
-        (max_tier_rate * tier_sum (numbers energies)) result.0 }
+    ensures is { result.0 ≡ flat_rate_of (numbers energies) (λ t. (get_or rates t (rate 0)).0) }
+    ensures most { result.0 ≤ max_tier_rate * tier_sum (numbers energies) }
 {
     let mut sum = Ticks(0);
     for (energy, rate) in energies.iter().zip(&rates) {
