@@ -1,4 +1,4 @@
--- Rates: the mean of n months is the number nearest to the sum divided by n, halves up; the three cases of a tier rate.
+-- Rates: the mean of n months is the number nearest to the sum divided by n, halves up; the tier rate of a renewable plant, small and large.
 use Prim.Native.Nat.{ℕ, ◌+◌, ◌*◌, ◌/◌, ◌≤◌, ◌<◌, min}
 use mathlib.Core.Path.{◌≡◌}
 use native.Mathlib.Nat.{mul-div-le, lt-mul-div-succ, div-lt_iff_lt-mul, mul-add, mul-one}

@@ -1,4 +1,5 @@
 // The part of "Year's values" of document 01 that needs no sheet: methods, tiers and rates.
+// Classes and kinds of plants stay numbers: by a rule of the project, ranges over them choose.
 #![tactic(auto)]
 
 mod table1;
@@ -64,14 +65,14 @@ struct Bounds {
 }
 
 // "Bounds: 1,800, 2,640, 4,440 per year for classes 1 and 2".
-const ANNUAL: Bounds = Bounds {
+const ANNUAL_BOUNDS: Bounds = Bounds {
     first: Kwh(1_800),
     second: Kwh(2_640),
     third: Kwh(4_440),
 };
 
 // "4, 8, 12 million per month in the monthly method".
-const MONTHLY: Bounds = Bounds {
+const MONTHLY_BOUNDS: Bounds = Bounds {
     first: Kwh(4_000_000),
     second: Kwh(8_000_000),
     third: Kwh(12_000_000),
@@ -105,7 +106,7 @@ pub fn annual_tiers(class: u8, withdrawn: Kwh, exchanged: Kwh) -> [Kwh; 4]
     ensures whole { tier_sum (numbers result) ≡ exchanged.0 }
 {
     match class {
-        1..=2 => ANNUAL.cut(withdrawn, exchanged),
+        1..=2 => ANNUAL_BOUNDS.cut(withdrawn, exchanged),
         _ => [exchanged, Kwh(0), Kwh(0), Kwh(0)],
     }
 }
@@ -117,7 +118,7 @@ pub fn monthly_tiers(withdrawn: Kwh, exchanged: Kwh) -> [Kwh; 4]
     ensures tiers { result ≡ map kwh (monthly_tiers withdrawn.0 exchanged.0) }
     ensures whole { tier_sum (numbers result) ≡ exchanged.0 }
 {
-    MONTHLY.cut(withdrawn, exchanged)
+    MONTHLY_BOUNDS.cut(withdrawn, exchanged)
 }
 
 // An annual rate: "the sum of twelve divided by 12, halves up", for any number of months to twelve.
