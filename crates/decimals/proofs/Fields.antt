@@ -1,18 +1,18 @@
 -- Writing and reading give each other back: a text begins with a number exactly if it begins with the digits that are written for
 -- the number that is read there.
-use Prim.Native.Nat.{ℕ, zero, suc, ◌+◌, ◌-◌, ◌*◌, ◌/◌, ◌%◌, ◌≤◌, ◌<◌, min}
+use Prim.Native.Nat.{ℕ, zero, suc, ◌+◌, ◌-◌, ◌*◌, ◌/◌, ◌%◌, ◌<◌, min}
 use mathlib.Core.Path.{◌≡◌, refl, sym, ap, ap₂, ◌∙◌}
 use mathlib.Core.Bool.{Bool, true, false, cond, not, ◌&&◌, ◌||◌, false≢true}
 use mathlib.Core.List.{List, [], ◌∷◌, ◌++◌, append_assoc, append-nil}
-use native.Mathlib.Nat.{zero-add, add-zero}
+use native.Mathlib.Nat.{zero-add}
 use native.Mathlib.Decide.{dec_lt}
 use native.Mathlib.Omega.{arith}
 use borrow.Author.Tests.{lt-ltb, eq-eqb, eqb-true, ne_eqb, le-leb}
 use lib.Dec.{ltb, eqb}
 use lib.ListN.{length, get_or, take, drop, length-append, take-append-drop, drop_of_length-le}
-use lib.Seq.{get_or_at, drop-cons, drop-append_seam, get_or-drop, drop-drop}
+use lib.Seq.{get_or_at, drop-cons, drop-append_seam}
 use Rattle.units.proofs.Bools.{and_left, and_right, and_both}
-use Rattle.decimals.specs.Decimals.{decimal, field, is_digit, digits, value_after, value, begins_number, begins_field, behind, FieldRead}
+use Rattle.decimals.specs.Decimals.{decimal, field, is_digit, digits, value_after, value, begins_number, begins_field, behind}
 use Rattle.decimals.proofs.Written.{decimal_digit, decimal-more, front_length, field-length}
 use Rattle.decimals.proofs.Digits.{inside, digit-bounds}
 
@@ -202,25 +202,18 @@ field-split stop t h e =
     ∙ ap₂ ◌++◌ (sym (number-front t plain)) (drop-cons t (digits t) 0 within ∙ ap (λ (b : ℕ). b ∷ drop (suc (digits t)) t) byte)
     ∙ sym (field-regroup (value t) stop (drop (suc (digits t)) t))
 
--- a field as it is read at a place: the digits counted, the first one and the byte behind them looked at
-pub field-read : (s : List ℕ) (at stop most end n next first last : ℕ) (fits : Bool)
-    → end ≡ at + digits (drop at s) → n ≡ min (value (drop at s)) most → first ≡ get_or s at 0 → last ≡ get_or s end 0
-    → fits ≡ ((ltb 0 (end - at) && (eqb (end - at) 1 || not (eqb first 48))) && eqb last stop) → drop next s ≡ behind (drop at s)
-    → FieldRead s at stop most (record { fits = fits; value = n; next = next })
+-- a field as it is read: the digits counted, the first one and the byte behind them looked at
+pub field-tested : (t : List ℕ) (stop count first last : ℕ) (fits : Bool) → count ≡ digits t → first ≡ get_or t 0 0 → last ≡ get_or t count 0
+    → fits ≡ ((ltb 0 count && (eqb count 1 || not (eqb first 48))) && eqb last stop) → fits ≡ begins_field stop t
 unfolding begins_field begins_number
-field-read s at stop most end n next first last fits e v f l b r =
-    let count : end - at ≡ digits (drop at s) = omega arith in
-    let here : get_or s at 0 ≡ get_or (drop at s) 0 0 = sym (get_or-drop at s 0 0 ∙ ap (λ (k : ℕ). get_or s k 0) (add-zero at)) in
-    let there : get_or s end 0 ≡ get_or (drop at s) (digits (drop at s)) 0
-    = ap (λ (k : ℕ). get_or s k 0) e ∙ sym (get_or-drop at s (digits (drop at s)) 0) in
-    record { fits = rw (b, count, f, l, here, there); value = v; rest = r }
+field-tested t stop count first last fits e f l b = rw (b, f, l, e)
 
--- the place behind the byte, and at the end of the text the end
-pub next-inside : (s : List ℕ) (at end : ℕ) → end ≡ at + digits (drop at s) → drop (end + 1) s ≡ behind (drop at s)
+-- what stands behind the byte, if only the end of the text
+pub behind-clipped : (t : List ℕ) (count end : ℕ) → count ≡ digits t → end ≡ min (count + 1) (length t) → drop end t ≡ behind t
 unfolding behind
-next-inside s at end e =
-    let place : end + 1 ≡ at + suc (digits (drop at s)) = omega arith in
-    ap (λ (k : ℕ). drop k s) place ∙ sym (drop-drop (suc (digits (drop at s))) at s)
-
-pub next-end : (s : List ℕ) (at end : ℕ) → length s ≤ end → end ≡ at + digits (drop at s) → drop end s ≡ behind (drop at s)
-next-end s at end h e = drop_of_length-le s h ∙ sym (drop_of_length-le s {i = end + 1} (omega arith)) ∙ next-inside s at end e
+behind-clipped t count end e m = either (dec_lt count (length t))
+  where
+    either : Dec (count < length t) → drop end t ≡ drop (suc (digits t)) t
+    either (yes l) = let place : end ≡ suc (digits t) = omega (arith, e, m, l) in ap (λ (k : ℕ). drop k t) place
+    either (no g) =
+        drop_of_length-le t {i = end} (omega (arith, m, g)) ∙ sym (drop_of_length-le t {i = suc (digits t)} (omega (arith, e, g)))

@@ -1,8 +1,7 @@
 -- Decimal numbers as text. A text is a list of bytes in ASCII; a byte past its end reads as 0, which is no digit.
-use Rattle.std.specs.Prelude.{ℕ, zero, suc, ◌+◌, ◌-◌, ◌*◌, ◌/◌, ◌%◌, min, ◌≡◌, Bool, cond, not, ◌&&◌, ◌||◌, List, [], ◌∷◌, ◌++◌, leb, ltb}
+use Rattle.std.specs.Prelude.{ℕ, zero, suc, ◌+◌, ◌-◌, ◌*◌, ◌/◌, ◌%◌, min, ◌≡◌, Bool, true, cond, not, ◌&&◌, ◌||◌, List, [], ◌∷◌, ◌++◌, leb, ltb, ◌≤◌, length}
 use Rattle.std.specs.Prelude.{eqb, get_or, drop}
 use Rattle.decimals.specs.declared.DigitRun.{DigitRun}
-use Rattle.decimals.specs.declared.TextField.{TextField}
 
 -- WRITTEN: the digits of a number, without a zero in front. `decimal_of` writes at most so many; a number has fewer digits than
 -- one more than itself.
@@ -48,13 +47,14 @@ begins_field stop t = begins_number t && eqb (get_or t (digits t) 0) stop
 unfoldable pub behind : List ℕ → List ℕ
 behind t = drop (suc (digits t)) t
 
--- What is read at a place of a text: where the digits end, and their number, `most` where it is larger; and whether a field
--- stands there, and the place behind it.
-pub record RunRead (s : List ℕ) (at most : ℕ) (r : DigitRun) : Type 0 where
-  pub end : r.end ≡ at + digits (drop at s)
-  pub value : r.value ≡ min (value (drop at s)) most
+-- What is read at the front of a text: how many digits, and their number, `most` where it is larger; and of a field that stands there
+-- the number and what is behind it.
+pub record RunRead (t : List ℕ) (most : ℕ) (r : DigitRun) : Type 0 where
+  pub count : r.count ≡ digits t
+  pub within : r.count ≤ length t
+  pub value : r.value ≡ min (value t) most
 
-pub record FieldRead (s : List ℕ) (at stop most : ℕ) (r : TextField) : Type 0 where
-  pub fits : r.fits ≡ begins_field stop (drop at s)
-  pub value : r.value ≡ min (value (drop at s)) most
-  pub rest : drop r.next s ≡ behind (drop at s)
+pub record FieldRead (t : List ℕ) (stop most n : ℕ) (after : List ℕ) : Type 0 where
+  pub stands : begins_field stop t ≡ true
+  pub value : n ≡ min (value t) most
+  pub rest : after ≡ behind t

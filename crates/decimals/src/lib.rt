@@ -1,23 +1,15 @@
 // Decimal numbers as text, written and read: for the library and for programs. Every string of bytes is an ordinary input.
 #![tactic(auto)]
 
-ghost use Rattle.std.specs.Prelude.{◌≡◌, ◌+◌, ◌*◌, ◌≤◌, min, length};
-ghost use Rattle.decimals.specs.Decimals.{decimal, field, is_digit, RunRead, FieldRead};
+ghost use Rattle.std.specs.Prelude.{◌≡◌, false, ◌+◌, ◌*◌, ◌≤◌, min, length, MatchOption};
+ghost use Rattle.decimals.specs.Decimals.{decimal, field, is_digit, begins_field, RunRead, FieldRead};
 ghost use Rattle.decimals.specs.InnerWritten.{TextPut};
 
-// Digits one after the other: the place behind them, and their number as far as it counts.
+// The digits at the front of a text: how many, and their number as far as it counts.
 #[derive(Drop)]
 struct DigitRun {
-    pub end: usize,
+    pub count: usize,
     pub value: u32,
-}
-
-// A number with one byte behind it: whether it stands there, its value as far as it counts, and the place behind that byte.
-#[derive(Clone, Copy)]
-pub struct TextField {
-    pub fits: bool,
-    pub value: u32,
-    pub next: usize,
 }
 
 // Writes a number at a place of the text, and answers the place behind it.
@@ -43,48 +35,51 @@ pub fn write_field(out: &mut [u8], at: usize, n: u64, stop: u8) -> usize
     end + 1
 }
 
+#[tactic(auto, unfolding(crate::specs::Decimals::is_digit))]
 pub fn is_digit(b: u8) -> bool
     ensures { result ≡ is_digit b }
 {
-    (b'0' <= b) & (b <= b'9')
+    b.is_ascii_digit()
 }
 
 // The number with a digit more behind it, at most `most`.
 fn with_digit(value: u32, digit: u8, most: u32) -> u32
     ensures { result ≡ min (value * 10 + digit) most }
 {
-    let more = (value as u64) * 10 + digit as u64;
-    if most as u64 <= more {
-        return most;
-    }
-    more as u32
+    value
+        .saturating_mul(10)
+        .saturating_add(u32::from(digit))
+        .min(most)
 }
 
-// The digits from a place on, however many: a number above `most` counts as `most`.
-fn read_run(s: &[u8], at: usize, most: u32) -> DigitRun
-    ensures { RunRead s.now at most result }
+// The digits at the front of a text, however many: a number above `most` counts as `most`.
+fn read_run(s: &[u8], most: u32) -> DigitRun
+    ensures { RunRead s.now most result }
 {
-    let mut value: u32 = 0;
-    let mut end = at;
-    while is_digit(codec::byte_at(s, end)) {
-        value = with_digit(value, codec::byte_at(s, end) - b'0', most);
-        end = end + 1;
+    let mut count = 0;
+    let mut value = 0;
+    for b in s {
+        if !is_digit(*b) {
+            return DigitRun { count, value };
+        }
+        value = with_digit(value, *b - b'0', most);
+        count += 1;
     }
-    DigitRun { end, value }
+    DigitRun { count, value }
 }
 
-// A number from a place on, without a needless zero in front, and the byte `stop` behind it.
-pub fn read_field(s: &[u8], at: usize, stop: u8, most: u32) -> TextField
-    ensures { FieldRead s.now at stop most result }
+// A number at the front of a text, without a needless zero before it and with the byte `stop` behind it: the number, `most` where it is
+// larger, and the text behind that byte.
+pub fn read_field(s: &[u8], stop: u8, most: u32) -> Option<(u32, &[u8])>
+    ensures { MatchOption result (begins_field stop s.now ≡ false) (λ r. FieldRead s.now stop most r.0 r.1.now) }
 {
-    let run = read_run(s, at, most);
-    let end = run.end;
-    let count = end - at;
-    let plain = (0 < count) & ((count == 1) | !(codec::byte_at(s, at) == b'0'));
-    let next = if end < s.len() { end + 1 } else { end };
-    TextField {
-        fits: plain & (codec::byte_at(s, end) == stop),
-        value: run.value,
-        next,
+    let run = read_run(s, most);
+    let count = run.count;
+    let plain = (0 < count) & ((count == 1) | !(codec::byte_at(s, 0) == b'0'));
+    if plain & (codec::byte_at(s, count) == stop) {
+        let end = (count + 1).min(s.len());
+        Some((run.value, &s[end..]))
+    } else {
+        None
     }
 }

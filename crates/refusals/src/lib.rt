@@ -2,7 +2,7 @@
 #![tactic(auto)]
 
 ghost use Rattle.std.specs.Prelude.{◌≡◌};
-ghost use Rattle.refusals.specs.Refusals.{number_of, position_of};
+ghost use Rattle.refusals.specs.Refusals.{number_of, line_of, position_of};
 
 use std::error::Error;
 use std::fmt;
@@ -99,6 +99,16 @@ impl Refusal {
         match self {
             Refusal::AboveLimit(position) | Refusal::UnusedBand(position) => position,
             _ => NOWHERE,
+        }
+    }
+
+    // Which line of the operator's text is refused; 0 after another refusal.
+    pub fn line(self) -> u32
+        ensures { result ≡ line_of self }
+    {
+        match self {
+            Refusal::WrongLine(line) => line,
+            _ => 0,
         }
     }
 }

@@ -15,11 +15,9 @@ use call_statement::Stated;
 use input::Found;
 use listing_text::Listed;
 use output::Row;
-use refusals::Refusal;
+use refusals::{Position, Refusal};
 use replay_script::{Digits, Request};
-use refusals::Position;
 use sheet_more_sun::Addition;
-use sheet_text::{Read, Written};
 use sheet_values::Details;
 use statements::Sums;
 use text::Bytes;
@@ -241,43 +239,49 @@ fn say_buffer(rt: &HostRuntime, refusal: u32, buffer: &[u8], out: &mut [u8]) -> 
 }
 
 // After a 17 the line, and after a 13 the month and the place stand in the place of the values.
-fn say_read(rt: &HostRuntime, read: Read, sheet: &[u8], out: &mut [u8]) -> bool
+fn refusal_row(refusal: Refusal) -> Row {
+    let number = output::put_number(output::no_text(), u64::from(refusal.number()));
+    match refusal {
+        Refusal::WrongLine(line) => output::put_field(number, u64::from(line)),
+        Refusal::AboveLimit(position) => put_position(number, position),
+        _ => number,
+    }
+}
+
+fn say_read(rt: &HostRuntime, answer: Result<(), Refusal>, sheet: &[u8], out: &mut [u8]) -> bool
     requires { 2 * length sheet.now + 3 ≤ length out.old }
 {
-    let number = output::put_number(output::no_text(), read.refusal as u64);
-    if read.line != 0 {
-        return say(rt, output::put_field(number, read.line as u64));
+    match answer {
+        Ok(()) => say_buffer(rt, 0, sheet, out),
+        Err(refusal) => say(rt, refusal_row(refusal)),
     }
-    if read.month != 0 {
-        let position = Position {
-            month: read.month,
-            place: read.place,
-        };
-        return say(rt, put_position(number, position));
-    }
-    say_buffer(rt, read.refusal, sheet, out)
 }
 
 // Prints the number and the length, and of an accepted call the buffer after it.
-fn say_written(rt: &HostRuntime, written: Written, buffer: &[u8], out: &mut [u8]) -> bool
+fn say_written(
+    rt: &HostRuntime,
+    answer: Result<u32, Refusal>,
+    buffer: &[u8],
+    out: &mut [u8],
+) -> bool
     requires { 2 * length buffer.now + 3 ≤ length out.old }
 {
-    let number = output::put_number(output::no_text(), written.refusal as u64);
-    if written.month != 0 {
-        let position = Position {
-            month: written.month,
-            place: written.place,
-        };
-        return say(rt, put_position(number, position));
+    match answer {
+        Ok(length) => {
+            let row = output::put_field(
+                output::put_number(output::no_text(), 0),
+                u64::from(length),
+            );
+            if !say_row(rt, output::put(row, b' ')) {
+                return false;
+            }
+            say_hex(rt, buffer, out, 0)
+        }
+        Err(refusal) => match refusal {
+            Refusal::AboveLimit(_) => say(rt, refusal_row(refusal)),
+            _ => say(rt, output::put_field(refusal_row(refusal), 0)),
+        },
     }
-    let row = output::put_field(number, written.length as u64);
-    if written.refusal != 0 {
-        return say(rt, row);
-    }
-    if !say_row(rt, output::put(row, b' ')) {
-        return false;
-    }
-    say_hex(rt, buffer, out, 0)
 }
 
 // The number of a refusal, 0 for an accepted call.
@@ -374,7 +378,12 @@ fn put_front(row: Row, out: &mut [u8]) -> usize
 
 // Prints the number of an answer and the rests, and of an accepted call the sheet after it, by way of `out`. After a 13 the month
 // and the place of the reading at fault stand in the place of the values.
-fn say_raised(rt: &HostRuntime, answer: Result<[u32; 3], Refusal>, sheet: &[u8], out: &mut [u8]) -> bool
+fn say_raised(
+    rt: &HostRuntime,
+    answer: Result<[u32; 3], Refusal>,
+    sheet: &[u8],
+    out: &mut [u8],
+) -> bool
     requires { 2 * length sheet.now + 257 ≤ length out.old }
 {
     match answer {

@@ -1,7 +1,7 @@
 -- The sheet that is filled: each kWh stands at its place, and every other byte stays.
 use Prim.Native.Nat.{ℕ, zero, suc, ◌+◌, ◌*◌, ◌≤◌, ◌<◌}
 use mathlib.Core.Path.{◌≡◌, refl, sym, ap, subst, ◌∙◌}
-use mathlib.Core.Bool.{Bool, true, false, cond, not, ◌&&◌}
+use mathlib.Core.Bool.{Bool, true, false, cond, not, ◌&&◌, true≢false}
 use mathlib.Core.List.{List}
 use native.Mathlib.Decide.{dec_lt}
 use native.Mathlib.Omega.{arith}
@@ -13,7 +13,7 @@ use Rattle.codec.specs.Bytes.{little_endian, bytes_of, number, stored}
 use Rattle.codec.proofs.Numbers.{length-bytes, number-one}
 use Rattle.codec.proofs.Stores.{part-before, part-after, number-stored}
 use Rattle.sheet.specs.YearSheet.{sheet_length, word}
-use Rattle.sheet_text.specs.declared.Read.{Read}
+use Rattle.std.specs.Result.{is_err}
 use Rattle.sheet_text.specs.Lines.{months, readings, kwh_in}
 use Rattle.sheet_text.specs.Reading.{Within, accepted, wrong_size, some_refused, text_answer, month_filled, months_filled, filled, read_answer, read_after}
 use Rattle.sheet_text.proofs.Filling.{month-length, months-length}
@@ -135,8 +135,8 @@ unfolding read_answer
 accepted-sheet s t e = by-test (eqb (length s) sheet_length) refl e
   where
     by-test : (a : Bool) → eqb (length s) sheet_length ≡ a → cond a (text_answer t) wrong_size ≡ accepted → (length s ≡ sheet_length) × (some_refused t ≡ false)
-    by-test true q r = (eqb-true (length s) sheet_length q, text-taken t (ap (λ (x : Read). x.refusal) r))
-    by-test false q r = let z : ◌≡◌ {A = ℕ} 11 0 = ap (λ (x : Read). x.refusal) r in let no : ⊥ = omega arith in absurd no
+    by-test true q r = (eqb-true (length s) sheet_length q, text-taken t r)
+    by-test false q r = absurd (true≢false (ap is_err r))
 
 pub sheet-filled : (s t : List ℕ) → length s ≡ sheet_length → some_refused t ≡ false → read_after s t ≡ filled (kwh_in t) s
 unfolding read_after

@@ -10,7 +10,6 @@ use borrow.Author.Tests.{lt-ltb, eq-eqb, eqb-true}
 use lib.ListN.{length}
 use Rattle.units.proofs.Bools.{or_left, or_right}
 use Rattle.units.proofs.Folds.{none-at, none_of}
-use Rattle.sheet_text.specs.declared.Read.{Read}
 use Rattle.sheet_text.specs.Lines.{months, readings, line, lines, year_text, begins_line, kwh_at, behind_line, from_line, kwh_in}
 use Rattle.sheet_text.specs.Reading.{line_wrong, some_kwh_above, line_refused, Within, some_refused}
 use Rattle.sheet_text.proofs.Above.{none_above, all-within}
@@ -151,8 +150,8 @@ room = record { enough = year-room; reached = year-reached }
 pub language : Language
 language =
     record {
-      shaped = λ t e. taken-written t (text-taken t (ap (λ (r : Read). r.refusal) e));
-      within = λ t e. taken-within t (text-taken t (ap (λ (r : Read). r.refusal) e));
-      written = λ kwh within. sym (taken (year_text kwh) (written-taken kwh within));
+      shaped = λ t e. taken-written t (text-taken t e);
+      within = λ t e. taken-within t (text-taken t e);
+      written = λ kwh within. taken (year_text kwh) (written-taken kwh within);
       numbers = λ kwh within. written-numbers kwh;
     }

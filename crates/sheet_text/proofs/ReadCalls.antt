@@ -1,67 +1,59 @@
--- The three answers of the reader, and what each leaves of the sheet.
-use Prim.Native.Nat.{ℕ}
-use mathlib.Core.Path.{◌≡◌, refl, sym, ap, ◌∙◌}
-use mathlib.Core.Bool.{Bool, true, false, cond}
-use mathlib.Core.List.{List}
-use native.Mathlib.Omega.{arith}
-use lib.Dec.{eqb}
-use borrow.Author.Tests.{eq-eqb, ne_eqb}
-use lib.ListN.{length}
+-- The answers of the reader, and what each leaves of the sheet.
+use Rattle.std.proofs.Common.{ℕ, ◌≡◌, Bool, true, false, cond, List, length, eqb, refl, sym, ap, ◌∙◌, Ok, Err, eq-eqb}
+use borrow.Author.Tests.{ne_eqb}
+use Rattle.units.specs.declared.Kwh.{Kwh}
+use Rattle.refusals.specs.declared.Refusal.{Refusal}
 use Rattle.sheet.specs.YearSheet.{sheet_length}
-use Rattle.sheet_text.specs.declared.Read.{Read}
-use Rattle.sheet_text.specs.declared.Measures.{Measures}
 use Rattle.sheet_text.specs.Lines.{months, kwh_in}
-use Rattle.sheet_text.specs.Reading.{line_wrong, wrong_size, wrong_line, above_in, first_above, objection_to, some_refused, first_refused, text_answer, filled, read_answer, read_after}
-use Rattle.sheet_text.specs.InnerSteps.{kwh_of_year, MeasuresRead}
+use Rattle.sheet_text.specs.Reading.{Answer, line_wrong, accepted, wrong_size, wrong_line, above_in, first_above, objection_to, some_refused, first_refused, text_answer, filled, read_answer, read_after}
+use Rattle.sheet_text.specs.InnerSteps.{kwh_of_year, YearRead, TextRefused}
 use Rattle.sheet_text.proofs.Filling.{months-same}
 
-objection-told : (t : List ℕ) (m : ℕ) → (objection_to t m).refusal ≡ 0 → ⊥
+-- an answer is no refusal, or it is one
+abbrev refuses : Answer → Bool
+refuses (Ok u) = false
+refuses (Err refusal) = true
+
+objection-told : (t : List ℕ) (m : ℕ) → refuses (objection_to t m) ≡ true
 unfolding objection_to
-objection-told t m e = by-test (line_wrong t m) e
+objection-told t m = by-test (line_wrong t m)
   where
-    by-test : (w : Bool) → (cond w (wrong_line m) (above_in m (first_above (kwh_in t m)))).refusal ≡ 0 → ⊥
-    by-test true z = omega arith
-    by-test false z = omega arith
+    by-test : (w : Bool) → refuses (cond w (wrong_line m) (above_in m (first_above (kwh_in t m)))) ≡ true
+    by-test true = refl
+    by-test false = refl
 
--- a text is refused exactly if the answer has a number other than 0
-pub text-taken : (t : List ℕ) → (text_answer t).refusal ≡ 0 → some_refused t ≡ false
+-- a text is refused exactly if the answer is a refusal
+answer-refuses : (t : List ℕ) → refuses (text_answer t) ≡ some_refused t
 unfolding text_answer
-text-taken t e = by-test (some_refused t) e
+answer-refuses t = by-test (some_refused t) (objection-told t (first_refused t))
   where
-    by-test : (r : Bool) → (cond r (objection_to t (first_refused t)) (record { refusal = 0; line = 0; month = 0; place = 0 })).refusal ≡ 0 → r ≡ false
-    by-test true z = absurd (objection-told t (first_refused t) z)
-    by-test false z = refl
+    by-test : (r : Bool) → refuses (objection_to t (first_refused t)) ≡ true → refuses (cond r (objection_to t (first_refused t)) accepted) ≡ r
+    by-test true e = e
+    by-test false e = refl
 
-text-refused : (t : List ℕ) → ((text_answer t).refusal ≡ 0 → ⊥) → some_refused t ≡ true
-unfolding text_answer
-text-refused t h = by-test (some_refused t) h
-  where
-    by-test : (r : Bool) → ((cond r (objection_to t (first_refused t)) (record { refusal = 0; line = 0; month = 0; place = 0 })).refusal ≡ 0 → ⊥) → r ≡ true
-    by-test true z = refl
-    by-test false z = absurd (z refl)
+pub text-taken : (t : List ℕ) → text_answer t ≡ accepted → some_refused t ≡ false
+text-taken t e = sym (answer-refuses t) ∙ ap refuses e
+
+text-refused : (t : List ℕ) {refusal : Refusal} → TextRefused t refusal → some_refused t ≡ true
+text-refused t e = sym (answer-refuses t) ∙ ap refuses e
 
 module _ (s t : List ℕ) where
   pub size-answered : (length s ≡ sheet_length → ⊥) → (wrong_size ≡ read_answer s t) × (s ≡ read_after s t)
   unfolding read_answer read_after
   size-answered h = let no_size : eqb (length s) sheet_length ≡ false = ne_eqb (length s) sheet_length h in (rw no_size, rw no_size)
 
-  module _ (long : length s ≡ sheet_length) (r : Measures) (read : MeasuresRead t r) where
+  module _ (long : length s ≡ sheet_length) where
     size : eqb (length s) sheet_length ≡ true
     size = eq-eqb (length s) sheet_length long
 
-    answered : r.answer ≡ read_answer s t
-    unfolding read_answer
-    answered = rw size read.answer
+    pub refused-answered : {refusal : Refusal} → TextRefused t refusal → (Err refusal ≡ read_answer s t) × (s ≡ read_after s t)
+    unfolding read_answer read_after
+    refused-answered e = (rw (size, e), rw (size, text-refused t e))
 
-    pub refused-answered : (r.answer.refusal ≡ 0 → ⊥) → (r.answer ≡ read_answer s t) × (s ≡ read_after s t)
-    unfolding read_after
-    refused-answered h =
-        let some : some_refused t ≡ true = text-refused t (λ z. h (ap (λ (a : Read). a.refusal) read.answer ∙ z)) in
-        (answered, rw (size, some))
-
-    pub taken-answered : r.answer.refusal ≡ 0 → (after : List ℕ) → after ≡ filled (kwh_of_year r.year.kwh) s
-        → (r.answer ≡ read_answer s t) × (after ≡ read_after s t)
-    unfolding read_after
-    taken-answered z after e =
-        let none : some_refused t ≡ false = text-taken t (ap (λ (a : Read). a.refusal) (sym read.answer) ∙ z) in
-        (answered, rw (size, none) (e ∙ months-same (kwh_of_year r.year.kwh) (kwh_in t) s months (λ m p. read.numbers none m p)))
+    pub taken-answered : {year : List (List Kwh)} → YearRead t year → (after : List ℕ) → after ≡ filled (kwh_of_year year) s
+        → (accepted ≡ read_answer s t) × (after ≡ read_after s t)
+    unfolding read_answer read_after
+    taken-answered {year} read after e = (
+      rw (size, read.taken),
+      rw (size, text-taken t read.taken) (e ∙ months-same (kwh_of_year year) (kwh_in t) s months (λ m p. read.numbers m p)),
+    )

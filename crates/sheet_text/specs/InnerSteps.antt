@@ -1,14 +1,14 @@
 -- What the inner functions of reader and writer do: for their contracts alone.
-use Rattle.std.specs.Prelude.{ℕ, zero, suc, ◌+◌, ◌*◌, ◌<◌, min, ◌≤◌, ◌≡◌, false, cond, List, [], ◌++◌, eqb, get_or, drop, length}
+use Rattle.std.specs.Prelude.{ℕ, zero, suc, ◌+◌, ◌<◌, min, ◌≤◌, ◌≡◌, true, cond, List, [], ◌++◌, eqb, get_or, length, Err}
+use Rattle.units.specs.declared.Kwh.{Kwh}
+use Rattle.units.specs.Units.{kwh}
 use Rattle.units.specs.Limits.{max_kwh}
 use Rattle.refusals.specs.declared.Position.{Position}
+use Rattle.refusals.specs.declared.Refusal.{Refusal}
 use Rattle.sheet.specs.YearSheet.{word}
-use Rattle.refusals.specs.Refusals.{nowhere}
 use Rattle.decimals.specs.Decimals.{field, line_feed}
-use Rattle.sheet_text.specs.declared.MonthLine.{MonthLine}
-use Rattle.sheet_text.specs.declared.Measures.{Measures}
 use Rattle.sheet_text.specs.Lines.{semicolon, months, readings, begins_line, kwh_at, behind_line, kwh_in, year_text}
-use Rattle.sheet_text.specs.Reading.{some_kwh_above, first_above, some_refused, text_answer}
+use Rattle.sheet_text.specs.Reading.{some_kwh_above, first_above, accepted, text_answer}
 use Rattle.sheet_text.specs.Writing.{sheet_above, first_month_above, text_room}
 use Rattle.codec.specs.Bytes.{stored}
 
@@ -16,38 +16,44 @@ use Rattle.codec.specs.Bytes.{stored}
 abbrev pub too_much : ℕ
 too_much = max_kwh + 1
 
--- six numbers in one list, and the numbers of a year, six a month
-abbrev pub kwh_of : List ℕ → ℕ → ℕ
-kwh_of six p = get_or six p 0
+-- the six numbers of a month, and those of a year
+abbrev pub kwh_of : List Kwh → ℕ → ℕ
+kwh_of six p = (get_or six p (kwh 0)).0
 
-abbrev pub kwh_of_year : List ℕ → ℕ → ℕ → ℕ
-kwh_of_year year m p = get_or year (readings * m + p) 0
+abbrev pub kwh_of_year : List (List Kwh) → ℕ → ℕ → ℕ
+kwh_of_year year m = kwh_of (get_or year m [])
 
--- the first place with a number above its limit, `readings` for none
-unfoldable pub place_above : (ℕ → ℕ) → ℕ
-place_above kwh = cond (some_kwh_above kwh) (first_above kwh) readings
+-- month and place as the documents count them
+abbrev pub place_in : ℕ → ℕ → Position
+place_in m p = record { month = m + 1; place = p + 1 }
 
-pub record MonthLineRead (t : List ℕ) (at month : ℕ) (r : MonthLine) : Type 0 where
-  pub fits : r.fits ≡ begins_line month (drop at t)
-  pub rest : drop r.next t ≡ behind_line (drop at t)
-  pub numbers : (p : ℕ) → p < readings → kwh_of r.kwh p ≡ min (kwh_at (drop at t) p) too_much
+-- a line that stands at the front of a text: its numbers as far as they count, and what is behind it
+pub record LineRead (month : ℕ) (t : List ℕ) (six : List Kwh) (after : List ℕ) : Type 0 where
+  pub stands : begins_line month t ≡ true
+  pub numbers : (p : ℕ) → p < readings → kwh_of six p ≡ min (kwh_at t p) too_much
+  pub rest : after ≡ behind_line t
 
--- a month's numbers put to those of the months before it
-pub record MonthPut (before six : List ℕ) (m : ℕ) (after : List ℕ) : Type 0 where
-  pub here : (p : ℕ) → p < readings → kwh_of_year after m p ≡ kwh_of six p
-  pub earlier : (k : ℕ) → k < readings * m → get_or after k 0 ≡ get_or before k 0
+-- the first place with a number above its limit
+pub record FirstAbove (kwh : ℕ → ℕ) (p : ℕ) : Type 0 where
+  pub within : p < readings
+  pub some : some_kwh_above kwh ≡ true
+  pub first : p ≡ first_above kwh
 
-pub record MeasuresRead (t : List ℕ) (r : Measures) : Type 0 where
-  pub answer : r.answer ≡ text_answer t
-  pub numbers : some_refused t ≡ false → (m p : ℕ) → m < months → p < readings → kwh_of_year r.year.kwh m p ≡ kwh_in t m p
+-- what a text says: it is taken, and its numbers; or why it is refused
+pub record YearRead (t : List ℕ) (year : List (List Kwh)) : Type 0 where
+  pub taken : text_answer t ≡ accepted
+  pub numbers : (m p : ℕ) → m < months → p < readings → kwh_of_year year m p ≡ kwh_in t m p
 
--- the kWh of a month of a sheet; where the first of the sheet above its limit stands, zeros for none
-abbrev pub MonthOf : List ℕ → ℕ → List ℕ → Type 0
+abbrev pub TextRefused : List ℕ → Refusal → Type 0
+TextRefused t refusal = text_answer t ≡ Err refusal
+
+-- the kWh of a month of a sheet; where the first of the sheet above its limit stands
+abbrev pub MonthOf : List ℕ → ℕ → List Kwh → Type 0
 MonthOf s m six = (p : ℕ) → p < readings → kwh_of six p ≡ word s m p
 
-unfoldable pub position_above : List ℕ → Position
-position_above s =
-    cond (sheet_above s) (record { month = first_month_above s + 1; place = first_above (word s (first_month_above s)) + 1 }) nowhere
+pub record SheetAbove (s : List ℕ) (position : Position) : Type 0 where
+  pub some : sheet_above s ≡ true
+  pub at : position ≡ place_in (first_month_above s) (first_above (word s (first_month_above s)))
 
 -- the byte behind the number at a place, and the numbers of a line up to a place
 unfoldable pub stop_at : ℕ → ℕ

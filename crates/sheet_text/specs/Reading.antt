@@ -1,11 +1,12 @@
 -- "A reader fills the kWh of a lent sheet from twelve such lines in month order and touches no other byte." (document 02,
 -- ticket 2)
-use Rattle.std.specs.Prelude.{ℕ, zero, suc, ◌+◌, ◌*◌, ◌≤◌, ◌<◌, Bool, cond, not, ◌&&◌, ◌||◌, List, ltb, eqb, length}
+use Rattle.std.specs.Prelude.{ℕ, zero, suc, ◌+◌, ◌*◌, ◌≤◌, ◌<◌, Bool, cond, not, ◌&&◌, ◌||◌, List, ltb, eqb, length, Result, Ok, Err}
 use Rattle.units.specs.Limits.{max_kwh}
 use Rattle.units.specs.Folds.{any_below, first_below}
 use Rattle.codec.specs.Bytes.{bytes_of, stored}
 use Rattle.sheet.specs.YearSheet.{sheet_length}
-use Rattle.sheet_text.specs.declared.Read.{Read}
+use Rattle.refusals.specs.declared.Refusal.{Refusal}
+use Rattle.refusals.specs.declared.Refusal.TheVariants.{SheetForm, WrongLine, AboveLimit}
 use Rattle.sheet_text.specs.Lines.{months, readings, begins_line, from_line, kwh_in}
 
 -- "refuses with 17 a line not of this shape or month, missing or beyond the twelfth": a line that is missing begins with no
@@ -27,20 +28,23 @@ unfoldable pub line_refused : List ℕ → ℕ → Bool
 line_refused t m = line_wrong t m || (ltb m months && some_kwh_above (kwh_in t m))
 
 -- "telling its place from 1 to 13"; 13 tells month and place as ticket 7 has it
-abbrev pub accepted : Read
-accepted = record { refusal = 0; line = 0; month = 0; place = 0 }
+abbrev pub Answer : Type 0
+Answer = Result (Unit {0}) Refusal
 
-abbrev pub wrong_size : Read
-wrong_size = record { refusal = 11; line = 0; month = 0; place = 0 }
+abbrev pub accepted : Answer
+accepted = Ok tt
 
-abbrev pub wrong_line : ℕ → Read
-wrong_line m = record { refusal = 17; line = m + 1; month = 0; place = 0 }
+abbrev pub wrong_size : Answer
+wrong_size = Err SheetForm
 
-abbrev pub above_in : ℕ → ℕ → Read
-above_in m place = record { refusal = 13; line = 0; month = m + 1; place = place + 1 }
+abbrev pub wrong_line : ℕ → Answer
+wrong_line m = Err (WrongLine (m + 1))
+
+abbrev pub above_in : ℕ → ℕ → Answer
+above_in m place = Err (AboveLimit (record { month = m + 1; place = place + 1 }))
 
 -- "the earlier line goes first, in one line 17"
-unfoldable pub objection_to : List ℕ → ℕ → Read
+unfoldable pub objection_to : List ℕ → ℕ → Answer
 objection_to t m = cond (line_wrong t m) (wrong_line m) (above_in m (first_above (kwh_in t m)))
 
 unfoldable pub some_refused : List ℕ → Bool
@@ -49,7 +53,7 @@ some_refused t = any_below (months + 1) (line_refused t)
 unfoldable pub first_refused : List ℕ → ℕ
 first_refused t = first_below (months + 1) (line_refused t)
 
-unfoldable pub text_answer : List ℕ → Read
+unfoldable pub text_answer : List ℕ → Answer
 text_answer t = cond (some_refused t) (objection_to t (first_refused t)) accepted
 
 -- the sheet with other kWh: the first n places of a month, and the first n months
@@ -65,7 +69,7 @@ abbrev pub filled : (ℕ → ℕ → ℕ) → List ℕ → List ℕ
 filled kwh s = months_filled kwh months s
 
 -- "After 11 for a wrong sheet length"; a refusal leaves the sheet as it was
-unfoldable pub read_answer : List ℕ → List ℕ → Read
+unfoldable pub read_answer : List ℕ → List ℕ → Answer
 read_answer s t = cond (eqb (length s) sheet_length) (text_answer t) wrong_size
 
 unfoldable pub read_after : List ℕ → List ℕ → List ℕ

@@ -1,15 +1,15 @@
 -- Flat answers: each sum in its field as a plain number, and the balance signed. And an enrolment's details from plain numbers.
-use Rattle.std.specs.Prelude.{ℕ, List, [], get_or, Result, result_unwrap_or}
+use Rattle.std.specs.Prelude.{ℕ, List, [], get_or, Result}
+use Rattle.std.specs.Result.{result_unwrap_or}
 use Rattle.std.specs.Int.{w64}
 use Rattle.std.proofs.Common.{to_z}
 use Rattle.sheet_values.specs.declared.Details.{Details}
 use Rattle.refusals.specs.declared.Position.{Position}
 use Rattle.refusals.specs.declared.Refusal.{Refusal}
-use Rattle.refusals.specs.Refusals.{refusal_in, position_in}
+use Rattle.refusals.specs.Refusals.{refusal_in, line_in, position_in}
 use Rattle.account_steps.specs.declared.ClosingSums.{ClosingSums}
 use Rattle.statements.specs.declared.Sums as statements
-use Rattle.sheet_text.specs.declared.Read as sheet-text-read
-use Rattle.sheet_text.specs.declared.Written as sheet-text-written
+use Rattle.sheet_text.specs.Reading.{Answer}
 use Rattle.ssp.specs.declared.Closed.{Closed}
 use Rattle.ssp.specs.declared.Read.{Read}
 use Rattle.ssp.specs.declared.Written.{Written}
@@ -73,8 +73,8 @@ flat_raised r =
       rest3 = get_or (result_unwrap_or r []) 2 0;
     }
 
-abbrev pub flat_read : sheet-text-read.Read → Read
-flat_read r = record { refusal = r.refusal; line = r.line; month = r.month; place = r.place }
+abbrev pub flat_read : Answer → Read
+flat_read r = record { refusal = refusal_in r; line = line_in r; month = (position_in r).month; place = (position_in r).place }
 
-abbrev pub flat_written : sheet-text-written.Written → Written
-flat_written w = record { refusal = w.refusal; length = w.length; month = w.month; place = w.place }
+abbrev pub flat_written : Result ℕ Refusal → Written
+flat_written w = record { refusal = refusal_in w; length = result_unwrap_or w 0; month = (position_in w).month; place = (position_in w).place }

@@ -172,6 +172,7 @@ fn flat_sums(stated: call_statement::Stated) -> Sums
 }
 
 // December's rest of each band, zeros after a refusal.
+#[tactic(auto, unfolding(crate::specs::Flat::flat_raised))]
 fn flat_raised(answer: Result<[u32; 3], Refusal>) -> Raised
     ensures { result ≡ flat_raised answer }
 {
@@ -185,11 +186,11 @@ fn flat_raised(answer: Result<[u32; 3], Refusal>) -> Raised
             rest3: rests[2],
         },
         Err(refusal) => {
-            let position = refusal.position();
+            let reading = refusal.position();
             Raised {
                 refusal: refusal.number(),
-                month: position.month,
-                place: position.place,
+                month: reading.month,
+                place: reading.place,
                 rest1: 0,
                 rest2: 0,
                 rest3: 0,
@@ -198,25 +199,48 @@ fn flat_raised(answer: Result<[u32; 3], Refusal>) -> Raised
     }
 }
 
-fn flat_read(read: sheet_text::Read) -> Read
-    ensures { result ≡ flat_read read }
+fn flat_read(answer: Result<(), Refusal>) -> Read
+    ensures { result ≡ flat_read answer }
 {
-    Read {
-        refusal: read.refusal,
-        line: read.line,
-        month: read.month,
-        place: read.place,
+    match answer {
+        Ok(()) => Read {
+            refusal: 0,
+            line: 0,
+            month: 0,
+            place: 0,
+        },
+        Err(refusal) => {
+            let position = refusal.position();
+            Read {
+                refusal: refusal.number(),
+                line: refusal.line(),
+                month: position.month,
+                place: position.place,
+            }
+        }
     }
 }
 
-fn flat_written(written: sheet_text::Written) -> Written
-    ensures { result ≡ flat_written written }
+// The length of the lines, 0 after a refusal.
+fn flat_written(answer: Result<u32, Refusal>) -> Written
+    ensures { result ≡ flat_written answer }
 {
-    Written {
-        refusal: written.refusal,
-        length: written.length,
-        month: written.month,
-        place: written.place,
+    match answer {
+        Ok(length) => Written {
+            refusal: 0,
+            length,
+            month: 0,
+            place: 0,
+        },
+        Err(refusal) => {
+            let above = refusal.position();
+            Written {
+                refusal: refusal.number(),
+                length: 0,
+                month: above.month,
+                place: above.place,
+            }
+        }
     }
 }
 

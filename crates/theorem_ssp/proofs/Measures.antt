@@ -4,8 +4,8 @@ use mathlib.Core.Path.{◌≡◌, sym, ap, ◌∙◌}
 use mathlib.Core.List.{List}
 use lib.ListN.{take}
 use Rattle.sheet.specs.YearSheet.{word}
-use Rattle.sheet_text.specs.declared.Read.{Read}
-use Rattle.sheet_text.specs.Reading.{read_answer, read_after}
+use Rattle.refusals.specs.Refusals.{refusal_in}
+use Rattle.sheet_text.specs.Reading.{Answer, read_answer, read_after}
 use Rattle.sheet_text.specs.Writing.{text_written, write_answer, buffer_after}
 use Rattle.sheet_language.proofs.ReadsBack.{reads-back, written-answer}
 use Rattle.ssp.specs.declared.Read as flat-read
@@ -26,8 +26,8 @@ measures-back =
           (sym (ap (λ (w : flat-written.Written). w.length) said.0)) in
           let text : a'.1.0.now ≡ take n (buffer_after a.0.now a.1.0.now) = same ∙ ap (take n) said.1 in
           ap (λ (x : flat-read.Read). x.refusal) said'.0
-          ∙ ap (λ (t : List ℕ). (read_answer a'.0.now t).refusal) text
-          ∙ ap (λ (x : Read). x.refusal) (reads-back.answer a.0.now a.1.0.now a'.0.now n wrote long);
+          ∙ ap (λ (t : List ℕ). refusal_in (read_answer a'.0.now t)) text
+          ∙ ap (λ (x : Answer). refusal_in x) (reads-back.answer a.0.now a.1.0.now a'.0.now n wrote long);
       restored =
           λ κs a r s p zero κs' a' r' s' p' same long m q hm hq.
           let said = write-says κs a r s p in

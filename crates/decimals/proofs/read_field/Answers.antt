@@ -1,23 +1,20 @@
 -- The digits, the first of them and the byte behind them: the rule, test by test.
-use mathlib.Core.Path.{◌≡◌, refl, ap, ◌∙◌}
-use Prim.Native.Nat.{ℕ}
-use lib.ListN.{drop}
-use Rattle.decimals.specs.Decimals.{behind}
-use Rattle.decimals.proofs.Fields.{field-read, next-inside, next-end}
+use Rattle.std.proofs.Common.{refl, sym, ◌∙◌, arith, length-drop}
+use lib.Seq.{take_all}
+use Rattle.decimals.proofs.Fields.{field-tested, behind-clipped}
 use Rattle.decimals.proofs.read_field.Goals as goal
-use Rattle.decimals.proofs.read_field.Goals.{else-end-s, then-end-s}
 
-pub returns : goal.returns
-returns c =
-    let a = c.args in
-    let s = a.s.now in
-    let run = c.read_run-run in
-    let next : drop c.if-end-s.next s ≡ behind (drop a.at s)
-    = elim c.if-end-s.branch [
-      | then-end-s w ↦ ap (λ (k : ℕ). drop k s) w.next-is ∙ next-inside s a.at run.result.end
-          run.ensures.end
-      | else-end-s w ↦ ap (λ (k : ℕ). drop k s) w.next-is ∙ next-end s a.at run.result.end w.if-end-s.false
-          run.ensures.end
-    ] in
-    field-read s a.at a.stop a.most run.result.end run.result.value c.if-end-s.next c.byte_at.result c.byte_at-2.result _
-    run.ensures.end run.ensures.value c.byte_at.ensures c.byte_at-2.ensures refl next
+pub returns-else-plain-byte_at : goal.returns-else-plain-byte_at
+returns-else-plain-byte_at c =
+    sym (field-tested c.args.s.now c.args.stop _ _ _ _ c.read_run-run.ensures.count c.byte_at.ensures c.byte_at-2.ensures refl)
+    ∙ c.if-plain-byte_at.false
+
+pub returns-then-plain-byte_at : goal.returns-then-plain-byte_at
+returns-then-plain-byte_at c =
+    let s = c.args.s.now in
+    record {
+      stands = sym (field-tested s c.args.stop _ _ _ _ c.read_run-run.ensures.count c.byte_at.ensures c.byte_at-2.ensures refl)
+          ∙ c.if-plain-byte_at.true;
+      value = c.read_run-run.ensures.value;
+      rest = take_all _ _ (rw length-drop (omega arith)) ∙ behind-clipped s _ _ c.read_run-run.ensures.count c.min-end.ensures;
+    }

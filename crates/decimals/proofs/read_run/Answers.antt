@@ -1,66 +1,55 @@
--- The digits passed and those to come are the digits at the place, and their number is the same as far as it counts.
-use Prim.Native.Nat.{ℕ, ◌+◌, ◌-◌, ◌*◌, min}
-use mathlib.Core.Path.{◌≡◌, ap, sym, ◌∙◌}
-use native.Mathlib.Omega.{arith}
-use lib.ListN.{get_or, drop}
-use Rattle.decimals.specs.Decimals.{is_digit, value_after}
-use Rattle.decimals.proofs.Digits.{digit-bounds, digit-inside, digits_more, value-more, digits-none, value_none, value-capped}
+-- A digit more, or the end of the digits.
+use Rattle.std.proofs.Common.{ℕ, ◌+◌, ◌-◌, ◌*◌, ◌≡◌, ◌≤◌, List, false, length, get_or, drop, ap, sym, ◌∙◌, arith}
+use Rattle.std.specs.Prelude.{min}
+use Rattle.std.proofs.lemmas.List.{get_or_past}
+use Rattle.decimals.specs.Decimals.{is_digit, value_after, RunRead}
+use Rattle.decimals.proofs.Digits.{digit-bounds, digits_more, value-more, digits-none, value_none, value-capped}
+use Rattle.decimals.proofs.read_run.Invariants.{Reading}
 use Rattle.decimals.proofs.read_run.Goals as goal
 
-pub overflow_sub-byte_at : goal.overflow_sub-byte_at
-overflow_sub-byte_at c =
-    let l = c.loop-value in
-    let a = c.args in
-    let s = a.s.now in
-    let d = sym (ap is_digit c.byte_at.ensures) ∙ sym c.is_digit.ensures ∙ c.loop-value-test.true in
-    omega (arith, (digit-bounds (get_or s l.end 0) d).0, c.byte_at-in-loop-value.ensures)
+pub overflow_sub-b : goal.overflow_sub-b
+overflow_sub-b c =
+    let d = sym c.is_digit.ensures ∙ c.if-not-is_digit.false in
+    (digit-bounds (get_or c.args.s.now c.loop-b.b-index 0) d).0
 
-pub overflow_add-end : goal.overflow_add-end
-overflow_add-end c =
-    let l = c.loop-value in
-    let a = c.args in
-    let s = a.s.now in
-    let d = sym (ap is_digit c.byte_at.ensures) ∙ sym c.is_digit.ensures ∙ c.loop-value-test.true in
-    omega (arith, digit-inside s l.end d)
+pub loop-b-preserved : goal.loop-b-preserved
+loop-b-preserved c =
+    let s = c.args.s.now in
+    let most = c.args.most in
+    let k = c.loop-b.b-index in
+    let r = c.loop-b.invariant.1 in
+    let d = sym c.is_digit.ensures ∙ c.if-not-is_digit.false in
+    let more = c.loop-b.value * 10 + (get_or s k 0 - 48) in (
+      omega (arith, c.loop-b.invariant.0),
+      record {
+        inside = omega (arith, c.loop-b-test.true);
+        capped = omega (arith, c.with_digit-value.ensures);
+        all = omega (arith, r.all, digits_more s k d);
+        number = ap (λ (v : ℕ). min (value_after v (drop (k + 1) s)) most) c.with_digit-value.ensures
+            ∙ value-capped most more (drop (k + 1) s)
+            ∙ ap (λ (v : ℕ). min v most) (sym (value-more c.loop-b.value s k d))
+            ∙ r.number;
+      },
+    )
 
-pub loop-value-smaller : goal.loop-value-smaller
-loop-value-smaller c =
-    let l = c.loop-value in
-    let a = c.args in
-    let s = a.s.now in
-    let d = sym (ap is_digit c.byte_at.ensures) ∙ sym c.is_digit.ensures ∙ c.loop-value-test.true in
-    omega (arith, digit-inside s l.end d)
-
-pub loop-value-preserved : goal.loop-value-preserved
-loop-value-preserved c =
-    let l = c.loop-value in
-    let a = c.args in
-    let s = a.s.now in
-    let d = sym (ap is_digit c.byte_at.ensures) ∙ sym c.is_digit.ensures ∙ c.loop-value-test.true in
-    let inside = digit-inside s l.end d in
-    let count = digits_more s l.end d in
-    let more = l.value * 10 + (get_or s l.end 0 - 48) in
-    let read : c.with_digit-value.result ≡ min more a.most
-    = c.with_digit-value.ensures ∙ ap (λ (b : ℕ). min (l.value * 10 + (b - 48)) a.most) c.byte_at-in-loop-value.ensures in
+-- where the digits end
+ended : {s : List ℕ} {most value passed count : ℕ} → count ≡ passed → Reading s most value passed → is_digit (get_or s passed 0) ≡ false
+    → RunRead s most (record { count = count; value = value })
+ended {s} {most} {value} {passed} {count} e r d =
+    let whole = value_none value s passed d in
     record {
-      inside = λ m. omega arith;
-      capped = omega arith;
-      count = omega (arith, l.invariant.count);
-      number = ap (λ (v : ℕ). min (value_after v (drop (l.end + 1) s)) a.most) read
-          ∙ value-capped a.most more (drop (l.end + 1) s)
-          ∙ ap (λ (v : ℕ). min v a.most) (sym (value-more l.value s l.end d))
-          ∙ l.invariant.number;
+      count = omega (arith, e, r.all, digits-none s passed d);
+      within = omega (arith, e, r.inside);
+      value = sym (ap (λ (v : ℕ). min v most) whole ∙ omega (arith, r.capped)) ∙ r.number;
     }
+
+-- at the end of the text no digit stands
+past-no-digit : (s : List ℕ) (k : ℕ) → length s ≤ k → is_digit (get_or s k 0) ≡ false
+unfolding is_digit
+past-no-digit s k h = rw (get_or_past s k 0 h)
+
+pub returns-then-not-is_digit : goal.returns-then-not-is_digit
+returns-then-not-is_digit c = ended c.loop-b.invariant.0 c.loop-b.invariant.1 (sym c.is_digit.ensures ∙ c.if-not-is_digit.true)
 
 pub returns : goal.returns
-returns c =
-    let l = c.loop-value in
-    let a = c.args in
-    let s = a.s.now in
-    let d = sym (ap is_digit c.byte_at.ensures) ∙ sym c.is_digit.ensures ∙ c.loop-value-test.false in
-    let none = digits-none s l.end d in
-    let whole = value_none l.value s l.end d in
-    record {
-      end = omega (arith, l.invariant.count);
-      value = sym (ap (λ (v : ℕ). min v a.most) whole ∙ omega arith) ∙ l.invariant.number;
-    }
+returns c = ended c.loop-b.invariant.0 c.loop-b.invariant.1 (past-no-digit c.args.s.now c.loop-b.b-index c.loop-b-test.false)

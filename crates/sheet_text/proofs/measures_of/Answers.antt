@@ -1,84 +1,66 @@
--- The lines passed are taken, and their numbers stand at their places; the line that is read decides whether to go on.
-use mathlib.Core.Path.{◌≡◌, sym, ap, ◌∙◌}
+-- The line at the front decides whether to go on.
+use Rattle.std.proofs.Common.{arith, rules, refl, sym, ◌∙◌, ◌≡◌}
 use native.Mathlib.Nat.{not-suc-le-zero}
-use native.Mathlib.Omega.{arith}
-use Rattle.sheet_text.specs.Lines.{months, kwh_in}
-use Rattle.sheet_text.specs.Reading.{above_in}
-use Rattle.sheet_text.proofs.Reading.{none-refused, line_first, wrong-refused, above-refused, line_taken}
-use Rattle.sheet_text.proofs.Reading.{end-taken, taken, line-judged, line-number, line-place}
-use Rattle.sheet_text.proofs.Reading.{line-rest, end-judged, numbers_more, number-within, refused-told}
-use Rattle.sheet_text.proofs.Above.{found-place, none_found}
-use Rattle.std.proofs.Common.{rules}
+use lib.ListN.{length-set}
+use Rattle.sheet_text.specs.Lines.{months}
+use Rattle.sheet_text.proofs.Reading.{none-refused, line_first, wrong-refused, above-refused, line_taken, end-taken, taken, line-missing, missing, there}
+use Rattle.sheet_text.proofs.Reading.{line-right, line-above, line-within, number-within, line-rest, end-judged, numbers_more}
 use Rattle.sheet_text.proofs.measures_of.Goals as goal
 
 pub loop-month-init : goal.loop-month-init
 loop-month-init c =
     let text = c.args.text.now in
-    record {
-      within = search rules;
-      passed = none-refused text;
-      place = line_first text;
-      numbers = λ m p l. absurd (not-suc-le-zero l);
-    }
+    record { twelve = refl; passed = none-refused text; place = line_first text; numbers = λ m l. absurd (not-suc-le-zero l) }
 
-pub returns-then-not-line : goal.returns-then-not-line
-returns-then-not-line c =
-    let l = c.loop-month in
-    let line = c.line_at-line in
+pub returns-in_err-kwh : goal.returns-in_err-kwh
+returns-in_err-kwh c =
     let text = c.args.text.now in
-    let wrong = sym (line-judged text l.at l.month (omega arith) l.invariant.place line.result line.ensures) ∙ c.if-not-line.true
-    in
+    let l = c.loop-month in
+    let none = missing _ _ _ c.line_of.result _ c.in_err-kwh.ensures.value c.line_of.ensures in
+    let wrong = line-missing text c.loop-month-test.true l.invariant.place none.0 in
     let told = wrong-refused text l.month (omega arith) l.invariant.passed wrong in
-    refused-told text _ told.0 (c.wrong_line.ensures ∙ told.1)
+    let refusal = none.1 in
+    search rules
 
-pub returns-then-place-lt-READINGS : goal.returns-then-place-lt-READINGS
-returns-then-place-lt-READINGS c =
-    let l = c.loop-month in
-    let line = c.line_at-line in
+pub returns-in-Some : goal.returns-in-Some
+returns-in-Some c =
     let text = c.args.text.now in
-    let right = sym (line-judged text l.at l.month (omega arith) l.invariant.place line.result line.ensures) ∙ c.if-not-line.false
-    in
-    let place = c.place_above-place.ensures ∙ line-place text l.at l.month (omega arith) l.invariant.place line.result
-    line.ensures in
-    let found = found-place (kwh_in text l.month) (rw place at c.if-place-lt-READINGS.true) in
-    let told = above-refused text l.month (omega arith) l.invariant.passed right found.0 in
-    refused-told text _ told.0 (c.above_in.ensures ∙ ap (above_in l.month) (place ∙ found.1) ∙ told.1)
+    let l = c.loop-month in
+    let month = c.loop-month-test.true in
+    let read = there _ _ _ c.line_of.result _ c.in_ok-kwh.ensures.value c.line_of.ensures in
+    above-refused text l.month month l.invariant.passed (line-right text month l.invariant.place read)
+    (line-above text month l.invariant.place read c.in-Some.ensures) c.position_of.ensures
 
 pub loop-month-preserved : goal.loop-month-preserved
 loop-month-preserved c =
-    let l = c.loop-month in
-    let line = c.line_at-line in
     let text = c.args.text.now in
-    let right = sym (line-judged text l.at l.month (omega arith) l.invariant.place line.result line.ensures) ∙ c.if-not-line.false
-    in
-    let place = c.place_above-place.ensures ∙ line-place text l.at l.month (omega arith) l.invariant.place line.result
-    line.ensures in
-    let within = none_found (kwh_in text l.month) (rw place at c.if-place-lt-READINGS.false) in
-    let numbers = number-within text l.month line.result.kwh (line-number text l.at l.month (omega arith) l.invariant.place
-    line.result line.ensures) within in record {
-      within = search rules;
-      passed = line_taken text l.month (omega arith) l.invariant.passed right within;
-      place = line-rest text l.at l.month (omega arith) l.invariant.place line.result line.ensures;
-      numbers = numbers_more text l.month l.year.kwh line.result.kwh c.with_month-year.result.kwh l.invariant.numbers
-          c.with_month-year.ensures numbers;
+    let l = c.loop-month in
+    let month = c.loop-month-test.true in
+    let place = l.invariant.place in
+    let read = there _ _ _ c.line_of.result _ c.in_ok-kwh.ensures.value c.line_of.ensures in
+    record {
+      twelve = length-set l.year l.month _ ∙ l.invariant.twelve;
+      passed = line_taken text l.month month l.invariant.passed (line-right text month place read) (line-within text month place read c.in_default.ensures);
+      place = line-rest text month place read;
+      numbers = numbers_more text l.month l.year _ (omega (arith, month, l.invariant.twelve)) l.invariant.numbers
+          (number-within text month place read c.in_default.ensures);
     }
 
-pub returns-then-at-text : goal.returns-then-at-text
-returns-then-at-text c =
-    let l = c.loop-month in
+pub returns-then-not-is_empty : goal.returns-then-not-is_empty
+returns-then-not-is_empty c =
     let text = c.args.text.now in
+    let l = c.loop-month in
     let end : l.month ≡ months = omega arith in
-    let wrong = (end-judged text l.at (rw end at l.invariant.place)).0 c.if-at-text.true in
-    let told = wrong-refused text months (omega arith) (rw end at l.invariant.passed) wrong in
-    refused-told text _ told.0 (c.wrong_line-then-at-text.ensures ∙ told.1)
+    wrong-refused text months (omega arith) (rw end at l.invariant.passed)
+    (end-judged text (rw end at l.invariant.place) (sym c.if-not-is_empty.true ∙ c.is_empty.ensures))
 
 pub returns : goal.returns
 returns c =
-    let l = c.loop-month in
     let text = c.args.text.now in
+    let l = c.loop-month in
     let end : l.month ≡ months = omega arith in
-    let right = (end-judged text l.at (rw end at l.invariant.place)).1 c.if-at-text.false in
+    let right = end-judged text (rw end at l.invariant.place) (sym c.if-not-is_empty.false ∙ c.is_empty.ensures) in
     record {
-      answer = taken text (end-taken text (rw end at l.invariant.passed) right);
-      numbers = λ none. rw end at l.invariant.numbers;
+      taken = taken text (end-taken text (rw end at l.invariant.passed) right);
+      numbers = λ m p h k. (rw end at l.invariant.numbers) m h p k;
     }

@@ -25,15 +25,15 @@ loop-month-init c =
       written = sym (ap (λ (t : List ℕ). stored 0 t a.out.now) (sym none) ∙ stored-none 0 a.out.now);
     }
 
-pub month_of-kwh-requires : goal.month_of-kwh-requires
-month_of-kwh-requires c =
+pub month_of-requires : goal.month_of-requires
+month_of-requires c =
     ((sizes-of c.args.sheet.now c.args.out.now c.requires.0).0, omega arith)
 
 pub write_line-end-requires : goal.write_line-end-requires
 write_line-end-requires c =
     let l = c.loop-month in
     let s = c.args.sheet.now in
-    let same = line_same (l.month + 1) (kwh_of c.month_of-kwh.result) (word s l.month) c.month_of-kwh.ensures in
+    let same = line_same (l.month + 1) (kwh_of c.month_of.result) (word s l.month) c.month_of.ensures in
     let room = (sizes-of s c.args.out.now c.requires.0).1 in (
       omega arith,
       omega (
@@ -50,7 +50,7 @@ loop-month-preserved c =
     let l = c.loop-month in
     let s = c.args.sheet.now in
     let out = c.args.out.now in
-    let six = c.month_of-kwh in
+    let six = c.month_of in
     let w = c.write_line-end in
     let same = line_same (l.month + 1) (kwh_of six.result) (word s l.month) six.ensures in
     let room = (sizes-of s out c.requires.0).1 in record {

@@ -27,8 +27,8 @@ write_field-end-requires c =
     let l = c.loop-place in
     let a = c.args in
     let kwh = kwh_of a.kwh in
-    let stop : length (field (kwh l.place) c.stop_at.result) ≡ length (field (kwh l.place) (stop_at l.place))
-    = ap (λ (b : ℕ). length (field (kwh l.place) b)) c.stop_at.ensures in
+    let same : length (field c.from.result c.stop_at.result) ≡ length (field (kwh l.place) (stop_at l.place))
+    = ap₂ (λ (n b : ℕ). length (field n b)) c.from.ensures c.stop_at.ensures in
     omega (arith, numbers-room kwh l.place (omega arith), l.invariant.same, l.invariant.ends)
 
 pub loop-place-preserved : goal.loop-place-preserved
@@ -39,13 +39,13 @@ loop-place-preserved c =
     let p = l.place in
     let w = c.write_field-end in
     let stop = c.stop_at in
-    let long : length (field (kwh p) stop.result) ≡ length (field (kwh p) (stop_at p)) = ap (λ (b : ℕ). length (field (kwh p) b))
-    stop.ensures in record {
+    let long : length (field c.from.result stop.result) ≡ length (field (kwh p) (stop_at p))
+    = ap₂ (λ (n b : ℕ). length (field n b)) c.from.ensures stop.ensures in record {
       within = search rules;
       same = w.auto.out ∙ l.invariant.same;
       ends = omega (arith, numbers-length kwh p, w.ensures.end, l.invariant.ends);
       written = w.ensures.stands
-          ∙ ap (λ (b : ℕ). stored l.end (field (kwh p) b) l.out) stop.ensures
+          ∙ ap₂ (λ (n b : ℕ). stored l.end (field n b) l.out) c.from.ensures stop.ensures
           ∙ ap₂ (λ (e : ℕ) (o : List ℕ). stored e (field (kwh p) (stop_at p)) o) l.invariant.ends l.invariant.written
           ∙ numbers-written kwh a.at p a.out.now (omega arith) (omega arith);
     }
