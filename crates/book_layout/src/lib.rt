@@ -5,7 +5,7 @@
 ghost use Rattle.std.specs.Prelude.{◌≡◌, ◌+◌, ◌*◌, ◌≤◌, min, leb, length};
 ghost use Rattle.units.specs.Limits.{record_length};
 ghost use Rattle.units.specs.Units.{user_number, record_index};
-ghost use Rattle.codec.specs.Bytes.{number, stored, bytes_of};
+ghost use Rattle.codec.specs.Bytes.{stored};
 ghost use Rattle.book_layout.specs.Fields.{record_at, put_record, get, used_field, first_user_field, next_field, kind_field};
 ghost use Rattle.book_layout.specs.Fields.{number_field, first_entry_field, activation_year_field, open_year_field, year_field};
 ghost use Rattle.book_layout.specs.Fields.{booked_field};

@@ -2,7 +2,7 @@
 use Prim.Native.Nat.{ℕ, zero, suc, ◌+◌, ◌-◌, ◌*◌, ◌/◌, ◌^◌, ◌≤◌, ◌<◌}
 use mathlib.Core.Path.{◌≡◌, refl, sym, ap, ap₂, ◌∙◌}
 use mathlib.Core.List.{List, [], ◌∷◌}
-use native.Mathlib.Nat.{add-zero, add_assoc, pow-suc, sub-zero}
+use native.Mathlib.Nat.{add-zero, pow-suc, sub-zero}
 use native.Mathlib.Omega.{arith}
 use lib.ListN.{length, get_or, take, drop}
 use lib.Seq.{get_or-drop, take-nil, take-take, drop-drop}
@@ -30,7 +30,7 @@ front-value zero s = refl
 front-value (suc w) [] = sym (zeros-value (suc w))
 front-value (suc w) (b ∷ s) = ap (λ (n : ℕ). b + 256 * n) (front-value w s)
 
-pub number-bytes : (w at : ℕ) (s : List ℕ) → number w at s ≡ little_endian (table w (λ i. get_or s (at + i) 0))
+number-bytes : (w at : ℕ) (s : List ℕ) → number w at s ≡ little_endian (table w (λ i. get_or s (at + i) 0))
 unfolding number part
 number-bytes w at s =
     front-value w (drop at s) ∙ ap little_endian (table-cong w (λ i. get_or (drop at s) i 0) (λ i. get_or s (at + i) 0) (λ i l. get_or-drop at s i 0))
@@ -57,23 +57,15 @@ bytes-value (suc w) n h =
     let tail : little_endian (bytes_of w (n / 256)) ≡ n / 256 = bytes-value w (n / 256) rest in
     omega arith
 
--- numbers of one, two, four and eight bytes, as the readers put them together
+-- a number of one byte, and one of four
 pub number-one : (at : ℕ) (s : List ℕ) → number 1 at s ≡ get_or s at 0
 unfolding little_endian
 number-one at s = rw (number-bytes 1 at s, add-zero at) (omega arith)
-
-pub number-two : (at : ℕ) (s : List ℕ) → number 2 at s ≡ get_or s at 0 + get_or s (at + 1) 0 * 256
-unfolding little_endian
-number-two at s = rw (number-bytes 2 at s, add-zero at) (omega arith)
 
 pub number-four : (at : ℕ) (s : List ℕ) → number 4 at s
     ≡ (get_or s at 0 + get_or s (at + 1) 0 * 256) + (get_or s (at + 2) 0 + get_or s (at + 3) 0 * 256) * 65536
 unfolding little_endian
 number-four at s = rw (number-bytes 4 at s, add-zero at) (omega arith)
-
-pub number-eight : (at : ℕ) (s : List ℕ) → number 8 at s ≡ number 4 at s + number 4 (at + 4) s * 4294967296
-unfolding little_endian
-number-eight at s = simp (number-bytes, add_assoc) (omega arith)
 
 pub drop-take : (o at : ℕ) (s : List ℕ) → drop o (take at s) ≡ take (at - o) (drop o s)
 drop-take zero at s = rw sub-zero

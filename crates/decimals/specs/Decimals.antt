@@ -1,5 +1,6 @@
 -- Decimal numbers as text. A text is a list of bytes in ASCII; a byte past its end reads as 0, which is no digit.
-use Rattle.std.specs.Prelude.{ℕ, zero, suc, ◌+◌, ◌-◌, ◌*◌, ◌/◌, ◌%◌, min, ◌≡◌, Bool, true, cond, not, ◌&&◌, ◌||◌, List, [], ◌∷◌, ◌++◌, leb, ltb, ◌≤◌, length}
+use Rattle.std.specs.Prelude.{ℕ, zero, suc, ◌+◌, ◌-◌, ◌*◌, ◌/◌, ◌%◌, ◌≤◌, min, ◌≡◌, Bool, true, cond, not, ◌&&◌, ◌||◌}
+use Rattle.std.specs.Prelude.{List, [], ◌∷◌, ◌++◌, leb, ltb, length}
 use Rattle.std.specs.Prelude.{eqb, get_or, drop}
 use Rattle.decimals.specs.declared.DigitRun.{DigitRun}
 

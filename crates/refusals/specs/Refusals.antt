@@ -35,11 +35,7 @@ number_of BufferLength = 27
 abbrev pub nowhere : Position
 nowhere = record { month = 0; place = 0 }
 
--- what a refusal names: after 2 the faulty record, after 13 and 19 the position, after 17 the line; else zeros
-abbrev pub record_of : Refusal → ℕ
-record_of (FaultyRecord index) = index.0
-record_of other = 0
-
+-- what a refusal names: after 13 and 19 the position, after 17 the line; else zeros
 abbrev pub position_of : Refusal → Position
 position_of (AboveLimit position) = position
 position_of (UnusedBand position) = position
@@ -53,10 +49,6 @@ line_of other = 0
 abbrev pub refusal_in : {A : Type 0} → Result A Refusal → ℕ
 refusal_in (Ok value) = 0
 refusal_in (Err refusal) = number_of refusal
-
-abbrev pub record_in : {A : Type 0} → Result A Refusal → ℕ
-record_in (Ok value) = 0
-record_in (Err refusal) = record_of refusal
 
 abbrev pub position_in : {A : Type 0} → Result A Refusal → Position
 position_in (Ok value) = nowhere

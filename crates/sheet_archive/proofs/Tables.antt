@@ -23,7 +23,7 @@ pub length-line : (places : ℕ) (f : ℕ → ℕ) → length (table_line places
 unfolding table_line
 length-line places f = length-pieces 4 (λ j. bytes_of 4 (f j)) (λ j. length-bytes 4 (f j)) places
 
-pub line-cong : (places : ℕ) (f g : ℕ → ℕ) → ((j : ℕ) → j < places → f j ≡ g j) → table_line places f ≡ table_line places g
+line-cong : (places : ℕ) (f g : ℕ → ℕ) → ((j : ℕ) → j < places → f j ≡ g j) → table_line places f ≡ table_line places g
 unfolding table_line
 line-cong places f g e = pieces-cong places (λ j. bytes_of 4 (f j)) (λ j. bytes_of 4 (g j)) (λ j l. ap (bytes_of 4) (e j l))
 
@@ -37,11 +37,6 @@ line-of-parts : (places at : ℕ) (s : List ℕ) (f : ℕ → ℕ) → ((j : ℕ
 unfolding table_line
 line-of-parts places at s f e =
     pieces-cong places (λ j. bytes_of 4 (f j)) (λ j. part 4 (at + 4 * j) s) (λ j l. sym (e j l)) ∙ pieces-back places 4 at s
-
-pub line-back : (places at : ℕ) (s : List ℕ) → at + 4 * places ≤ length s → Bytes s
-    → table_line places (λ j. number 4 (at + 4 * j) s) ≡ part (4 * places) at s
-line-back places at s l b =
-    line-of-parts places at s (λ j. number 4 (at + 4 * j) s) (λ j h. sym (bytes_back 4 (at + 4 * j) s (omega arith) b))
 
 -- A TABLE
 pub length-lines : (n places : ℕ) (f : ℕ → ℕ → ℕ) → length (table_lines n places f) ≡ 4 * places * n

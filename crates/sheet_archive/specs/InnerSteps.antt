@@ -1,20 +1,10 @@
 -- What the inner functions of the two calls do: for their contracts alone.
-use Rattle.std.specs.Prelude.{◌≡◌, ℕ, zero, suc, ◌+◌, ◌*◌, ◌<◌, List, length, slice_index}
-use Rattle.codec.specs.Bytes.{bytes_of, part, number, stored}
+use Rattle.std.specs.Prelude.{◌≡◌, ℕ, zero, suc, ◌+◌, ◌*◌, ◌<◌, List, length}
+use Rattle.codec.specs.Bytes.{bytes_of, part, stored}
 use Rattle.sheet.specs.YearSheet.{sheet_length}
 use Rattle.sheet_archive.specs.declared.Four.{Four}
 use Rattle.sheet_archive.specs.Tables.{header_length, header, table_line}
 use Rattle.sheet_archive.specs.Archive.{plus, differences, sums, in_sheet, in_archive, sheet_columns, sheet_months}
-
--- the first n numbers of an array are those of f
-abbrev pub Holds : ℕ → (ℕ → ℕ) → List ℕ → Type 0
-Holds n f numbers = (k : ℕ) → k < n → slice_index numbers k ≡ f k
-
-abbrev pub header_words : ℕ
-header_words = 8
-
-abbrev pub header_word : List ℕ → ℕ → ℕ
-header_word s k = number 4 (4 * k) s
 
 -- THE ARCHIVE goes line by line, a column each
 abbrev pub column_place : ℕ → ℕ

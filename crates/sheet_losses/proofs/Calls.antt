@@ -10,7 +10,8 @@ use Rattle.refusals.specs.declared.Refusal.TheVariants.{SheetForm, FactorAboveLi
 use Rattle.sheet.specs.YearSheet.{sheet_length, form_fits}
 use Rattle.sheet.proofs.Limits.{form-length}
 use Rattle.units.specs.declared.Kwh.{Kwh}
-use Rattle.sheet_losses.specs.Losses.{max_factor, raised_reading, injected_place, three_readings, with_injected, raised_sheet, some_above, earliest_above, raise_refusal, decembers_rests, answer_of, raised_after}
+use Rattle.sheet_losses.specs.Losses.{max_factor, raised_reading, injected_place, three_readings, with_injected, raised_sheet, some_above, earliest_above}
+use Rattle.sheet_losses.specs.Losses.{raise_refusal, decembers_rests, answer_of, raised_after}
 use Rattle.sheet_losses.specs.InnerSteps.{readings_in, YearRaised, YearAbove}
 
 -- readings that are the same in each band make the same sheet

@@ -5,7 +5,8 @@ use Rattle.units.specs.Units.{kwh}
 use Rattle.units.specs.Folds.{first_below}
 use Rattle.refusals.specs.declared.Refusal.{Refusal}
 use Rattle.refusals.specs.declared.Refusal.TheVariants.{AboveLimit}
-use Rattle.sheet_losses.specs.Losses.{rest_to, band_of, raised_reading, reading_above, month_above, some_above, place_in, earliest_above, decembers_rests}
+use Rattle.sheet_losses.specs.Losses.{rest_to, band_of, raised_reading, reading_above, month_above, some_above, place_in, earliest_above}
+use Rattle.sheet_losses.specs.Losses.{decembers_rests}
 
 -- the readings of a month, and of a year
 abbrev pub in_band : List Kwh → ℕ → ℕ

@@ -97,7 +97,17 @@ module _ (month : ℕ) (t : List ℕ) where
   unfolding begins_line stop_at
   line_read w =
       record {
-        stands = rw (w.front.stands, w.front.here, w.stand 0 (omega arith), w.stand 1 (omega arith), w.stand 2 (omega arith), w.stand 3 (omega arith), w.stand 4 (omega arith), w.stand 5 (omega arith));
+        stands =
+            rw (
+              w.front.stands,
+              w.front.here,
+              w.stand 0 (omega arith),
+              w.stand 1 (omega arith),
+              w.stand 2 (omega arith),
+              w.stand 3 (omega arith),
+              w.stand 4 (omega arith),
+              w.stand 5 (omega arith),
+            );
         numbers = w.numbers;
         rest = w.place;
       }

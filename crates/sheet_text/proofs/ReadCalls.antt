@@ -5,7 +5,8 @@ use Rattle.units.specs.declared.Kwh.{Kwh}
 use Rattle.refusals.specs.declared.Refusal.{Refusal}
 use Rattle.sheet.specs.YearSheet.{sheet_length}
 use Rattle.sheet_text.specs.Lines.{months, kwh_in}
-use Rattle.sheet_text.specs.Reading.{Answer, line_wrong, accepted, wrong_size, wrong_line, above_in, first_above, objection_to, some_refused, first_refused, text_answer, filled, read_answer, read_after}
+use Rattle.sheet_text.specs.Reading.{Answer, line_wrong, accepted, wrong_size, wrong_line, above_in, first_above, objection_to, some_refused, first_refused, text_answer}
+use Rattle.sheet_text.specs.Reading.{filled, read_answer, read_after}
 use Rattle.sheet_text.specs.InnerSteps.{kwh_of_year, YearRead, TextRefused}
 use Rattle.sheet_text.proofs.Filling.{months-same}
 

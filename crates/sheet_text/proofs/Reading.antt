@@ -108,7 +108,7 @@ module _ (t : List ℕ) where
       unfolding kwh_in
       line-number p l = read.numbers p l ∙ ap (λ (u : List ℕ). min (kwh_at u p) too_much) place
 
-      pub same-side : (p : ℕ) → p < readings → ltb max_kwh (kwh_of six p) ≡ ltb max_kwh (kwh_in t m p)
+      same-side : (p : ℕ) → p < readings → ltb max_kwh (kwh_of six p) ≡ ltb max_kwh (kwh_in t m p)
       same-side p l = ap (ltb max_kwh) (line-number p l) ∙ counted (kwh_in t m p)
         where
           counted : (n : ℕ) → ltb max_kwh (min n too_much) ≡ ltb max_kwh n

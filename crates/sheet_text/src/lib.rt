@@ -3,7 +3,7 @@
 #![tactic(auto)]
 
 ghost use Rattle.std.specs.Prelude.{◌≡◌, true, false, ◌+◌, ◌*◌, ◌≤◌, ◌<◌, length, MatchOption, MatchResult};
-ghost use Rattle.sheet.specs.YearSheet.{sheet_length, word};
+ghost use Rattle.sheet.specs.YearSheet.{sheet_length};
 ghost use Rattle.decimals.specs.InnerWritten.{TextPut};
 ghost use Rattle.sheet_text.specs.Lines.{months, readings, line, begins_line};
 ghost use Rattle.sheet_text.specs.Reading.{read_answer, read_after, month_filled, filled, some_kwh_above};

@@ -77,4 +77,5 @@ abbrev pub flat_read : Answer → Read
 flat_read r = record { refusal = refusal_in r; line = line_in r; month = (position_in r).month; place = (position_in r).place }
 
 abbrev pub flat_written : Result ℕ Refusal → Written
-flat_written w = record { refusal = refusal_in w; length = result_unwrap_or w 0; month = (position_in w).month; place = (position_in w).place }
+flat_written w =
+    record { refusal = refusal_in w; length = result_unwrap_or w 0; month = (position_in w).month; place = (position_in w).place }

@@ -1,8 +1,7 @@
 -- Bounds on a product from bounds on its factors.
-use Prim.Native.Nat.{ℕ, ◌*◌, ◌≤◌, ◌<◌}
+use Prim.Native.Nat.{ℕ, ◌*◌, ◌≤◌}
 use mathlib.Core.Path.{◌≡◌, ap}
 use native.Mathlib.Nat.{mul-le-mul, mul-le-mul_right, mul_comm, le_trans, le_of_eq}
-use native.Mathlib.Omega.{arith}
 use Rattle.units.specs.declared.Ticks.{Ticks}
 use Rattle.units.specs.Units.{ticks}
 
@@ -13,9 +12,3 @@ product-capped cap a b h = le_trans (le_of_eq (mul_comm a b)) (mul-le-mul_right 
 -- an amount of energy times price, from bounds on both
 pub amount-capped : (m n : ℕ) {t : Ticks} {a b : ℕ} → t ≡ ticks (a * b) → a ≤ m → b ≤ n → t.0 ≤ m * n
 amount-capped m n {t} {a} {b} e ha hb = le_trans (le_of_eq (ap (λ (x : Ticks). x.0) e)) (mul-le-mul ha hb)
-
--- energy of at most `m` at a price of at most `n`, where the largest product fits
-pub product_fits : (m n : ℕ) {a b : ℕ} → a ≤ m → b ≤ n → m * n < 18446744073709551616 → a * b < 18446744073709551616
-product_fits m n {a} {b} h k l =
-    let most : a * b ≤ m * n = mul-le-mul h k in
-    omega (arith, most, l)

@@ -1,7 +1,7 @@
 // The units of document 01, "Units": each quantity is a type of its own, and a product is made only here.
 #![tactic(auto)]
 
-ghost use Rattle.std.specs.Prelude.{◌≡◌, ℕ, ◌+◌, ◌-◌, ◌*◌, ◌<◌, ◌^◌, min, max};
+ghost use Rattle.std.specs.Prelude.{◌≡◌, ℕ, ◌+◌, ◌-◌, ◌*◌, ◌<◌, ◌^◌};
 ghost use Rattle.units.specs.Units.{ticks};
 
 use std::ops::{Add, AddAssign};
@@ -101,19 +101,6 @@ impl Ticks {
     {
         Ticks(self.0.saturating_sub(other.0))
     }
-}
-
-// The smaller and the larger of two energies.
-pub fn smaller(a: Kwh, b: Kwh) -> Kwh
-    ensures { result.0 ≡ min a.0 b.0 }
-{
-    a.min(b)
-}
-
-pub fn larger(a: Kwh, b: Kwh) -> Kwh
-    ensures { result.0 ≡ max a.0 b.0 }
-{
-    a.max(b)
 }
 
 // An amount of energy, whatever its width.
