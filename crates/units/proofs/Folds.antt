@@ -110,11 +110,6 @@ unfolding all_below
 all_of zero p h = refl
 all_of (suc n) p h = and_both (all_of n p (λ i l. h i (omega arith))) (h n (omega arith))
 
-pub all-cong : (n : ℕ) (p q : ℕ → Bool) → ((i : ℕ) → i < n → p i ≡ q i) → all_below n p ≡ all_below n q
-unfolding all_below
-all-cong zero p q h = refl
-all-cong (suc n) p q h = ap₂ ◌&&◌ (all-cong n p q (λ i l. h i (omega arith))) (h n (omega arith))
-
 -- a test that fails everywhere below n is passed nowhere there, and conversely
 pub none-at : (n : ℕ) (p : ℕ → Bool) → any_below n p ≡ false → (i : ℕ) → i < n → p i ≡ false
 unfolding any_below
