@@ -2,7 +2,7 @@
 // after it (document 01, "Closing", "Election and advances").
 #![tactic(auto)]
 
-ghost use Rattle.std.specs.Prelude.{◌≡◌, ◌+◌, ◌-◌, ◌^◌, ◌<◌, ◌≤◌, min};
+ghost use Rattle.std.specs.Prelude.{◌≡◌, ◌+◌, ◌^◌, ◌<◌, ◌≤◌};
 ghost use Rattle.std.specs.Int.{w64};
 ghost use Rattle.std.proofs.Common.{to_z};
 ghost use Rattle.units.specs.Units.{ticks};
@@ -10,7 +10,7 @@ ghost use Rattle.units.specs.Limits.{max_year_ticks, max_flat_rate, max_charge};
 ghost use Rattle.units.specs.InnerWithin.{TicksWithin};
 ghost use Rattle.account_steps.specs.Closing.{contribution_of, balance_of};
 ghost use Rattle.account_steps.specs.Charges.{charge_of, withheld_from, withheld_at_closing, account_charged, account_withheld};
-ghost use Rattle.account_steps.specs.Account.{balance_bits, outcome_of, liquidation_in, lapsed_in, credit_in, settlement_of};
+ghost use Rattle.account_steps.specs.Account.{balance_bits, outcome_of, settlement_of};
 ghost use Rattle.account_steps.specs.Account.{account_elected, runs_in, advances_in, account_advanced, closed_of, SumsInRange, InRange};
 
 use sheet_values::{Details, YearValues};
@@ -83,29 +83,12 @@ pub struct ClosingSums {
     pub balance: Balance,
 }
 
-// The smaller of two amounts.
-fn smaller(a: Ticks, b: Ticks) -> Ticks
-    ensures { result.0 ≡ min a.0 b.0 }
-{
-    if a.0 < b.0 { a } else { b }
-}
-
-// What one amount is above another, 0 where it is not.
-pub fn excess(a: Ticks, b: Ticks) -> Ticks
-    ensures { result.0 ≡ a.0 - b.0 }
-{
-    if b.0 < a.0 {
-        Ticks(a.0 - b.0)
-    } else {
-        Ticks(0)
-    }
-}
-
-// "Balance = contribution − A", in two's complement.
+/// "Balance = contribution − A", in two's complement.
+#[tactic(auto, unfolding(crate::specs::Closing::balance_of))]
 pub fn balance_bits(contribution: Ticks, advances: Ticks) -> Balance
     ensures { result ≡ balance_bits (balance_of contribution.0 advances.0) }
 {
-    Balance(std::num::wrapping_sub_u64(contribution.0, advances.0))
+    Balance(contribution.0.wrapping_sub(advances.0))
 }
 
 // A balance as a signed number.
@@ -120,60 +103,67 @@ pub fn signed(balance: Balance) -> i64
 }
 
 // The contribution of a closing, by its option and the credit before it.
+#[tactic(auto, unfolding(crate::specs::Closing::contribution_of))]
 fn contribution_of(option: u8, credit: Ticks, values: YearValues) -> Ticks
     requires cost_bound { values.cost.0 ≤ max_year_ticks }
     requires flat_rate_bound { values.flat_rate.0 ≤ max_flat_rate }
     ensures { result.0 ≡ contribution_of option credit.0 values.value.0 values.cost.0 values.flat_rate.0 }
 {
-    let covered = smaller(values.cost, values.value);
-    let missing = excess(values.cost, values.value);
+    let covered = values.cost.min(values.value) + values.flat_rate;
     if option == LIQUIDATION {
-        return Ticks(covered.0 + values.flat_rate.0);
+        covered
+    } else {
+        covered + credit.min(values.cost.saturating_sub(values.value))
     }
-    let used = smaller(credit, missing);
-    Ticks(covered.0 + used.0 + values.flat_rate.0)
 }
 
-// What a closing does with the credit before it.
+/// What a closing does with the credit before it.
+#[tactic(auto, unfolding(crate::specs::Account::outcome_of, crate::specs::Closing::liquidation_of, crate::specs::Closing::lapsed_of, crate::specs::Closing::credit_after))]
 pub fn outcome_of(option: u8, credit: Ticks, value: Ticks, cost: Ticks) -> Outcome
     requires { credit.0 + value.0 < 2 ^ 64 }
     ensures { result ≡ outcome_of option credit.0 value.0 cost.0 }
 {
-    let held = Ticks(credit.0 + value.0);
     if option == LIQUIDATION {
-        Outcome::Liquidated(excess(value, cost), credit)
+        Outcome::Liquidated(value.saturating_sub(cost), credit)
     } else {
-        Outcome::Carried(excess(held, cost))
+        Outcome::Carried((credit + value).saturating_sub(cost))
     }
 }
 
-// The amount that a closing pays out: 0 on credit.
-pub fn liquidation_in(outcome: Outcome) -> Ticks
-    ensures { result.0 ≡ liquidation_in outcome }
-{
-    match outcome {
-        Outcome::Carried(_credit) => Ticks(0),
-        Outcome::Liquidated(amount, _lapse) => amount,
-    }
-}
+impl Outcome {
+    ghost use Rattle.account_steps.specs.Account.{liquidation_in, lapsed_in, credit_in};
 
-// The credit that lapses at a closing: 0 on credit.
-pub fn lapsed_in(outcome: Outcome) -> Ticks
-    ensures { result.0 ≡ lapsed_in outcome }
-{
-    match outcome {
-        Outcome::Carried(_credit) => Ticks(0),
-        Outcome::Liquidated(_amount, lapse) => lapse,
+    /// The amount that a closing pays out: 0 on credit.
+    #[tactic(auto, unfolding(crate::specs::Account::liquidation_in))]
+    pub fn liquidation(self) -> Ticks
+        ensures { result.0 ≡ liquidation_in self }
+    {
+        match self {
+            Outcome::Carried(_) => Ticks(0),
+            Outcome::Liquidated(amount, _) => amount,
+        }
     }
-}
 
-// The credit that stands after a closing.
-pub fn credit_after(outcome: Outcome) -> Ticks
-    ensures { result.0 ≡ credit_in outcome }
-{
-    match outcome {
-        Outcome::Carried(credit) => credit,
-        Outcome::Liquidated(_amount, _lapse) => Ticks(0),
+    /// The credit that lapses at a closing: 0 on credit.
+    #[tactic(auto, unfolding(crate::specs::Account::lapsed_in))]
+    pub fn lapsed(self) -> Ticks
+        ensures { result.0 ≡ lapsed_in self }
+    {
+        match self {
+            Outcome::Carried(_) => Ticks(0),
+            Outcome::Liquidated(_, lapsed) => lapsed,
+        }
+    }
+
+    /// The credit that stands after a closing: 0 after a liquidation.
+    #[tactic(auto, unfolding(crate::specs::Account::credit_in))]
+    pub fn credit(self) -> Ticks
+        ensures { result.0 ≡ credit_in self }
+    {
+        match self {
+            Outcome::Carried(credit) => credit,
+            Outcome::Liquidated(_, _) => Ticks(0),
+        }
     }
 }
 
@@ -182,27 +172,30 @@ const LOW_CHARGE_POWER: u32 = 3_000;
 
 const MIDDLE_CHARGE_POWER: u32 = 20_000;
 
+/// The charge of a year, by the power in watts.
+#[tactic(auto, unfolding(crate::specs::Charges::charge_of))]
 pub fn charge_of(power: u32) -> Ticks
     ensures { TicksWithin (charge_of power) max_charge result }
 {
     if power <= LOW_CHARGE_POWER {
-        return Ticks(1_500_000);
-    }
-    if power <= MIDDLE_CHARGE_POWER {
+        Ticks(1_500_000)
+    } else if power <= MIDDLE_CHARGE_POWER {
         Ticks(3_000_000)
     } else {
         Ticks(MAX_CHARGE)
     }
 }
 
-// What of a rest is withheld from a payment.
+/// What of a rest is withheld from a payment.
+#[tactic(auto, unfolding(crate::specs::Charges::withheld_from))]
 pub fn withheld_from(rest: Ticks, payment: Ticks) -> Ticks
     ensures { result ≡ ticks (withheld_from rest.0 payment.0) }
 {
-    Ticks(smaller(rest, payment).0)
+    rest.min(payment)
 }
 
-// What of a rest is withheld at a closing: first from the balance if that is positive, then from the liquidation.
+/// What of a rest is withheld at a closing: first from the balance if that is positive, then from the liquidation.
+#[tactic(auto, unfolding(crate::specs::Charges::withheld_at_closing, crate::specs::Charges::withheld_from))]
 pub fn withheld_at_closing(
     rest: Ticks,
     contribution: Ticks,
@@ -211,106 +204,91 @@ pub fn withheld_at_closing(
 ) -> Ticks
     ensures { result ≡ ticks (withheld_at_closing rest.0 (balance_of contribution.0 advances.0) liquidation.0) }
 {
-    let first = withheld_from(rest, excess(contribution, advances));
-    let second = withheld_from(excess(rest, first), liquidation);
-    Ticks(first.0 + second.0)
+    let first = withheld_from(rest, contribution.saturating_sub(advances));
+    first + withheld_from(rest.saturating_sub(first), liquidation)
 }
 
 // The result of a closing, from the credit before it and the advances of the year.
+#[tactic(auto, unfolding(crate::specs::Account::settlement_of))]
 fn settle(option: u8, credit: Ticks, advances: Ticks, values: YearValues) -> Settlement
     requires { SumsInRange credit.0 values }
     ensures { result ≡ settlement_of option credit.0 advances.0 values.value.0 values.cost.0 values.flat_rate.0 }
 {
-    let due = contribution_of(option, credit, values);
-    let balance = balance_bits(due, advances);
-    let outcome = outcome_of(option, credit, values.value, values.cost);
+    let contribution = contribution_of(option, credit, values);
     Settlement {
-        contribution: due,
-        balance,
-        outcome,
+        contribution,
+        balance: balance_bits(contribution, advances),
+        outcome: outcome_of(option, credit, values.value, values.cost),
     }
 }
 
 impl Account {
-    // "An election sets the option of the open year a and those after it."
-    pub fn elected(mut self, option: u8) -> Account
+    /// "An election sets the option of the open year a and those after it."
+    #[tactic(auto, unfolding(crate::specs::Account::account_elected))]
+    pub fn elected(self, option: u8) -> Account
         ensures { result ≡ account_elected option self }
     {
-        self.option = option;
-        self
+        Account { option, ..self }
     }
 
-    // "Each run adds one entry, joins the advances field and sets its bit.", of the open year or of the one after it. The bit is
-    // not set before.
+    /// "Each run adds one entry, joins the advances field and sets its bit.", of the open year or of the one after it. The bit is
+    /// not set before.
+    #[tactic(auto, unfolding(crate::specs::Account::runs_in, crate::specs::Account::advances_in, crate::specs::Account::account_advanced))]
     pub fn advanced(mut self, year: u32, run: u8, paid: Ticks) -> Account
         requires run_bound { runs_in year self + run ≤ 7 }
         requires paid_bound { advances_in year self + paid.0 < 2 ^ 64 }
         ensures { result ≡ account_advanced year run paid.0 self }
     {
-        if year == self.open_year as u32 {
-            let advances = Ticks(self.advances.0 + paid.0);
-            self.runs = self.runs + run;
-            self.advances = advances;
-            self
+        if year == u32::from(self.open_year) {
+            self.runs += run;
+            self.advances += paid;
         } else {
-            let advances = Ticks(self.later_advances.0 + paid.0);
-            self.later_runs = self.later_runs + run;
-            self.later_advances = advances;
-            self
+            self.later_runs += run;
+            self.later_advances += paid;
         }
+        self
     }
 
-    // The account after the closing of its open year, and what the closing came to.
-    pub fn closed(mut self, values: YearValues) -> Closed
+    /// The account after the closing of its open year, and what the closing came to.
+    #[tactic(auto, unfolding(crate::specs::Account::closed_of))]
+    pub fn closed(self, values: YearValues) -> Closed
         requires { InRange values self }
         ensures { result ≡ closed_of values self }
     {
         let settlement = settle(self.option, self.credit, self.advances, values);
-        let outcome = settlement.outcome;
-        let credit = credit_after(outcome);
-        let advances = self.later_advances;
-        let nothing = Ticks(0);
-        let half1 = values.half1;
-        let half2 = values.half2;
-        let charge = self.charge;
-        let rest = charge.rest;
-        let charge = Charge { made: 0, rest };
-        self.open_year = self.open_year + 1;
-        self.runs = self.later_runs;
-        self.later_runs = 0;
-        self.credit = credit;
-        self.advances = advances;
-        self.later_advances = nothing;
-        self.half1 = half1;
-        self.half2 = half2;
-        self.charge = charge;
-        Closed {
-            account: self,
-            settlement,
-        }
+        let account = Account {
+            open_year: self.open_year + 1,
+            runs: self.later_runs,
+            later_runs: 0,
+            credit: settlement.outcome.credit(),
+            advances: self.later_advances,
+            later_advances: Ticks(0),
+            half1: values.half1,
+            half2: values.half2,
+            charge: Charge { made: 0, ..self.charge },
+            ..self
+        };
+        Closed { account, settlement }
     }
 
-    // "A new call charges the open year once."
+    /// "A new call charges the open year once."
+    #[tactic(auto, unfolding(crate::specs::Charges::account_charged))]
     pub fn charged(mut self) -> Account
         requires { self.charge.rest.0 + max_charge < 2 ^ 64 }
         ensures { result ≡ account_charged self }
     {
-        let due = charge_of(self.details.power);
-        let rest = Ticks(self.charge.rest.0 + due.0);
-        let charge = Charge { made: 1, rest };
-        self.charge = charge;
+        self.charge.made = 1;
+        self.charge.rest += charge_of(self.details.power);
         self
     }
 
-    // The account once so much of its rest is withheld.
+    /// The account once so much of its rest is withheld.
+    #[tactic(auto, unfolding(crate::specs::Charges::account_withheld))]
     pub fn withheld(mut self, amount: Ticks) -> Account
         requires { amount.0 ≤ self.charge.rest.0 }
         ensures { result ≡ account_withheld amount.0 self }
     {
-        let rest = Ticks(self.charge.rest.0 - amount.0);
-        let made = self.charge.made;
-        let charge = Charge { made, rest };
-        self.charge = charge;
+        self.charge.rest.0 -= amount.0;
         self
     }
 }

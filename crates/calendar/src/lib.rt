@@ -1,78 +1,92 @@
 // "Election and advances" of document 01: the day of an election, the runs due in a year, the amount of a run.
 #![tactic(auto)]
 
-ghost use Rattle.std.specs.Prelude.{◌≡◌, cond, ◌*◌, ◌≤◌};
+ghost use Rattle.std.specs.Prelude.{◌≡◌, ◌*◌, ◌≤◌};
 ghost use Rattle.units.specs.Units.{ticks};
 ghost use Rattle.units.specs.Limits.{max_price, max_half_kwh, max_half_ticks};
-ghost use Rattle.units.specs.InnerWithin.{NumberWithin, TicksWithin};
-ghost use Rattle.calendar.specs.ElectionAndAdvances.{leap, days_in, is_day, not_after, in_window};
+ghost use Rattle.units.specs.InnerWithin.{TicksWithin};
+ghost use Rattle.calendar.specs.ElectionAndAdvances.{leap, days_in, is_day, in_window};
 ghost use Rattle.calendar.specs.ElectionAndAdvances.{halves_paid, due, halves_count, paid_of, amount_of};
 ghost use Rattle.calendar.specs.InnerShares.{ShareOf};
 
 use units::{Rate, Ticks, WideKwh};
 
-fn choose(test: bool, a: u32, b: u32) -> u32
-    ensures { result ≡ cond test a b }
-{
-    if test { a } else { b }
-}
-
 // The leap rule, "for every year number".
+#[tactic(auto, unfolding(crate::specs::ElectionAndAdvances::leap))]
 fn leap(year: u32) -> bool
     ensures { result ≡ leap year }
 {
-    (year % 4 == 0) & !(year % 100 == 0) | (year % 400 == 0)
+    year % 4 == 0 && year % 100 != 0 || year % 400 == 0
 }
 
 // The days of a month; a number that names no month counts 31.
+#[tactic(auto, unfolding(crate::specs::ElectionAndAdvances::days_in))]
 fn days_in(year: u32, month: u32) -> u32
     ensures { result ≡ days_in year month }
 {
-    let short = (month == 4) | (month == 6) | (month == 9) | (month == 11);
-    choose(
-        month == 2,
-        choose(leap(year), 29, 28),
-        choose(short, 30, 31),
-    )
+    match month {
+        2 => if leap(year) { 29 } else { 28 },
+        4 | 6 | 9 | 11 => 30,
+        _ => 31,
+    }
 }
 
-pub fn is_day(year: u32, month: u32, day: u32) -> bool
-    ensures { result ≡ is_day year month day }
-{
-    (1 <= month) & (month <= 12) & (1 <= day) & (day <= days_in(year, month))
+/// A day by its three numbers, whether or not there is such a day; earlier days are less.
+#[derive(Clone, Copy, Debug, PartialEq, Eq, PartialOrd, Ord)]
+pub struct Day {
+    pub year: u32,
+    pub month: u32,
+    pub day: u32,
 }
 
-// The first day is not after the second.
-fn not_after(year: u32, month: u32, day: u32, year2: u32, month2: u32, day2: u32) -> bool
-    ensures { result ≡ not_after year month day year2 month2 day2 }
-{
-    (year < year2) | (year == year2) & ((month < month2) | (month == month2) & (day <= day2))
+impl Day {
+    /// "a Gregorian day"
+    #[tactic(auto, unfolding(crate::specs::ElectionAndAdvances::is_day))]
+    pub fn is_gregorian(self) -> bool
+        ensures { result ≡ is_day self.year self.month self.day }
+    {
+        (1..=12).contains(&self.month)
+            && 1 <= self.day
+            && self.day <= days_in(self.year, self.month)
+    }
+
+    /// "from 1 January a to 31 January a + 1", where a is the open year.
+    #[tactic(auto, unfolding(crate::specs::ElectionAndAdvances::in_window, crate::specs::ElectionAndAdvances::not_after))]
+    pub fn is_in_window(self, open_year: u16) -> bool
+        ensures { result ≡ in_window open_year self.year self.month self.day }
+    {
+        let year = u32::from(open_year);
+        let first = Day {
+            year,
+            month: 1,
+            day: 1,
+        };
+        let last = Day {
+            year: year + 1,
+            month: 1,
+            day: 31,
+        };
+        first <= self && self <= last
+    }
 }
 
-// "from 1 January a to 31 January a + 1", where a is the open year.
-pub fn in_window(open_year: u16, year: u32, month: u32, day: u32) -> bool
-    ensures { result ≡ in_window open_year year month day }
-{
-    let a = open_year as u32;
-    not_after(a, 1, 1, year, month, day) & not_after(year, month, day, a + 1, 1, 31)
-}
-
-// Run bits: "1 June, 2 October, 4 January".
+// Run bits: "1 June, 2 October, 4 January". Numbers and no enum: a record's byte brings any of them, and holds several at once.
 pub const JUNE: u8 = 1;
 
 pub const OCTOBER: u8 = 2;
 
 pub const JANUARY: u8 = 4;
 
-// The halves of a year that a run pays.
-#[derive(Clone, Copy)]
+/// The halves of a year that a run pays.
+#[derive(Clone, Copy, Debug, PartialEq, Eq)]
 pub struct Halves {
     pub first: bool,
     pub second: bool,
 }
 
-// "First half (months 1–6) in June, second in October. In the activation year: months 3–8, both in October; 9–11, both in
-// January; 12, none."
+/// "First half (months 1–6) in June, second in October. In the activation year: months 3–8, both in October; 9–11, both in
+/// January; 12, none."
+#[tactic(auto, unfolding(crate::specs::ElectionAndAdvances::halves_paid))]
 pub fn halves_paid(activation_year: u16, activation_month: u8, year: u16, run: u8) -> Halves
     ensures { result ≡ halves_paid activation_year activation_month year run }
 {
@@ -100,30 +114,11 @@ pub fn halves_paid(activation_year: u16, activation_month: u8, year: u16, run: u
     }
 }
 
-// A run is due where it pays a half.
-pub fn due(h: Halves) -> bool
-    ensures { result ≡ due h }
-{
-    h.first | h.second
-}
-
-fn count(paid: bool) -> u64
-    ensures { NumberWithin (cond paid 1 0) 1 result }
-{
-    if paid { 1 } else { 0 }
-}
-
-// How many halves a run pays.
-pub fn halves_count(h: Halves) -> u64
-    ensures { result ≡ halves_count h }
-{
-    count(h.first) + count(h.second)
-}
-
 // "A run of 1,500,000 ticks or less pays 0".
 const THRESHOLD: u64 = 1_500_000;
 
-// What a run of that amount pays.
+/// What a run of that amount pays.
+#[tactic(auto, unfolding(crate::specs::ElectionAndAdvances::paid_of))]
 pub fn paid_of(amount: Ticks) -> Ticks
     ensures { result ≡ ticks (paid_of amount.0) }
 {
@@ -146,14 +141,33 @@ fn share(paid: bool, energy: WideKwh, price: Rate) -> Ticks
     }
 }
 
-// "The amount is the rate times the last closed year's half, or times that half's estimate if no year is closed; a run due
-// for both halves pays their sum."
-pub fn amount_of(h: Halves, price: Rate, first: WideKwh, second: WideKwh) -> Ticks
-    requires price_bound { price.0 ≤ max_price }
-    requires halves_bound { (first.0 ≤ max_half_kwh) × (second.0 ≤ max_half_kwh) }
-    ensures { TicksWithin (amount_of h price.0 first.0 second.0) (max_half_ticks * halves_count h) result }
-{
-    let a = share(h.first, first, price);
-    let b = share(h.second, second, price);
-    paid_of(Ticks(a.0 + b.0))
+impl Halves {
+    /// A run is due where it pays a half.
+    #[tactic(auto, unfolding(crate::specs::ElectionAndAdvances::due))]
+    pub fn is_due(self) -> bool
+        ensures { result ≡ due self }
+    {
+        self.first || self.second
+    }
+
+    /// How many halves a run pays.
+    #[tactic(auto, unfolding(crate::specs::ElectionAndAdvances::halves_count))]
+    pub fn count(self) -> u64
+        ensures { result ≡ halves_count self }
+    {
+        u64::from(self.first) + u64::from(self.second)
+    }
+
+    /// "The amount is the rate times the last closed year's half, or times that half's estimate if no year is closed; a run due
+    /// for both halves pays their sum."
+    #[tactic(auto, unfolding(crate::specs::ElectionAndAdvances::halves_count, crate::specs::ElectionAndAdvances::amount_of))]
+    pub fn amount(self, price: Rate, first: WideKwh, second: WideKwh) -> Ticks
+        requires price_bound { price.0 ≤ max_price }
+        requires halves_bound { (first.0 ≤ max_half_kwh) × (second.0 ≤ max_half_kwh) }
+        ensures { TicksWithin (amount_of self price.0 first.0 second.0) (max_half_ticks * halves_count self) result }
+    {
+        let first = share(self.first, first, price);
+        let second = share(self.second, second, price);
+        paid_of(Ticks(first.0 + second.0))
+    }
 }
