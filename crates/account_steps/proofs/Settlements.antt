@@ -26,10 +26,7 @@ settlement-of-parts option k a c o f due balance outcome p q r =
 module _ (v : YearValues) (a : Account) where
   abbrev after : Ticks → Account
   after credit =
-      record {
-        number = a.number;
-        details = a.details;
-        option = a.option;
+      record a {
         open_year = a.open_year + 1;
         runs = a.later_runs;
         later_runs = 0;

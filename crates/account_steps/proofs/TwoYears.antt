@@ -6,38 +6,10 @@ use Rattle.account_steps.specs.Account.{runs_in, advances_in, account_advanced}
 
 -- the account after a run of the open year, and of the later one
 abbrev pub joined : ℕ → ℕ → Account → Account
-joined run paid a =
-    record {
-      number = a.number;
-      details = a.details;
-      option = a.option;
-      open_year = a.open_year;
-      runs = a.runs + run;
-      later_runs = a.later_runs;
-      credit = a.credit;
-      advances = ticks (a.advances.0 + paid);
-      later_advances = a.later_advances;
-      half1 = a.half1;
-      half2 = a.half2;
-      charge = a.charge;
-    }
+joined run paid a = record a { runs = a.runs + run; advances = ticks (a.advances.0 + paid) }
 
 abbrev pub joined_later : ℕ → ℕ → Account → Account
-joined_later run paid a =
-    record {
-      number = a.number;
-      details = a.details;
-      option = a.option;
-      open_year = a.open_year;
-      runs = a.runs;
-      later_runs = a.later_runs + run;
-      credit = a.credit;
-      advances = a.advances;
-      later_advances = ticks (a.later_advances.0 + paid);
-      half1 = a.half1;
-      half2 = a.half2;
-      charge = a.charge;
-    }
+joined_later run paid a = record a { later_runs = a.later_runs + run; later_advances = ticks (a.later_advances.0 + paid) }
 
 module _ (year : ℕ) (a : Account) where
   module _ (same : year ≡ a.open_year) where

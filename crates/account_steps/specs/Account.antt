@@ -47,21 +47,7 @@ settlement_of option k a c o f =
 
 -- "An election sets the option of the open year a and those after it."
 unfoldable pub account_elected : ℕ → Account → Account
-account_elected option a =
-    record {
-      number = a.number;
-      details = a.details;
-      option = option;
-      open_year = a.open_year;
-      runs = a.runs;
-      later_runs = a.later_runs;
-      credit = a.credit;
-      advances = a.advances;
-      later_advances = a.later_advances;
-      half1 = a.half1;
-      half2 = a.half2;
-      charge = a.charge;
-    }
+account_elected option a = record a { option = option }
 
 -- "An account may have two open years, and a run names either. Each year has its own runs and advances" (ticket 6): those of the
 -- open year if that is the year, else of the one after it
@@ -74,19 +60,11 @@ advances_in year a = cond (year == a.open_year) a.advances.0 a.later_advances.0
 -- "Each run adds one entry, joins the advances field and sets its bit.", of the year that it names. The bit is not set before.
 unfoldable pub account_advanced : ℕ → ℕ → ℕ → Account → Account
 account_advanced year run paid a =
-    record {
-      number = a.number;
-      details = a.details;
-      option = a.option;
-      open_year = a.open_year;
+    record a {
       runs = cond (year == a.open_year) (a.runs + run) a.runs;
       later_runs = cond (year == a.open_year) a.later_runs (a.later_runs + run);
-      credit = a.credit;
       advances = ticks (cond (year == a.open_year) (a.advances.0 + paid) a.advances.0);
       later_advances = ticks (cond (year == a.open_year) a.later_advances.0 (a.later_advances.0 + paid));
-      half1 = a.half1;
-      half2 = a.half2;
-      charge = a.charge;
     }
 
 -- "Then A and the runs become 0, the halves become the sums of the months' exchanged kWh, and the open year rises by
@@ -94,10 +72,7 @@ account_advanced year run paid a =
 -- has no charge yet; the rest stays (ticket 1).
 unfoldable pub account_closed : YearValues → Account → Account
 account_closed v a =
-    record {
-      number = a.number;
-      details = a.details;
-      option = a.option;
+    record a {
       open_year = a.open_year + 1;
       runs = a.later_runs;
       later_runs = 0;

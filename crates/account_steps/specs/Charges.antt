@@ -34,21 +34,7 @@ closing_withheld a v =
 
 -- an account with another charge of its open year and another rest
 abbrev pub with_charge : Charge → Account → Account
-with_charge c a =
-    record {
-      number = a.number;
-      details = a.details;
-      option = a.option;
-      open_year = a.open_year;
-      runs = a.runs;
-      later_runs = a.later_runs;
-      credit = a.credit;
-      advances = a.advances;
-      later_advances = a.later_advances;
-      half1 = a.half1;
-      half2 = a.half2;
-      charge = c;
-    }
+with_charge c a = record a { charge = c }
 
 abbrev pub charge_is : ℕ → ℕ → Charge
 charge_is made rest = record { made = made; rest = ticks rest }

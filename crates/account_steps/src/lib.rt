@@ -23,7 +23,7 @@ const LIQUIDATION: u8 = 1;
 const SIGN_BIT: u64 = 9223372036854775808;
 
 // The yearly charge (document 02, ticket 1): whether the open year is charged, 0 or 1, and what of all charges is still unpaid.
-#[derive(Clone, Copy)]
+#[derive(Clone, Copy, Debug, PartialEq, Eq)]
 pub struct Charge {
     pub made: u8,
     pub rest: Ticks,
@@ -46,11 +46,11 @@ pub struct Account {
 }
 
 // A signed amount in ticks, as its 64 bits in two's complement.
-#[derive(Clone, Copy)]
+#[derive(Clone, Copy, Debug, PartialEq, Eq)]
 pub struct Balance(pub u64);
 
 // What a closing does with the credit.
-#[derive(Clone, Copy)]
+#[derive(Clone, Copy, Debug, PartialEq, Eq)]
 pub enum Outcome {
     // The credit that stands afterwards.
     Carried(Ticks),
@@ -58,7 +58,7 @@ pub enum Outcome {
     Liquidated(Ticks, Ticks),
 }
 
-#[derive(Clone, Copy)]
+#[derive(Clone, Copy, Debug, PartialEq, Eq)]
 pub struct Settlement {
     pub contribution: Ticks,
     pub balance: Balance,
@@ -72,7 +72,7 @@ pub struct Closed {
 }
 
 // The seven sums of a closing: what its entry keeps and its call answers.
-#[derive(Clone, Copy)]
+#[derive(Clone, Copy, Debug, PartialEq, Eq)]
 pub struct ClosingSums {
     pub value: Ticks,
     pub cost: Ticks,
@@ -224,7 +224,6 @@ fn settle(option: u8, credit: Ticks, advances: Ticks, values: YearValues) -> Set
 
 impl Account {
     /// "An election sets the option of the open year a and those after it."
-    #[tactic(auto, unfolding(crate::specs::Account::account_elected))]
     pub fn elected(self, option: u8) -> Account
         ensures { result ≡ account_elected option self }
     {
@@ -233,7 +232,7 @@ impl Account {
 
     /// "Each run adds one entry, joins the advances field and sets its bit.", of the open year or of the one after it. The bit is
     /// not set before.
-    #[tactic(auto, unfolding(crate::specs::Account::runs_in, crate::specs::Account::advances_in, crate::specs::Account::account_advanced))]
+    #[tactic(auto, unfolding(crate::specs::Account::runs_in, crate::specs::Account::advances_in))]
     pub fn advanced(mut self, year: u32, run: u8, paid: Ticks) -> Account
         requires run_bound { runs_in year self + run ≤ 7 }
         requires paid_bound { advances_in year self + paid.0 < 2 ^ 64 }
@@ -250,7 +249,6 @@ impl Account {
     }
 
     /// The account after the closing of its open year, and what the closing came to.
-    #[tactic(auto, unfolding(crate::specs::Account::closed_of))]
     pub fn closed(self, values: YearValues) -> Closed
         requires { InRange values self }
         ensures { result ≡ closed_of values self }
@@ -265,14 +263,19 @@ impl Account {
             later_advances: Ticks(0),
             half1: values.half1,
             half2: values.half2,
-            charge: Charge { made: 0, ..self.charge },
+            charge: Charge {
+                made: 0,
+                ..self.charge
+            },
             ..self
         };
-        Closed { account, settlement }
+        Closed {
+            account,
+            settlement,
+        }
     }
 
     /// "A new call charges the open year once."
-    #[tactic(auto, unfolding(crate::specs::Charges::account_charged))]
     pub fn charged(mut self) -> Account
         requires { self.charge.rest.0 + max_charge < 2 ^ 64 }
         ensures { result ≡ account_charged self }
@@ -283,7 +286,6 @@ impl Account {
     }
 
     /// The account once so much of its rest is withheld.
-    #[tactic(auto, unfolding(crate::specs::Charges::account_withheld))]
     pub fn withheld(mut self, amount: Ticks) -> Account
         requires { amount.0 ≤ self.charge.rest.0 }
         ensures { result ≡ account_withheld amount.0 self }

@@ -85,32 +85,27 @@ fn closing_of_year(book: &[u8], user: RecordIndex, year: u16) -> RecordIndex
 
 // WHAT ENTRIES PAY (document 02, ticket 1)
 
+#[tactic(auto, unfolding(crate::specs::History::by_advance))]
 fn by_advance(advance: AdvanceRecord) -> Payments
     ensures { result ≡ by_advance advance }
 {
-    let advances = advance.ticks;
-    let withheld = advance.withheld;
-    let paid = account_steps::excess(advances, withheld);
     Payments {
-        advances,
-        withheld,
-        paid,
+        advances: advance.ticks,
+        withheld: advance.withheld,
+        paid: advance.ticks.saturating_sub(advance.withheld),
     }
 }
 
+#[tactic(auto, unfolding(crate::specs::History::by_closing))]
 fn by_closing(closing: ClosingRecord) -> Payments
     requires { closing.sums.liquidation.0 ≤ max_year_ticks }
     ensures { result ≡ by_closing closing }
 {
-    let sums = closing.sums;
-    let withheld = closing.withheld;
-    let balance = book_rules::paid_balance(sums.balance);
-    let paid = account_steps::excess(Ticks(balance.0 + sums.liquidation.0), withheld);
-    let advances = Ticks(0);
+    let paid = book_rules::paid_balance(closing.sums.balance) + closing.sums.liquidation;
     Payments {
-        advances,
-        withheld,
-        paid,
+        advances: Ticks(0),
+        withheld: closing.withheld,
+        paid: paid.saturating_sub(closing.withheld),
     }
 }
 
@@ -236,8 +231,7 @@ fn credit_over(book: &[u8], entry: RecordIndex, credit: Ticks) -> Ticks
 {
     let closing = book_records::closing_of(book_layout::record(book, entry));
     let sums = closing.sums;
-    let outcome = account_steps::outcome_of(closing.option, credit, sums.value, sums.cost);
-    account_steps::credit_after(outcome)
+    account_steps::outcome_of(closing.option, credit, sums.value, sums.cost).credit()
 }
 
 // The same, where a year without a closing leaves the credit.

@@ -74,7 +74,7 @@ fn due_if_made(a: Account, run: u8) -> bool
     requires { 0 < run }
     ensures { result ≡ due_if_made a run }
 {
-    !is_made(a.runs, run) | calendar::due(halves_of(a, run))
+    !is_made(a.runs, run) | halves_of(a, run).is_due()
 }
 
 fn runs_fit(a: Account) -> bool
@@ -88,7 +88,7 @@ fn halves_made(a: Account, run: u8) -> u64
     ensures { NumberWithin (halves_made a run) 2 result }
 {
     if is_made(a.runs, run) {
-        calendar::halves_count(halves_of(a, run))
+        halves_of(a, run).count()
     } else {
         0
     }

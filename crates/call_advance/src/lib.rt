@@ -47,12 +47,7 @@ fn run_amount(
 {
     let first = half_or_estimate(a, a.half1, estimate1);
     let second = half_or_estimate(a, a.half2, estimate2);
-    calendar::amount_of(
-        call_refusals::halves_in(a, year as u16, run),
-        price,
-        first,
-        second,
-    )
+    call_refusals::halves_in(a, year as u16, run).amount(price, first, second)
 }
 
 // An entry of the later year notes the year that is open when it is booked.

@@ -43,22 +43,14 @@ fn no_sums() -> ClosingSums
 fn settled_sums(values: YearValues, settlement: Settlement) -> ClosingSums
     ensures { (account : Account) → settlement ≡ (closed_of values account).settlement → result ≡ settled account values }
 {
-    let value = values.value;
-    let cost = values.cost;
-    let flat_rate = values.flat_rate;
-    let contribution = settlement.contribution;
-    let balance = settlement.balance;
-    let outcome = settlement.outcome;
-    let liquidation = account_steps::liquidation_in(outcome);
-    let lapsed = account_steps::lapsed_in(outcome);
     ClosingSums {
-        value,
-        cost,
-        flat_rate,
-        contribution,
-        liquidation,
-        lapsed,
-        balance,
+        value: values.value,
+        cost: values.cost,
+        flat_rate: values.flat_rate,
+        contribution: settlement.contribution,
+        liquidation: settlement.outcome.liquidation(),
+        lapsed: settlement.outcome.lapsed(),
+        balance: settlement.balance,
     }
 }
 

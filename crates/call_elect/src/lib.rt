@@ -4,6 +4,7 @@
 ghost use Rattle.call_rules.specs.Calls.{elect};
 ghost use Rattle.call_answers.specs.Answers.{Answered};
 
+use calendar::Day;
 use call_answers::Reply;
 use units::{RecordIndex, UserNumber};
 
@@ -28,7 +29,7 @@ pub fn elect(
         return call_answers::refused(6);
     }
     let account = book_view::account_at(book, user);
-    let refusal = call_refusals::elect_objection(account, option, year, month, day);
+    let refusal = call_refusals::elect_objection(account, option, Day { year, month, day });
     if refusal != 0 {
         return call_answers::refused(refusal);
     }

@@ -16,7 +16,7 @@ ghost use Rattle.call_rules.specs.Calls.{enrol, elect, advance, charge, rules_of
 ghost use Rattle.call_refusals.specs.InnerObjections.{SheetObjected};
 
 use account_steps::Account;
-use calendar::Halves;
+use calendar::{Day, Halves};
 use sheet::Objection;
 use sheet_values::Details;
 use units::{
@@ -41,16 +41,16 @@ pub fn has_room(book: &[u8]) -> bool
     !(book_view::used(book) as usize == book.len() / RECORD_LENGTH)
 }
 
-fn day_and_option(option: u8, year: u32, month: u32, day: u32) -> bool
-    ensures { result ≡ day_and_option option year month day }
+fn day_and_option(option: u8, day: Day) -> bool
+    ensures { result ≡ day_and_option option day.year day.month day.day }
 {
-    calendar::is_day(year, month, day) & (option <= 1)
+    day.is_gregorian() & (option <= 1)
 }
 
-fn election_open(a: Account, year: u32, month: u32, day: u32) -> bool
-    ensures { result ≡ election_open a year month day }
+fn election_open(a: Account, day: Day) -> bool
+    ensures { result ≡ election_open a day.year day.month day.day }
 {
-    calendar::in_window(a.open_year, year, month, day) & !(a.open_year == LAST_OPEN_YEAR)
+    day.is_in_window(a.open_year) & !(a.open_year == LAST_OPEN_YEAR)
 }
 
 // The open year, or the one after it.
@@ -83,7 +83,7 @@ fn run_due(a: Account, year: u32, run: u8) -> bool
     requires { (year < 2 ^ 16) × (0 < run) }
     ensures { result ≡ (due (halves_paid a.details.year a.details.month year run) && not (is_made (runs_in year a) run)) }
 {
-    calendar::due(halves_in(a, year as u16, run)) & !book_rules::is_made(runs_in(a, year), run)
+    halves_in(a, year as u16, run).is_due() & !book_rules::is_made(runs_in(a, year), run)
 }
 
 // A run of an open year up to 2099.
@@ -138,12 +138,12 @@ pub fn enrol_objection(
 }
 
 // 7 8: no call reads an account before 6 is past, so each of these holds of any user that is present.
-pub fn elect_objection(a: Account, option: u8, year: u32, month: u32, day: u32) -> u32
+pub fn elect_objection(a: Account, option: u8, day: Day) -> u32
     ensures { (number user : ℕ) (room : Bool) → (user ≡ 0 → ⊥)
-        → result ≡ refused_by (rules_of (look_of user a room) (elect number option year month day)) }
+        → result ≡ refused_by (rules_of (look_of user a room) (elect number option day.year day.month day.day)) }
 {
-    let window = refuse(election_open(a, year, month, day), 8, 0);
-    refuse(day_and_option(option, year, month, day), 7, window)
+    let window = refuse(election_open(a, day), 8, 0);
+    refuse(day_and_option(option, day), 7, window)
 }
 
 fn charge_open(a: Account) -> bool

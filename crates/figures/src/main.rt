@@ -99,8 +99,8 @@ fn closings(out: &mut Printer) -> Result<(), Failure> {
         first.settlement.contribution.0,
         second.settlement.contribution.0,
         third.settlement.contribution.0,
-        account_steps::liquidation_in(outcome).0,
-        account_steps::lapsed_in(outcome).0,
+        outcome.liquidation().0,
+        outcome.lapsed().0,
         third.account.credit.0,
     ))
 }

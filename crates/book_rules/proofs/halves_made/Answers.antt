@@ -12,8 +12,8 @@ returns-then-is_made c =
     let a = c.args in
     let halves = c.halves_of.ensures in
     let made = sym c.is_made.ensures ∙ c.if-is_made.true in
-    let count = c.halves_count.ensures ∙ ap halves_count halves in
-    record { is = rw made count; most = rw c.halves_count.ensures (halves-at-most c.halves_of.result) }
+    let count = c.count.ensures ∙ ap halves_count halves in
+    record { is = rw made count; most = rw c.count.ensures (halves-at-most c.halves_of.result) }
 
 pub returns-else-is_made : goal.returns-else-is_made
 unfolding halves_made

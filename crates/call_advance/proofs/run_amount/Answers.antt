@@ -2,8 +2,8 @@
 use Rattle.call_advance.proofs.Runs.{run-within, run-paid}
 use Rattle.call_advance.proofs.run_amount.Goals as goal
 
-pub amount_of-requires : goal.amount_of-requires
-amount_of-requires c =
+pub amount-requires : goal.amount-requires
+amount-requires c =
     let a = c.args in
     let all = run-within a.a a.price.0 a.estimate1.0 a.estimate2.0 c.requires.year_bound.1 c.requires.order
     c.half_or_estimate-first.result.0 c.half_or_estimate-second.result.0
@@ -14,5 +14,5 @@ returns c =
     let a = c.args in
     run-paid a.a a.price.0 a.estimate1.0 a.estimate2.0 a.year a.run c.half_or_estimate-first.result.0
     c.half_or_estimate-second.result.0
-    c.half_or_estimate-first.ensures c.half_or_estimate-second.ensures c.halves_in.result c.halves_in.ensures c.amount_of.result
-    c.amount_of.ensures.is
+    c.half_or_estimate-first.ensures c.half_or_estimate-second.ensures c.halves_in.result c.halves_in.ensures c.amount.result
+    c.amount.ensures.is

@@ -8,4 +8,4 @@ pub returns : goal.returns
 unfolding account_charged
 returns c =
     let a = c.args.self in
-    ap (λ (t : Ticks). with_charge (charge_is 1 (a.charge.rest.0 + t.0)) a) c.charge_of-due.ensures.is
+    rw c.add_assign.ensures.after (ap (λ (t : Ticks). with_charge (charge_is 1 (a.charge.rest.0 + t.0)) a) c.charge_of.ensures.is)

@@ -3,4 +3,4 @@ use Rattle.account_steps.proofs.Settlements.{closed-of-parts}
 use Rattle.account_steps.proofs.Account.closed.Goals as goal
 
 pub returns : goal.returns
-returns c = closed-of-parts _ _ _ _ c.settle-settlement.ensures c.credit_after-credit.ensures
+returns c = closed-of-parts _ _ _ _ c.settle-settlement.ensures c.credit.ensures
