@@ -112,17 +112,20 @@ alone_request rest request = if is_end rest then Some request else None
 unfoldable pub enrol_request : List ℕ → Option (Request (List ℕ))
 enrol_request rest = do
   n ← arguments enrol_most rest
-  Some (request.Enrol (slice_index n 0) (slice_index n 1) (slice_index n 2) (slice_index n 3) (slice_index n 4) (slice_index n 5) (slice_index n 6) (slice_index n 7))
+  let at : ℕ → ℕ = slice_index n
+  Some (request.Enrol (at 0) (at 1) (at 2) (at 3) (at 4) (at 5) (at 6) (at 7))
 
 unfoldable pub elect_request : List ℕ → Option (Request (List ℕ))
 elect_request rest = do
   n ← arguments elect_most rest
-  Some (request.Elect (slice_index n 0) (slice_index n 1) (slice_index n 2) (slice_index n 3) (slice_index n 4))
+  let at : ℕ → ℕ = slice_index n
+  Some (request.Elect (at 0) (at 1) (at 2) (at 3) (at 4))
 
 unfoldable pub advance_request : List ℕ → Option (Request (List ℕ))
 advance_request rest = do
   n ← arguments advance_most rest
-  Some (request.Advance (slice_index n 0) (slice_index n 1) (slice_index n 2) (slice_index n 3) (slice_index n 4) (slice_index n 5))
+  let at : ℕ → ℕ = slice_index n
+  Some (request.Advance (at 0) (at 1) (at 2) (at 3) (at 4) (at 5))
 
 unfoldable pub number_alone : List ℕ → Option ℕ
 number_alone rest = do

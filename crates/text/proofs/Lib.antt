@@ -1,7 +1,2 @@
-pub mod PlaceDigits
-pub mod HexDigits
-pub mod PlaceFields
-pub mod HexTexts
-pub mod HexWriting
-pub mod ReadNumbers
+pub mod Numbers
 pub mod Spellings

@@ -20,13 +20,15 @@ spelling_begins [] t two e = absurd (omega arith)
 spelling_begins (a ∷ []) t two e = absurd (omega arith)
 spelling_begins (a ∷ (b ∷ (_ ∷ _))) t two e = absurd (omega arith)
 
+even_rest : (n : ℕ) → eqb (suc (suc n) % 2) 0 ≡ true → eqb (n % 2) 0 ≡ true
+even_rest n e = grind (arith, nat_tests)
+
 pub spelling_goes_on : (x t : List ℕ) → length x ≡ 2 → is_hex (x ++ t) ≡ true → is_hex t ≡ true
 unfolding is_hex
 spelling_goes_on (a ∷ b ∷ []) t two e =
     let digits : (is_hex_digit a && (is_hex_digit b && list_all is_hex_digit t)) ≡ true = and_right _ _ e in
     let others : list_all is_hex_digit t ≡ true = and_right (is_hex_digit b) _ (and_right (is_hex_digit a) _ digits) in
-    let even : eqb ((suc (suc (length t))) % 2) 0 ≡ true = and_left _ _ e in
-    rw others (grind (arith, nat_tests))
+    rw (even_rest (length t) (and_left _ _ e), others)
 spelling_goes_on [] t two e = absurd (omega arith)
 spelling_goes_on (a ∷ []) t two e = absurd (omega arith)
 spelling_goes_on (a ∷ (b ∷ (_ ∷ _))) t two e = absurd (omega arith)
@@ -42,13 +44,15 @@ one_more bytes [] t high low two h l e f = absurd (omega arith)
 one_more bytes (a ∷ []) t high low two h l e f = absurd (omega arith)
 one_more bytes (a ∷ (b ∷ (_ ∷ _))) t high low two h l e f = absurd (omega arith)
 
-pub hex_of_more : (bytes : List ℕ) (i : ℕ) → i < length bytes → get_or bytes i 0 < 256
-    → hex_of (take (i + 1) bytes) ≡ hex_of (take i bytes) ++ padded_integral (format_spec 32 0 4 2 (2 ^ 64 - 1)) false [] (fmt_digits 16 false (get_or bytes i 0))
-unfolding hex_of
-hex_of_more bytes i l small = rw (hex_byte false (get_or bytes i 0) small) (grind (arith, common_steps, flat_map-append byte_digits))
-
 pub spelling_ends : (bytes t : List ℕ) → length t < 2 → is_hex t ≡ true → hex_of bytes ++ t ≡ hex_of bytes
 unfolding is_hex
 spelling_ends bytes [] short e = append-nil _
 spelling_ends bytes (a ∷ []) short e = absurd (false≢true e)
 spelling_ends bytes (a ∷ (b ∷ t)) short e = absurd (omega arith)
+
+pub ruleset pair_by_pair = (spelling_begins, spelling_goes_on, one_more, spelling_ends)
+
+pub hex_of_more : (bytes : List ℕ) (i : ℕ) → i < length bytes → get_or bytes i 0 < 256
+    → hex_of (take (i + 1) bytes) ≡ hex_of (take i bytes) ++ padded_integral (format_spec 32 0 4 2 (2 ^ 64 - 1)) false [] (fmt_digits 16 false (get_or bytes i 0))
+unfolding hex_of
+hex_of_more bytes i l small = rw (hex_byte false (get_or bytes i 0) small) (grind (arith, common_steps, flat_map-append byte_digits))

@@ -3,7 +3,10 @@ use Rattle.std.proofs.Common.{◌≡◌, ℕ, ◌<◌, ◌+◌, zero, suc, Bool,
 use Rattle.std.proofs.Math.Seq.{take-suc-set}
 use Rattle.std.specs.Prelude.{Some, None}
 use Rattle.std.specs.Char.{is_ascii_digit, digit_value}
+use Rattle.std.specs.Str.{IsUtf8}
 use Rattle.std.specs.Str.Parse.{AllDigits}
+use Rattle.std.proofs.lemmas.Str.{IsUtf8-from_ascii}
+use Rattle.std.proofs.lemmas.Fmt.{IsAscii-from_digits}
 use Rattle.std.proofs.lemmas.Bool.Decides.{nat_tests}
 use Rattle.text.specs.Text.{digits, field, fields}
 
@@ -20,6 +23,9 @@ lead (b ∷ bs) = by_test (is_ascii_digit b) refl (lead bs)
 
 pub digits_in_front : (text front : List ℕ) → front ≡ take (digits text) text → AllDigits 10 front
 digits_in_front text front e = subst (AllDigits 10) (sym e) (lead text)
+
+pub digits_are_text : (ds : List ℕ) → AllDigits 10 ds → IsUtf8 ds
+digits_are_text ds h = IsUtf8-from_ascii ds (IsAscii-from_digits ds h)
 
 -- where one is missing, so many are not there
 fields_stay : (n k m : ℕ) (text : List ℕ) → m ≡ n + k → fields k text ≡ None → fields m text ≡ None
