@@ -50,9 +50,9 @@ spelling_ends bytes [] short e = append-nil _
 spelling_ends bytes (a ∷ []) short e = absurd (false≢true e)
 spelling_ends bytes (a ∷ (b ∷ t)) short e = absurd (omega arith)
 
-pub ruleset pair_by_pair = (spelling_begins, spelling_goes_on, one_more, spelling_ends)
-
 pub hex_of_more : (bytes : List ℕ) (i : ℕ) → i < length bytes → get_or bytes i 0 < 256
     → hex_of (take (i + 1) bytes) ≡ hex_of (take i bytes) ++ padded_integral (format_spec 32 0 4 2 (2 ^ 64 - 1)) false [] (fmt_digits 16 false (get_or bytes i 0))
 unfolding hex_of
 hex_of_more bytes i l small = rw (hex_byte false (get_or bytes i 0) small) (grind (arith, common_steps, flat_map-append byte_digits))
+
+pub ruleset pair_by_pair = (spelling_begins, spelling_goes_on, one_more, spelling_ends)

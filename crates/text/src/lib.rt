@@ -41,7 +41,7 @@ pub fn first_number(text: &[u8]) -> Option<(u64, &[u8])>
 
 /// One blank, and the number after it.
 #[tactic(auto, unfolding(crate::specs::Text::field))]
-pub fn field(text: &[u8]) -> Option<(u64, &[u8])>
+fn field(text: &[u8]) -> Option<(u64, &[u8])>
     ensures { MatchOption result (field text.now ≡ None) (λ r. field text.now ≡ Some (r.0, r.1.now)) }
 {
     first_number(text.strip_prefix(b" ")?)
