@@ -1,8 +1,6 @@
 -- Amounts as they are printed: in euro with five decimals, a column each.
-use Rattle.std.specs.Prelude.{◌≡◌, ℕ, ◌+◌, ◌-◌, ◌/◌, cond, List, ◌∷◌, ◌++◌, length, nat_lt}
-use Rattle.io.specs.Digits.{last_digits}
-use Rattle.decimals.specs.Decimals.{decimal}
-use Rattle.output.specs.InnerRows.{joined, blanks}
+use Rattle.std.specs.Prelude.{ℕ, zero, suc, ◌+◌, ◌-◌, ◌/◌, ◌%◌, Bool, List, [], ◌∷◌, ◌++◌, length, replicate, if◌then◌else◌, nat_lt}
+use Rattle.std.specs.Fmt.{decimal, sign_text}
 
 -- the width of a column, and ticks to the euro
 abbrev pub column_width : ℕ
@@ -13,12 +11,16 @@ ticks_per_euro = 100000
 
 -- blanks fill the column before so many characters; at least one stands there
 abbrev pub blanks_before : ℕ → ℕ
-blanks_before n = cond (nat_lt n column_width) (column_width - n) 1
+blanks_before n = if nat_lt n column_width then column_width - n else 1
 
--- an amount after a text: blanks, the sign, the euro in decimal, a point, the ticks in five digits
-abbrev pub AmountJoined : List ℕ → List ℕ → ℕ → List ℕ → Type 0
-AmountJoined before sign ticks after =
-    after
-    ≡ joined before
-    (blanks (blanks_before (length (decimal (ticks / ticks_per_euro)) + 6 + length sign))
-    ++ (sign ++ (decimal (ticks / ticks_per_euro) ++ (46 ∷ last_digits 10 5 ticks))))
+-- the last digits of a number, so many
+abbrev pub last_digits : ℕ → ℕ → List ℕ
+last_digits zero n = []
+last_digits (suc k) n = last_digits k (n / 10) ++ ((48 + n % 10) ∷ [])
+
+-- an amount: blanks, the sign, the euro in decimal, a point, the ticks in five digits
+unfoldable pub amount : Bool → ℕ → List ℕ
+amount negative ticks =
+    let sign = sign_text negative in
+    let euros = decimal (ticks / ticks_per_euro) in
+    replicate (blanks_before (length euros + 6 + length sign)) 32 ++ (sign ++ (euros ++ (46 ∷ last_digits 5 ticks)))

@@ -2,34 +2,27 @@
 // `listing_text`'s; here it is only read and written.
 #![tactic(auto)]
 
-use input::Input;
 use listing_text::Listed;
+use output::{Failure, Printer};
 
-// The buffer has room for every listing.
-fn list(rt: &HostRuntime, book: &[u8]) {
+const USAGE: &str = "give the book on standard input, and no argument";
+
+fn run(rt: &HostRuntime) -> Result<(), Failure> {
+    if output::has_argument(rt, 1) {
+        return Err(Failure::Use);
+    }
+    let mut book = Vec::new(rt.alloc());
+    input::read_book_into(&mut rt.stdin(), &mut book).map_err(Failure::Input)?;
+    // The buffer has room for every listing.
     let mut lines = listing_text::buffer();
-    let Listed::Written(count) = listing_text::listing_of(book, &mut lines) else {
-        return;
+    let Listed::Written(count) = listing_text::listing_of(&book, &mut lines) else {
+        return Ok(());
     };
-    output::write(
-        &mut rt.stdout(),
-        &mut rt.stderr(),
-        b"listing: standard output",
-        text::front(&lines, count),
-    );
+    let lines = lines.get(..count).unwrap_or(&lines);
+    Printer::new(rt.alloc(), rt.stdout()).bytes(lines)
 }
 
 fn main(rt: HostRuntime) {
-    if output::has_argument(&rt, 1) {
-        output::tell_use(
-            &mut rt.stderr(),
-            b"listing: give the book on standard input, and no argument\n",
-        );
-        return;
-    }
-    let mut book = input::book_buffer();
-    match input::read_book(&mut rt.stdin(), &mut book) {
-        Input::Read(count) => list(&rt, text::front(&book, count)),
-        Input::Failed(error) => output::fail(&mut rt.stderr(), b"listing: standard input", error),
-    }
+    let outcome = run(&rt);
+    output::report(&mut rt.stderr(), "listing", USAGE, outcome);
 }

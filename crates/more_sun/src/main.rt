@@ -3,152 +3,89 @@
 // or above, or `-` where none do within the limit.
 #![tactic(auto)]
 
-ghost use Rattle.std.specs.Prelude.{◌≤◌};
-
 use call_answers::Reply;
-use input::Input;
-use output::Row;
+use output::{Failure, Printer};
 use refusals::Position;
 use sheet_more_sun::Addition;
-use std::rt::Env;
+use std::fmt;
 
-// The width of the months, and of a column of kWh.
-const MONTH: usize = 5;
+const USAGE: &str = "give the file of a year sheet, and the book on standard input";
 
-const WIDTH: usize = 11;
-
-// A byte more than a sheet has: a file that fills it is longer than any sheet, and has a length that is refused with 11.
+// A byte more than a sheet has: a file of so many is longer than any sheet, and has a length that is refused with 11.
 const SHEET: usize = sheet::LENGTH + 1;
 
 // A path of a file is at most so long.
 const PATH: usize = 4095;
 
-// What says something answers whether it was written.
-fn say(rt: &HostRuntime, row: Row) -> bool {
-    output::write_row(
-        &mut rt.stdout(),
-        &mut rt.stderr(),
-        b"more_sun: standard output",
-        output::put(row, b'\n'),
-    )
-}
+// The least addition to a band, at the right of its column.
+#[derive(Clone, Copy)]
+struct Column(Addition);
 
-// A text at the right of a column.
-fn put_right(row: Row, text: &[u8], width: usize) -> Row {
-    if text.len() < width {
-        return output::put_text(output::put_blanks(row, width - text.len()), text);
-    }
-    output::put_text(row, text)
-}
-
-fn put_number(row: Row, n: u32, width: usize) -> Row {
-    let mut digits = [0u8; 20];
-    let count = io::decimal(n as u64, &mut digits);
-    put_right(row, &digits[..count], width)
-}
-
-fn put_addition(row: Row, addition: Addition) -> Row {
-    match addition {
-        Addition::Found(added) => put_number(row, added.0, WIDTH),
-        Addition::None => put_right(row, b"-", WIDTH),
-    }
-}
-
-// The bands of the injected reading.
-fn bands_of(s: &[u8]) -> u32
-    ensures { result ≤ 3 }
-{
-    if sheet::injected_reading(s) == 1 {
-        3
-    } else {
-        1
-    }
-}
-
-fn say_headings(rt: &HostRuntime, bands: u32) -> bool {
-    let row = output::put_text(output::no_text(), b"month");
-    if bands == 1 {
-        return say(rt, put_right(row, b"single", WIDTH));
-    }
-    let first = put_right(row, b"F1", WIDTH);
-    let second = put_right(first, b"F2", WIDTH);
-    say(rt, put_right(second, b"F3", WIDTH))
-}
-
-fn say_month(rt: &HostRuntime, book: &[u8], s: &[u8], month: u32, bands: u32) -> bool
-    requires { bands ≤ 3 }
-{
-    let mut row = put_number(output::no_text(), month, MONTH);
-    for band in 0..bands {
-        let answer = call_more_sun::more_sun(book, s, month, band + 1);
-        let addition = answer.addition;
-        row = put_addition(row, addition);
-    }
-    say(rt, row)
-}
-
-fn say_table(rt: &HostRuntime, book: &[u8], s: &[u8]) -> bool {
-    let bands = bands_of(s);
-    if !say_headings(rt, bands) {
-        return false;
-    }
-    for month in 0..12 {
-        if !say_month(rt, book, s, month + 1, bands) {
-            return false;
+impl fmt::Display for Column {
+    fn fmt<W: fmt::Write>(&self, f: &mut fmt::Formatter<W>) -> fmt::Result {
+        match self.0 {
+            Addition::Found(added) => write!(f, "{:>11}", added.0),
+            Addition::None => write!(f, "{:>11}", "-"),
         }
     }
-    true
+}
+
+fn least(book: &[u8], s: &[u8], month: u32, band: u32) -> Column {
+    Column(call_more_sun::more_sun(book, s, month, band).addition)
+}
+
+fn say_table(out: &mut Printer, book: &[u8], s: &[u8]) -> Result<(), Failure> {
+    let by_bands = sheet::injected_reading(s) == 1;
+    if by_bands {
+        out.line(format_args!("month{:>11}{:>11}{:>11}", "F1", "F2", "F3"))?;
+    } else {
+        out.line(format_args!("month{:>11}", "single"))?;
+    }
+    for month in 1..=12 {
+        let first = least(book, s, month, 1);
+        if by_bands {
+            let second = least(book, s, month, 2);
+            let third = least(book, s, month, 3);
+            out.line(format_args!("{month:>5}{first}{second}{third}"))?;
+        } else {
+            out.line(format_args!("{month:>5}{first}"))?;
+        }
+    }
+    Ok(())
 }
 
 // After a 13 or 19 the month and the place of the number at fault are told too.
-fn say_refused(rt: &HostRuntime, reply: Reply, position: Position) -> bool {
-    let row = output::put_text(output::no_text(), b"refused");
-    let refused = output::put_field(row, reply.refusal as u64);
-    if position.month == 0 {
-        return say(rt, refused);
+fn say_refused(out: &mut Printer, reply: Reply, position: Position) -> Result<(), Failure> {
+    let refusal = reply.refusal;
+    let Position { month, place } = position;
+    if month == 0 {
+        out.line(format_args!("refused {refusal}"))
+    } else {
+        out.line(format_args!("refused {refusal} {month} {place}"))
     }
-    let month = output::put_field(refused, position.month as u64);
-    say(rt, output::put_field(month, position.place as u64))
 }
 
 // Every reading has the first band, so what is refused of it is refused of all.
-fn answer(rt: &HostRuntime, book: &[u8], s: &[u8]) -> bool {
+fn answer(out: &mut Printer, book: &[u8], s: &[u8]) -> Result<(), Failure> {
     let first = call_more_sun::more_sun(book, s, 1, 1);
-    let reply = first.reply;
-    if reply.refusal != 0 {
-        return say_refused(rt, reply, first.position);
+    if first.reply.refusal != 0 {
+        return say_refused(out, first.reply, first.position);
     }
-    say_table(rt, book, s)
+    say_table(out, book, s)
 }
 
 // The sheet whose file is named, and then the book on standard input.
-fn answer_files(rt: &HostRuntime, path: &[u8]) {
-    let mut s = [0u8; SHEET];
-    let size = match input::read_file(rt, path, &mut s) {
-        Input::Read(size) => size,
-        Input::Failed(e) => {
-            output::fail(&mut rt.stderr(), b"more_sun: sheet", e);
-            return;
-        }
-    };
-    let mut book = input::book_buffer();
-    let count = match input::read_book(&mut rt.stdin(), &mut book) {
-        Input::Read(count) => count,
-        Input::Failed(e) => {
-            output::fail(&mut rt.stderr(), b"more_sun: standard input", e);
-            return;
-        }
-    };
-    answer(rt, text::front(&book, count), text::front(&s, size));
+fn run(rt: &HostRuntime) -> Result<(), Failure> {
+    let mut path = [0u8; PATH];
+    let path = output::only_argument(rt, &mut path).ok_or(Failure::Use)?;
+    let mut s = Vec::new(rt.alloc());
+    input::read_file_into(rt, path, SHEET, &mut s).map_err(Failure::Sheet)?;
+    let mut book = Vec::new(rt.alloc());
+    input::read_book_into(&mut rt.stdin(), &mut book).map_err(Failure::Input)?;
+    answer(&mut Printer::new(rt.alloc(), rt.stdout()), &book, &s)
 }
 
 fn main(rt: HostRuntime) {
-    let mut path = [0u8; PATH];
-    match rt.arg(1, &mut path) {
-        Ok(length) if !output::has_argument(&rt, 2) => answer_files(&rt, &path[..length]),
-        _ => output::tell_use(
-            &mut rt.stderr(),
-            b"more_sun: give the file of a year sheet, and the book on standard input\n",
-        ),
-    }
+    let outcome = run(&rt);
+    output::report(&mut rt.stderr(), "more_sun", USAGE, outcome);
 }
