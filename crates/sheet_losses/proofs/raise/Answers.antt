@@ -15,13 +15,6 @@ returns-then-factor-gt-MAX_FACTOR c =
     let all = refused-factor c.args.factor c.args.sheet.now fits c.if-factor-gt-MAX_FACTOR.true in
     record { answer = all.0; after = all.1 }
 
-pub raised_year-requires : goal.raised_year-requires
-raised_year-requires c =
-    record { whole_sheet = form-length c.args.sheet.now (sym c.form_fits.ensures ∙ c.if-not-form_fits.false); factor_bound = c.if-factor-gt-MAX_FACTOR.false }
-
-pub write_year-requires : goal.write_year-requires
-write_year-requires c = form-length c.args.sheet.now (sym c.form_fits.ensures ∙ c.if-not-form_fits.false)
-
 pub returns-in_err-months-clause-answer : goal.returns-in_err-months-clause-answer
 returns-in_err-months-clause-answer c =
     let fits = sym c.form_fits.ensures ∙ c.if-not-form_fits.false in
@@ -39,3 +32,10 @@ returns c =
     let fits = sym c.form_fits.ensures ∙ c.if-not-form_fits.false in
     let all = accepted c.args.factor c.args.sheet.now fits c.if-factor-gt-MAX_FACTOR.false c.in_ok-months.ensures c.write_year.ensures in
     record { answer = all.0; after = all.1 }
+
+pub raised_year-requires : goal.raised_year-requires
+raised_year-requires c =
+    record { whole_sheet = form-length c.args.sheet.now (sym c.form_fits.ensures ∙ c.if-not-form_fits.false); factor_bound = c.if-factor-gt-MAX_FACTOR.false }
+
+pub write_year-requires : goal.write_year-requires
+write_year-requires c = form-length c.args.sheet.now (sym c.form_fits.ensures ∙ c.if-not-form_fits.false)
