@@ -1,6 +1,7 @@
 -- What the format of an amount prints is the amount.
-use Rattle.std.proofs.Common.{◌≡◌, ℕ, zero, suc, ◌+◌, ◌-◌, ◌*◌, ◌/◌, ◌%◌, ◌<◌, ◌≤◌, ◌^◌, Bool, true, false, List, [], ◌∷◌, ◌++◌, length, refl, sym, ap, ◌∙◌, append_assoc, append-nil, length-append, arith, rules}
-use Rattle.std.proofs.lemmas.Bool.{lt-ltb, le-ltb}
+use Rattle.std.proofs.Common.{◌≡◌, ℕ, zero, suc, ◌+◌, ◌-◌, ◌/◌, ◌%◌, ◌<◌, ◌≤◌, ◌^◌, Bool, true, false, List, [], ◌∷◌, ◌++◌, length}
+use Rattle.std.proofs.Common.{refl, sym, ap, ◌∙◌, append_assoc, append-nil, length-append, arith}
+use Rattle.std.proofs.lemmas.Bool.{lt-ltb}
 use Rattle.std.proofs.lemmas.Fmt.{length-decimal-le, decimal_digit, decimal_by_steps}
 use Rattle.std.specs.Prelude.{replicate}
 use Rattle.std.specs.Prelude.{ℤ, pos, negsuc, ◌-ℤ◌}
@@ -8,7 +9,7 @@ use Rattle.std.specs.Int.{w64}
 use Rattle.std.proofs.Common.{to_z, of_z}
 use Rattle.std.proofs.lemmas.Int.{to_z_pos, to_z-of_z}
 use Rattle.std.specs.List.{repeat}
-use Rattle.std.specs.Fmt.{decimal, styled_decimal, styled_signed_decimal, format_spec, padded_integral, padded, char_count, take_chars, sign_text}
+use Rattle.std.specs.Fmt.{decimal, styled_signed_decimal, format_spec, padded_integral, padded, char_count, take_chars, sign_text}
 use Rattle.account.specs.Amounts.{amount, last_digits, blanks_before}
 
 repeat_one : (k b : ℕ) → repeat k (b ∷ []) ≡ replicate k b
@@ -21,7 +22,8 @@ assembled p q sign ds e =
     rw (none, repeat_one, e) (simp (append-nil, append_assoc) refl)
 
 -- digits at the right of twelve places, behind a sign
-pub right : (negative : Bool) (ds : List ℕ) → padded_integral (format_spec 32 3 0 12 18446744073709551615) negative [] ds ≡ replicate (12 - length (sign_text negative ++ ds)) 32 ++ (sign_text negative ++ ds)
+pub right : (negative : Bool) (ds : List ℕ) → padded_integral (format_spec 32 3 0 12 18446744073709551615) negative [] ds
+    ≡ replicate (12 - length (sign_text negative ++ ds)) 32 ++ (sign_text negative ++ ds)
 unfolding padded_integral char_count lib.Utf8.encode
 right true ds = assembled (12 - length ds - 1 - 0) (12 - suc (length ds)) (45 ∷ []) ds (omega arith)
 right false ds = assembled (12 - length ds - 0 - 0) (12 - length ds) [] ds (omega arith)

@@ -1,5 +1,5 @@
 -- A balance and its bits: the two cases of the difference, its range, and that its bits read back.
-use Rattle.std.proofs.Common.{◌≡◌, ℕ, zero, suc, ◌+◌, ◌-◌, ◌%◌, ◌^◌, ◌<◌, ◌≤◌, ◌⊎◌, ℤ, pos, negsuc, ◌-ℤ◌, refl, ap, ◌∙◌, inl, inr, arith, to_z-of_z, w64, SFits, to_z, of_z, le-ltb, lt-ltb}
+use Rattle.std.proofs.Common.{◌≡◌, ℕ, zero, suc, ◌-◌, ◌^◌, ◌<◌, ◌≤◌, ◌⊎◌, ℤ, pos, negsuc, ◌-ℤ◌, refl, ap, ◌∙◌, inl, inr, arith, to_z-of_z, w64, SFits, to_z, of_z, le-ltb, lt-ltb}
 use native.Mathlib.Decide.{dec_lt}
 use lib.IntN.{sub_ℕ}
 use lib.Signed.{mag}
@@ -18,14 +18,6 @@ balance-above x a h = difference x a ∙ rw (le-ltb x a h) refl
 pub balance-below : (x a : ℕ) → x < a → balance_of x a ≡ negsuc (a - suc x)
 unfolding balance_of
 balance-below x a h = difference x a ∙ rw (lt-ltb x a h) refl
-
--- the difference of 64 bits, modulo 2^64, is the balance's bits
-pub wrapped-bits : (x a r : ℕ) → x < 2 ^ 64 → a < 2 ^ 64 → r < 2 ^ 64 → (r + a) % 2 ^ 64 ≡ x → r ≡ of_z w64 (balance_of x a)
-wrapped-bits x a r hx ha hr e = either (dec_lt x a)
-  where
-    either : Dec (x < a) → r ≡ of_z w64 (balance_of x a)
-    either (yes below) = rw (balance-below x a below) (omega arith)
-    either (no m) = rw (balance-above x a (omega arith)) (omega arith)
 
 -- the two cases, for a fact about every balance
 by_sign : (P : ℤ → Type 0) (x a : ℕ) → ((n : ℕ) → n ≤ x → P (pos n)) → ((n : ℕ) → n < a → P (negsuc n)) → P (balance_of x a)

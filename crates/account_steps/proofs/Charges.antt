@@ -34,8 +34,3 @@ positive-balance contribution advances = by_size (dec_lt contribution advances)
     by_size : Dec (contribution < advances) → positive_part (balance_of contribution advances) ≡ contribution - advances
     by_size (yes below) = rw (balance-below contribution advances below) (omega arith)
     by_size (no above) = rw (balance-above contribution advances (omega (arith, above))) refl
-
-pub closing-parts : (rest contribution advances liquidation : ℕ) {positive first left second : ℕ} → positive ≡ contribution - advances → first ≡ withheld_from rest positive
-    → left ≡ rest - first → second ≡ withheld_from left liquidation → first + second ≡ withheld_at_closing rest (balance_of contribution advances) liquidation
-unfolding withheld_at_closing
-closing-parts rest contribution advances liquidation p f l s = rw (s, l, f, p, positive-balance contribution advances)

@@ -1,6 +1,6 @@
 -- What the sums of a closing come to, and the ranges they keep, over plain numbers: each law by the two options, each
 -- option by linear arithmetic.
-use Rattle.std.proofs.Common.{◌≡◌, ℕ, ◌+◌, ◌-◌, ◌*◌, ◌≤◌, min, Bool, true, false, cond, refl, arith, eq-eqb, ne_eqb}
+use Rattle.std.proofs.Common.{◌≡◌, ℕ, ◌+◌, ◌-◌, ◌*◌, ◌≤◌, min, Bool, true, false, cond, arith}
 use Rattle.units.specs.Limits.{max_year_ticks, max_flat_rate, max_contribution}
 use Rattle.units.proofs.Bools.{cond-capped}
 use Rattle.account_steps.specs.Closing.{liquidates, contribution_of, liquidation_of, lapsed_of, credit_after}
@@ -43,14 +43,3 @@ credit-at-most option k c o = cond-capped (liquidates option) (omega arith) (ome
 -- "Credit is at most 3.6·10^14 times the closed years"
 pub credit-capped : (option k c o n : ℕ) → k ≤ max_year_ticks * n → c ≤ max_year_ticks → credit_after option k c o ≤ max_year_ticks * (n + 1)
 credit-capped option k c o n hk hc = omega (arith, credit-at-most option k c o)
-
--- the contribution of each option, as the program adds it up: `covered` is min(O, C), `used` the credit that is used
-pub contribution-liquidated : (option k c o f covered : ℕ) → option ≡ 1 → covered ≡ min o c → covered + f ≡ contribution_of option k c o f
-unfolding contribution_of
-contribution-liquidated option k c o f covered e p = rw (eq-eqb option 1 e, p) refl
-
-pub contribution-carried : (option k c o f covered used : ℕ)
-    → (option ≡ 1 → ⊥) → covered ≡ min o c → used ≡ min k (o - c)
-    → covered + used + f ≡ contribution_of option k c o f
-unfolding contribution_of
-contribution-carried option k c o f covered used e p q = rw (ne_eqb option 1 e, p, q) refl

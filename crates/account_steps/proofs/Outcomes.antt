@@ -1,7 +1,6 @@
 -- An outcome holds document 01's liquidation, lapsed credit and credit: by the two options.
-use Rattle.std.proofs.Common.{◌≡◌, ℕ, ◌+◌, ◌-◌, Bool, true, false, cond, refl, ap, eq-eqb, ne_eqb}
+use Rattle.std.proofs.Common.{◌≡◌, ℕ, ◌+◌, ◌-◌, Bool, true, false, cond, refl}
 use Rattle.units.specs.Units.{ticks}
-use Rattle.units.specs.declared.Ticks.{Ticks}
 use Rattle.account_steps.specs.declared.Outcome.{Outcome}
 use Rattle.account_steps.specs.declared.Outcome.TheVariants.{Carried, Liquidated}
 use Rattle.account_steps.specs.Closing.{liquidates, liquidation_of, lapsed_of, credit_after}
@@ -38,14 +37,3 @@ credit-by false k c o = refl
 pub outcome-credit : (option k c o : ℕ) → credit_in (outcome_of option k c o) ≡ credit_after option k c o
 unfolding outcome_of liquidation_of lapsed_of credit_after
 outcome-credit option k c o = credit-by (liquidates option) k c o
-
--- the outcome of each option, as the program makes it
-pub outcome-liquidated : (option k c o : ℕ) (amount : Ticks)
-    → option ≡ 1 → amount.0 ≡ c - o → Liquidated amount (ticks k) ≡ outcome_of option k c o
-unfolding outcome_of liquidation_of lapsed_of credit_after
-outcome-liquidated option k c o amount e p = rw (eq-eqb option 1 e) (ap (λ n. Liquidated (ticks n) (ticks k)) p)
-
-pub outcome-carried : (option k c o : ℕ) (credit : Ticks)
-    → (option ≡ 1 → ⊥) → credit.0 ≡ k + c - o → Carried credit ≡ outcome_of option k c o
-unfolding outcome_of liquidation_of lapsed_of credit_after
-outcome-carried option k c o credit e p = rw (ne_eqb option 1 e) (ap (λ n. Carried (ticks n)) p)

@@ -1,27 +1,12 @@
 -- A settlement, and an account after a closing, are what document 01 says once their parts are.
-use Rattle.std.proofs.Common.{◌≡◌, ℕ, ◌+◌, ap, ◌∙◌}
+use Rattle.std.proofs.Common.{◌≡◌, ◌+◌, ap, ◌∙◌}
 use Rattle.units.specs.Units.{ticks}
 use Rattle.units.specs.declared.Ticks.{Ticks}
 use Rattle.sheet_values.specs.declared.YearValues.{YearValues}
 use Rattle.account_steps.specs.declared.Account.{Account}
-use Rattle.account_steps.specs.declared.Balance.{Balance}
-use Rattle.account_steps.specs.declared.Outcome.{Outcome}
 use Rattle.account_steps.specs.declared.Settlement.{Settlement}
-use Rattle.account_steps.specs.Closing.{contribution_of, balance_of}
-use Rattle.account_steps.specs.Account.{balance_bits, outcome_of, credit_in, settlement_of, account_closed, closed_of}
+use Rattle.account_steps.specs.Account.{credit_in, settlement_of, account_closed, closed_of}
 use Rattle.account_steps.proofs.Outcomes.{outcome-credit}
-
-pub settlement-of-parts : (option k a c o f : ℕ) (due : Ticks) (balance : Balance) (outcome : Outcome)
-    → due.0 ≡ contribution_of option k c o f → balance ≡ balance_bits (balance_of due.0 a) → outcome ≡ outcome_of option k c o
-    → record { contribution = due; balance = balance; outcome = outcome } ≡ settlement_of option k a c o f
-unfolding settlement_of
-settlement-of-parts option k a c o f due balance outcome p q r =
-    λ i.
-    record {
-      contribution = ticks (p i);
-      balance = (q ∙ ap (λ n. balance_bits (balance_of n a)) p) i;
-      outcome = r i;
-    }
 
 module _ (v : YearValues) (a : Account) where
   abbrev after : Ticks → Account

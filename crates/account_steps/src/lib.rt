@@ -118,7 +118,6 @@ fn contribution_of(option: u8, credit: Ticks, values: YearValues) -> Ticks
 }
 
 /// What a closing does with the credit before it.
-#[tactic(auto, unfolding(crate::specs::Account::outcome_of, crate::specs::Closing::liquidation_of, crate::specs::Closing::lapsed_of, crate::specs::Closing::credit_after))]
 pub fn outcome_of(option: u8, credit: Ticks, value: Ticks, cost: Ticks) -> Outcome
     requires { credit.0 + value.0 < 2 ^ 64 }
     ensures { result ≡ outcome_of option credit.0 value.0 cost.0 }

@@ -25,7 +25,7 @@ pub digit-bounds : (b : ℕ) → is_digit b ≡ true → (48 ≤ b) × (b ≤ 57
 unfolding is_digit
 digit-bounds b e = (leb-true 48 b (and_left (leb 48 b) (leb b 57) e), leb-true b 57 (and_right (leb 48 b) (leb b 57) e))
 
-pub digit-inside : (s : List ℕ) (k : ℕ) → is_digit (get_or s k 0) ≡ true → k < length s
+digit-inside : (s : List ℕ) (k : ℕ) → is_digit (get_or s k 0) ≡ true → k < length s
 digit-inside s k e = let b = digit-bounds (get_or s k 0) e in inside s k (λ z. omega arith)
 
 -- a digit more
@@ -56,7 +56,7 @@ value_none n s k e = either (dec_lt k (length s))
     either (no m) = let end : length s ≤ k = omega (arith, m) in rw (drop_of_length-le s end)
 
 -- more digits make no smaller number
-pub value-least : (n : ℕ) (t : List ℕ) → n ≤ value_after n t
+value-least : (n : ℕ) (t : List ℕ) → n ≤ value_after n t
 unfolding value_after
 value-least n [] = omega arith
 value-least n (b ∷ bs) = by-test (is_digit b) (value-least (n * 10 + (b - 48)) bs)

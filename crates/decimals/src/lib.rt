@@ -36,7 +36,7 @@ pub fn write_field(out: &mut [u8], at: usize, n: u64, stop: u8) -> usize
 }
 
 #[tactic(auto, unfolding(crate::specs::Decimals::is_digit))]
-pub fn is_digit(b: u8) -> bool
+fn is_digit(b: u8) -> bool
     ensures { result ≡ is_digit b }
 {
     b.is_ascii_digit()
