@@ -35,7 +35,7 @@ five ds =
     let same : 5 - length ds - 0 - 0 ≡ 5 - length ds = omega arith in
     simp append-nil (ap (λ (k : ℕ). replicate k 48 ++ ds) same)
 
-pub blanks : (n : ℕ) → blanks_before (n + 6) ≡ suc (12 - n)
+blanks : (n : ℕ) → blanks_before (n + 6) ≡ suc (12 - n)
 blanks n = grind arith
 
 one_more : (k b : ℕ) → replicate k b ++ (b ∷ []) ≡ b ∷ replicate k b

@@ -5,8 +5,7 @@
 
 ghost use Rattle.std.specs.Prelude.{◌≡◌, true, false, ◌≢◌, Some};
 ghost use Rattle.std.specs.Prelude.{unsigned_abs};
-ghost use Rattle.std.specs.Int.{is_negative, w64};
-ghost use Rattle.std.proofs.Common.{to_z};
+ghost use Rattle.std.specs.Int.{is_negative};
 ghost use Rattle.account.specs.Amounts.{amount};
 ghost use Rattle.book_rules.specs.Book.{is_user};
 ghost use Rattle.check_book.specs.Verdicts.{Accepted};
@@ -46,13 +45,12 @@ impl From<Ticks> for Amount {
 }
 
 impl From<Balance> for Amount {
-    ghost from_gives = { λ balance a. (a.is_negative ≡ is_negative (to_z w64 balance.0)) × (a.ticks ≡ unsigned_abs (to_z w64 balance.0)) };
+    ghost from_gives = { λ balance a. (a.is_negative ≡ is_negative balance.0) × (a.ticks ≡ unsigned_abs balance.0) };
 
     fn from(balance: Balance) -> Amount {
-        let ticks = account_steps::signed(balance);
         Amount {
-            is_negative: ticks < 0,
-            ticks: ticks.unsigned_abs(),
+            is_negative: balance.0 < 0,
+            ticks: balance.0.unsigned_abs(),
         }
     }
 }

@@ -1,13 +1,11 @@
 -- The sum of the user's third demand (docs/DEMANDS.md), "advances of closed years plus balances, less flat-rate parts, plus
 -- liquidations, plus lapsed credit, plus standing credit", of sums as the program holds them.
 use Rattle.std.specs.Prelude.{◌^◌, ◌<◌, ℤ, pos, nat_abs, ◌+ℤ◌, ◌-ℤ◌}
-use Rattle.std.specs.Int.{w64}
-use Rattle.std.proofs.Common.{to_z}
 use Rattle.statements.specs.declared.Sums.{Sums}
 
 unfoldable pub conserved_in : Sums → ℤ
 conserved_in s =
-    ((((pos s.closed_advances.0 +ℤ to_z w64 s.balance.0) -ℤ pos s.flat_rate.0) +ℤ pos s.liquidation.0)
+    ((((pos s.closed_advances.0 +ℤ s.balance.0) -ℤ pos s.flat_rate.0) +ℤ pos s.liquidation.0)
     +ℤ pos s.lapsed.0)
     +ℤ pos s.credit.0
 
@@ -18,5 +16,5 @@ pub record Small (s : Sums) : Type 0 where
   pub flat_rate : s.flat_rate.0 < 2 ^ 59
   pub liquidation : s.liquidation.0 < 2 ^ 59
   pub lapsed : s.lapsed.0 < 2 ^ 62
-  pub balance : nat_abs (to_z w64 s.balance.0) < 2 ^ 59
+  pub balance : nat_abs s.balance.0 < 2 ^ 59
   pub closed_advances : s.closed_advances.0 < 2 ^ 59

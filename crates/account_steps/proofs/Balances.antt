@@ -1,11 +1,12 @@
--- A balance and its bits: the two cases of the difference, its range, and that its bits read back.
-use Rattle.std.proofs.Common.{◌≡◌, ℕ, zero, suc, ◌-◌, ◌^◌, ◌<◌, ◌≤◌, ◌⊎◌, ℤ, pos, negsuc, ◌-ℤ◌, refl, ap, ◌∙◌, inl, inr, arith, to_z-of_z, w64, SFits, to_z, of_z, le-ltb, lt-ltb}
+-- A balance: the two cases of the difference, its range, and that 64 bits hold it.
+use Rattle.std.proofs.Common.{◌≡◌, ℕ, zero, suc, ◌+◌, ◌-◌, ◌%◌, ◌^◌, ◌<◌, ◌≤◌, ℤ, pos, negsuc, neg_ℤ, ◌-ℤ◌, ◌≤ℤ◌, refl, ap, ◌∙◌, arith, SFits, le-ltb, lt-ltb}
+use Rattle.std.specs.Int.{w64, int_wrap, int_rem_euclid, cast_signed}
+use Rattle.std.specs.Prelude.{FitsSigned, unsigned_abs}
+use Rattle.std.proofs.lemmas.Int.{ints, int_wrap_fits}
 use native.Mathlib.Decide.{dec_lt}
 use lib.IntN.{sub_ℕ}
-use lib.Signed.{mag}
 use Rattle.units.specs.Limits.{max_year_ticks, max_contribution}
 use Rattle.account_steps.specs.Closing.{balance_of}
-use Rattle.account_steps.specs.Account.{balance_bits}
 
 difference : (x a : ℕ) → pos x -ℤ pos a ≡ sub_ℕ x a
 difference x zero = rw (le-ltb x 0 (omega arith)) (ap pos (omega arith))
@@ -19,28 +20,33 @@ pub balance-below : (x a : ℕ) → x < a → balance_of x a ≡ negsuc (a - suc
 unfolding balance_of
 balance-below x a h = difference x a ∙ rw (lt-ltb x a h) refl
 
+-- the difference modulo 2^64, read as a signed number
+pub wrapped-difference : (x a : ℕ) → x < 2 ^ 64 → a < 2 ^ 64 → cast_signed w64 ((x + (2 ^ 64 - a)) % 2 ^ 64) ≡ int_wrap w64 (balance_of x a)
+unfolding int_wrap
+wrapped-difference x a hx ha = ap (cast_signed w64) (either (dec_lt x a))
+  where
+    either : Dec (x < a) → (x + (2 ^ 64 - a)) % 2 ^ 64 ≡ unsigned_abs (int_rem_euclid (balance_of x a) (pos (2 ^ 64)))
+    either (yes below) = rw (balance-below x a below) (omega arith)
+    either (no m) = rw (balance-above x a (omega (arith, m))) (omega arith)
+
 -- the two cases, for a fact about every balance
-by_sign : (P : ℤ → Type 0) (x a : ℕ) → ((n : ℕ) → n ≤ x → P (pos n)) → ((n : ℕ) → n < a → P (negsuc n)) → P (balance_of x a)
+pub by_sign : (P : ℤ → Type 0) (x a : ℕ) → ((n : ℕ) → n ≤ x → P (pos n)) → ((n : ℕ) → n < a → P (negsuc n)) → P (balance_of x a)
 by_sign P x a above below = either (dec_lt x a)
   where
     either : Dec (x < a) → P (balance_of x a)
     either (yes h) = rw (balance-below x a h) (below (a - suc x) (omega arith))
     either (no h) = rw (balance-above x a (omega arith)) (above (x - a) (omega arith))
 
--- the same of its bits
-pub balance-bits-in-range : (x a : ℕ) → x ≤ max_contribution → a ≤ max_year_ticks
-    → (of_z w64 (balance_of x a) ≤ max_contribution) ⊎ (2 ^ 64 - max_year_ticks ≤ of_z w64 (balance_of x a))
-balance-bits-in-range x a hx ha =
-    by_sign (λ z. (of_z w64 z ≤ max_contribution) ⊎ (2 ^ 64 - max_year_ticks ≤ of_z w64 z)) x a (λ n h. inl (omega arith))
-    (λ n h. inr (omega arith))
-
-pub balance-fits : (x a : ℕ) → x < 2 ^ 63 → a < 2 ^ 63 → SFits w64 (balance_of x a)
+pub balance-fits : (x a : ℕ) → x < 2 ^ 63 → a < 2 ^ 63 → FitsSigned w64 (balance_of x a)
 balance-fits x a hx ha =
     by_sign (SFits w64) x a (λ n h. record { sfits = omega arith }) (λ n h. record { sfits = omega arith })
 
--- what the bits of a number are read as: the number itself, where 64 bits hold it
-pub signed_back : (z : ℤ) → mag z < 2 ^ 63 → to_z w64 (balance_bits z).0 ≡ z
-signed_back z h = to_z-of_z {w = w64} {z = z} (record { sfits = h })
+-- 64 bits hold it as it is
+pub balance-held : (x a : ℕ) → x < 2 ^ 63 → a < 2 ^ 63 → int_wrap w64 (balance_of x a) ≡ balance_of x a
+balance-held x a hx ha = int_wrap_fits w64 (balance_of x a) (balance-fits x a hx ha)
 
-pub balance-back : (x a : ℕ) → x < 2 ^ 63 → a < 2 ^ 63 → to_z w64 (balance_bits (balance_of x a)).0 ≡ balance_of x a
-balance-back x a hx ha = to_z-of_z {w = w64} {z = balance_of x a} (balance-fits x a hx ha)
+-- "balance from −3.6·10^14 to 1.08·10^15"
+pub balance-in-range : (x a : ℕ) → x ≤ max_contribution → a ≤ max_year_ticks
+    → (neg_ℤ (pos max_year_ticks) ≤ℤ int_wrap w64 (balance_of x a)) × (int_wrap w64 (balance_of x a) ≤ℤ pos max_contribution)
+unfolding balance_of
+balance-in-range x a hx ha = rw (balance-held x a (omega arith) (omega arith)) (omega (arith, ints), omega (arith, ints))

@@ -1,7 +1,6 @@
 -- An account by value, and what an election, an advance and a closing make of it ("Closing", "Election and advances").
 use Rattle.std.specs.Prelude.{ℕ, ◌+◌, ◌*◌, ◌<◌, ◌≤◌, cond, ℤ, ◌==◌}
-use Rattle.std.specs.Int.{w64}
-use Rattle.std.proofs.Common.{of_z}
+use Rattle.std.specs.Int.{w64, int_wrap}
 use Rattle.units.specs.Units.{ticks}
 use Rattle.units.specs.Limits.{max_year_ticks, max_flat_rate, last_open_year, most_years}
 use Rattle.sheet_values.specs.declared.YearValues.{YearValues}
@@ -14,9 +13,12 @@ use Rattle.account_steps.specs.declared.Closed.{Closed}
 use Rattle.account_steps.specs.declared.ClosingSums.{ClosingSums}
 use Rattle.account_steps.specs.Closing.{liquidates, contribution_of, liquidation_of, lapsed_of, credit_after, balance_of}
 
--- a signed amount in two's complement
-abbrev pub balance_bits : ℤ → Balance
-balance_bits z = record { 0 = of_z w64 z }
+abbrev pub balance : ℤ → Balance
+balance z = record { 0 = z }
+
+-- what 64 bits hold of a signed amount: the amount itself from −2^63 to below 2^63, as every balance of amounts in their ranges is
+abbrev pub held_balance : ℤ → Balance
+held_balance z = balance (int_wrap w64 z)
 
 -- the result of a closing: carried with its credit, or liquidated with amount and lapse
 unfoldable pub outcome_of : ℕ → ℕ → ℕ → ℕ → Outcome
@@ -41,7 +43,7 @@ unfoldable pub settlement_of : ℕ → ℕ → ℕ → ℕ → ℕ → ℕ → S
 settlement_of option k a c o f =
     record {
       contribution = ticks (contribution_of option k c o f);
-      balance = balance_bits (balance_of (contribution_of option k c o f) a);
+      balance = held_balance (balance_of (contribution_of option k c o f) a);
       outcome = outcome_of option k c o;
     }
 
@@ -103,7 +105,7 @@ settled a v =
       liquidation = ticks (liquidation_of a.option v.value.0 v.cost.0);
       lapsed = ticks (lapsed_of a.option a.credit.0);
       balance =
-          balance_bits (balance_of (contribution_of a.option a.credit.0 v.value.0 v.cost.0 v.flat_rate.0)
+          held_balance (balance_of (contribution_of a.option a.credit.0 v.value.0 v.cost.0 v.flat_rate.0)
           a.advances.0);
     }
 

@@ -2,33 +2,32 @@
 // after it (document 01, "Closing", "Election and advances").
 #![tactic(auto)]
 
-ghost use Rattle.std.specs.Prelude.{◌≡◌, ◌+◌, ◌^◌, ◌<◌, ◌≤◌};
+ghost use Rattle.std.specs.Prelude.{◌≡◌, ◌+◌, ◌^◌, ◌<◌, ◌≤◌, ◌+ℤ◌, FitsSigned};
 ghost use Rattle.std.specs.Int.{w64};
-ghost use Rattle.std.proofs.Common.{to_z};
 ghost use Rattle.units.specs.Units.{ticks};
 ghost use Rattle.units.specs.Limits.{max_year_ticks, max_flat_rate, max_charge};
 ghost use Rattle.units.specs.InnerWithin.{TicksWithin};
 ghost use Rattle.account_steps.specs.Closing.{contribution_of, balance_of};
 ghost use Rattle.account_steps.specs.Charges.{charge_of, withheld_from, withheld_at_closing, account_charged, account_withheld};
-ghost use Rattle.account_steps.specs.Account.{balance_bits, outcome_of, settlement_of};
+ghost use Rattle.account_steps.specs.Account.{held_balance, outcome_of, settlement_of};
 ghost use Rattle.account_steps.specs.Account.{account_elected, runs_in, advances_in, account_advanced, closed_of, SumsInRange, InRange};
 
 use sheet_values::{Details, YearValues};
+use std::ops::{Add, AddAssign};
 use units::{Kwh, MAX_CHARGE, Ticks, UserNumber};
 
 // The option that pays a year's surplus out ("Book": 0 credit, 1 liquidation).
 const LIQUIDATION: u8 = 1;
 
-// The bit that a negative number in two's complement has set: 2^63.
-const SIGN_BIT: u64 = 9223372036854775808;
-
-// The yearly charge (document 02, ticket 1): whether the open year is charged, 0 or 1, and what of all charges is still unpaid.
+/// The yearly charge (document 02, ticket 1): whether the open year is charged, 0 or 1, and what of all charges is still unpaid.
 #[derive(Clone, Copy, Debug, PartialEq, Eq)]
 pub struct Charge {
     pub made: u8,
     pub rest: Ticks,
 }
 
+/// A user's account. Option, runs and what `Charge` has made are numbers, as the details are: the check of a book reads them from any
+/// bytes and judges them, so an enum would want an account of the faulty ones beside it.
 #[derive(Clone, Copy)]
 pub struct Account {
     pub number: UserNumber,
@@ -45,19 +44,20 @@ pub struct Account {
     pub charge: Charge,
 }
 
-// A signed amount in ticks, as its 64 bits in two's complement.
-#[derive(Clone, Copy, Debug, PartialEq, Eq)]
-pub struct Balance(pub u64);
+/// A signed amount in ticks.
+#[derive(Clone, Copy, Debug, PartialEq, Eq, PartialOrd, Ord)]
+pub struct Balance(pub i64);
 
-// What a closing does with the credit.
+/// What a closing does with the credit.
 #[derive(Clone, Copy, Debug, PartialEq, Eq)]
 pub enum Outcome {
-    // The credit that stands afterwards.
+    /// The credit that stands afterwards.
     Carried(Ticks),
-    // The amount paid out, and the credit that lapses.
+    /// The amount paid out, and the credit that lapses.
     Liquidated(Ticks, Ticks),
 }
 
+/// What the closing of a year comes to.
 #[derive(Clone, Copy, Debug, PartialEq, Eq)]
 pub struct Settlement {
     pub contribution: Ticks,
@@ -65,13 +65,14 @@ pub struct Settlement {
     pub outcome: Outcome,
 }
 
+/// The account after a closing, and what the closing came to.
 #[derive(Clone, Copy)]
 pub struct Closed {
     pub account: Account,
     pub settlement: Settlement,
 }
 
-// The seven sums of a closing: what its entry keeps and its call answers.
+/// The seven sums of a closing: what its entry keeps and its call answers.
 #[derive(Clone, Copy, Debug, PartialEq, Eq)]
 pub struct ClosingSums {
     pub value: Ticks,
@@ -83,22 +84,36 @@ pub struct ClosingSums {
     pub balance: Balance,
 }
 
-/// "Balance = contribution − A", in two's complement.
-#[tactic(auto, unfolding(crate::specs::Closing::balance_of))]
-pub fn balance_bits(contribution: Ticks, advances: Ticks) -> Balance
-    ensures { result ≡ balance_bits (balance_of contribution.0 advances.0) }
+/// "Balance = contribution − A", of any amounts of 64 bits.
+pub fn balance_of(contribution: Ticks, advances: Ticks) -> Balance
+    ensures { result ≡ held_balance (balance_of contribution.0 advances.0) }
 {
-    Balance(contribution.0.wrapping_sub(advances.0))
+    Balance(contribution.0.wrapping_sub(advances.0).cast_signed())
 }
 
-// A balance as a signed number.
-pub fn signed(balance: Balance) -> i64
-    ensures { result ≡ to_z w64 balance.0 }
-{
-    if balance.0 < SIGN_BIT {
-        balance.0 as i64
-    } else {
-        -1 - ((u64::MAX - balance.0) as i64)
+impl Add for Balance {
+    ghost use Rattle.account_steps.specs.Account.{balance};
+
+    type Output = Balance;
+
+    ghost can_add = { λ a b. FitsSigned w64 (a.0 +ℤ b.0) };
+
+    ghost add_gives = { λ a b r. r ≡ balance (a.0 +ℤ b.0) };
+
+    fn add(self, other: Balance) -> Balance {
+        Balance(self.0 + other.0)
+    }
+}
+
+impl AddAssign for Balance {
+    ghost use Rattle.account_steps.specs.Account.{balance};
+
+    ghost can_add_assign = { λ a b. FitsSigned w64 (a.0 +ℤ b.0) };
+
+    ghost add_assign_gives = { λ a b r. r ≡ balance (a.0 +ℤ b.0) };
+
+    fn add_assign(&mut self, other: Balance) {
+        *self = *self + other;
     }
 }
 
@@ -216,7 +231,7 @@ fn settle(option: u8, credit: Ticks, advances: Ticks, values: YearValues) -> Set
     let contribution = contribution_of(option, credit, values);
     Settlement {
         contribution,
-        balance: balance_bits(contribution, advances),
+        balance: balance_of(contribution, advances),
         outcome: outcome_of(option, credit, values.value, values.cost),
     }
 }

@@ -1,15 +1,20 @@
 -- The image of a closing: its length and its zero bytes, what each field reads, and that the value read back is the one
 -- written. Each is the law of images at the list of its cells.
 use Prim.Native.Nat.{ℕ, ◌^◌, ◌<◌}
-use mathlib.Core.Path.{◌≡◌, refl}
+use mathlib.Core.Path.{◌≡◌, refl, ap, ◌∙◌}
 use mathlib.Core.Bool.{true}
 use mathlib.Core.List.{List}
 use lib.Dec.{lit<}
 use lib.ListN.{length}
+use mir.Facts.{Fits-of_z}
+use Rattle.std.specs.Prelude.{FitsSigned}
+use Rattle.std.specs.Int.{w64, cast_signed}
+use Rattle.std.proofs.lemmas.Int.{to_z-of_z}
 use Rattle.units.specs.Limits.{record_length}
 use Rattle.units.specs.Units.{ticks, record_index}
 use Rattle.book_layout.specs.Fields.{get, all_zero, unnamed_of_closing, image, closing_kind, balance_field, closing_option_field, contribution_field, cost_field, flat_rate_field, kind_field}
 use Rattle.book_layout.specs.Fields.{lapsed_field, liquidation_field, next_field, owner_field, withheld_field, value_field, year_field}
+use Rattle.account_steps.specs.Account.{balance}
 use Rattle.book_layout.proofs.Cells.{cell_at, length-image, read-image, unnamed-image}
 use Rattle.book_layout.proofs.ByteRanges.{Bytes, bytes-image}
 use Rattle.book_records.specs.declared.ClosingRecord.{ClosingRecord}
@@ -27,7 +32,7 @@ pub record ClosingFits (c : ClosingRecord) : Type 0 where
   pub contribution : c.sums.contribution.0 < 2 ^ 64
   pub liquidation : c.sums.liquidation.0 < 2 ^ 64
   pub lapsed : c.sums.lapsed.0 < 2 ^ 64
-  pub balance : c.sums.balance.0 < 2 ^ 64
+  pub balance : FitsSigned w64 c.sums.balance.0
   pub owner : c.owner.0 < 2 ^ 32
   pub withheld : c.withheld.0 < 2 ^ 64
 
@@ -43,7 +48,7 @@ pub record ClosingReads (c : ClosingRecord) (r : List ℕ) : Type 0 where
   pub contribution : get contribution_field r ≡ c.sums.contribution.0
   pub liquidation : get liquidation_field r ≡ c.sums.liquidation.0
   pub lapsed : get lapsed_field r ≡ c.sums.lapsed.0
-  pub balance : get balance_field r ≡ c.sums.balance.0
+  pub balance : cast_signed w64 (get balance_field r) ≡ c.sums.balance.0
   pub owner : get owner_field r ≡ c.owner.0
   pub withheld : get withheld_field r ≡ c.withheld.0
 
@@ -79,7 +84,7 @@ module _ (c : ClosingRecord) where
         contribution = read 7 h.contribution;
         liquidation = read 8 h.liquidation;
         lapsed = read 9 h.lapsed;
-        balance = read 10 h.balance;
+        balance = ap (cast_signed w64) (read 10 (Fits-of_z {w = w64} h.balance).fits) ∙ to_z-of_z w64 c.sums.balance.0 h.balance;
         owner = read 11 h.owner;
         withheld = read 12 h.withheld;
       }
@@ -101,7 +106,7 @@ closing-decoded c r h =
             contribution = ticks (h.contribution i);
             liquidation = ticks (h.liquidation i);
             lapsed = ticks (h.lapsed i);
-            balance = record { 0 = h.balance i };
+            balance = balance (h.balance i);
           };
       owner = record_index (h.owner i);
       withheld = ticks (h.withheld i);

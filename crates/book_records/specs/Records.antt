@@ -1,7 +1,9 @@
 -- A record of each kind by value: the cells of its image, and the value that a record's bytes hold.
 use Rattle.std.specs.Prelude.{ℕ, List, [], ◌∷◌}
+use Rattle.std.specs.Int.{w64, cast_signed, cast_unsigned}
 use Rattle.units.specs.Units.{kwh, ticks, user_number, record_index}
 use Rattle.account_steps.specs.declared.Account.{Account}
+use Rattle.account_steps.specs.Account.{balance}
 use Rattle.book_records.specs.declared.UserRecord.{UserRecord}
 use Rattle.book_records.specs.declared.AdvanceRecord.{AdvanceRecord}
 use Rattle.book_records.specs.declared.ClosingRecord.{ClosingRecord}
@@ -76,7 +78,7 @@ closing_cells c =
     ∷ (contribution_field holds c.sums.contribution.0)
     ∷ (liquidation_field holds c.sums.liquidation.0)
     ∷ (lapsed_field holds c.sums.lapsed.0)
-    ∷ (balance_field holds c.sums.balance.0)
+    ∷ (balance_field holds cast_unsigned w64 c.sums.balance.0)
     ∷ (owner_field holds c.owner.0)
     ∷ (withheld_field holds c.withheld.0)
     ∷ []
@@ -140,7 +142,7 @@ closing_in r =
             contribution = ticks (get contribution_field r);
             liquidation = ticks (get liquidation_field r);
             lapsed = ticks (get lapsed_field r);
-            balance = record { 0 = get balance_field r };
+            balance = balance (cast_signed w64 (get balance_field r));
           };
       owner = record_index (get owner_field r);
       withheld = ticks (get withheld_field r);

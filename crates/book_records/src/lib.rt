@@ -115,7 +115,7 @@ fn sums_of(r: &[u8]) -> ClosingSums
         contribution: Ticks(codec::read(r, place::CONTRIBUTION)),
         liquidation: Ticks(codec::read(r, place::LIQUIDATION)),
         lapsed: Ticks(codec::read(r, place::LAPSED)),
-        balance: Balance(codec::read(r, place::BALANCE)),
+        balance: Balance(codec::read::<u64>(r, place::BALANCE).cast_signed()),
     }
 }
 
@@ -232,7 +232,7 @@ pub fn closing_image(closing: ClosingRecord) -> [u8; RECORD_LENGTH]
     put(&mut image, place::CONTRIBUTION, sums.contribution.0);
     put(&mut image, place::LIQUIDATION, sums.liquidation.0);
     put(&mut image, place::LAPSED, sums.lapsed.0);
-    put(&mut image, place::BALANCE, sums.balance.0);
+    put(&mut image, place::BALANCE, sums.balance.0.cast_unsigned());
     put(&mut image, place::OWNER, closing.owner.0);
     put(&mut image, place::WITHHELD, closing.withheld.0);
     image

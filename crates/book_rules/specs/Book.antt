@@ -1,6 +1,7 @@
 -- "Book" of document 01: which records of a book are faulty, sentence by sentence, and when a book is sound. Every string
 -- of bytes has an answer: a record past the end has zeros in all its fields.
-use Rattle.std.specs.Prelude.{ℕ, ◌+◌, ◌-◌, ◌*◌, ◌/◌, ◌%◌, ◌^◌, Bool, false, cond, not, ◌&&◌, ◌||◌, List, [], ◌∷◌, leb, ltb, eqb, length}
+use Rattle.std.specs.Prelude.{ℕ, ◌+◌, ◌-◌, ◌*◌, ◌/◌, ◌%◌, Bool, false, cond, not, ◌&&◌, ◌||◌, List, [], ◌∷◌, leb, ltb, eqb, length}
+use Rattle.std.specs.Prelude.{ℤ, pos, negsuc, neg_ℤ, int_le}
 use Rattle.std.specs.Prelude.{replicate}
 use Rattle.units.specs.Limits.{record_length, max_year_ticks, max_flat_rate, max_contribution, max_charge, max_half_ticks, max_half_kwh}
 use Rattle.units.specs.Limits.{max_power}
@@ -154,13 +155,14 @@ advance_fits owner a =
     (year_fits owner (level_from a.year a.booked) && booked_fits a.year a.booked)
     && ((is_run a.run && leb a.ticks.0 max_year_ticks) && leb a.withheld.0 a.ticks.0)
 
--- "balance from −3.6·10^14 to 1.08·10^15" (in two's complement −x is 2^64 − x)
-unfoldable pub balance_fits : ℕ → Bool
-balance_fits bits = leb bits max_contribution || leb (2 ^ 64 - max_year_ticks) bits
+-- "balance from −3.6·10^14 to 1.08·10^15"
+unfoldable pub balance_fits : ℤ → Bool
+balance_fits z = int_le (neg_ℤ (pos max_year_ticks)) z && int_le z (pos max_contribution)
 
--- what a balance within its range pays, from its bits: nothing where it is negative
-unfoldable pub paid_balance : ℕ → ℕ
-paid_balance bits = cond (leb bits max_contribution) bits 0
+-- what a balance within its range pays: nothing where it is negative
+unfoldable pub paid_balance : ℤ → ℕ
+paid_balance (pos n) = cond (leb n max_contribution) n 0
+paid_balance (negsuc n) = 0
 
 -- What was withheld at a closing is at most what it pays, a positive balance and the liquidation (ticket 1).
 unfoldable pub withheld_fits : ClosingRecord → Bool

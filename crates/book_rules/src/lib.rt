@@ -26,8 +26,10 @@ const SHORTEST: usize = LEAST_RECORDS * RECORD_LENGTH;
 
 pub const LONGEST: usize = MOST_RECORDS * RECORD_LENGTH;
 
-// The least balance, in two's complement.
-const LEAST_BALANCE: u64 = u64::MAX - MAX_YEAR + 1;
+// "balance from −3.6·10^14 to 1.08·10^15"
+const LEAST_BALANCE: i64 = -(MAX_YEAR as i64);
+
+const MOST_BALANCE: i64 = MAX_CONTRIBUTION as i64;
 
 // Refusal 1 looks at this.
 pub fn length_fits(book: &[u8]) -> bool
@@ -254,18 +256,20 @@ fn advance_fits(activation: u16, open_year: u16, a: AdvanceRecord) -> bool
     }
 }
 
+#[tactic(auto, unfolding(crate::specs::Book::balance_fits))]
 fn balance_fits(balance: Balance) -> bool
     ensures { result ≡ balance_fits balance.0 }
 {
-    (balance.0 <= MAX_CONTRIBUTION) | (LEAST_BALANCE <= balance.0)
+    (LEAST_BALANCE <= balance.0) & (balance.0 <= MOST_BALANCE)
 }
 
-// What a balance pays.
+/// What a balance in its range pays: nothing where it is negative.
+#[tactic(auto, unfolding(crate::specs::Book::paid_balance))]
 pub fn paid_balance(balance: Balance) -> Ticks
     ensures { result.0 ≡ paid_balance balance.0 }
 {
-    if balance.0 <= MAX_CONTRIBUTION {
-        Ticks(balance.0)
+    if 0 <= balance.0 && balance.0 <= MOST_BALANCE {
+        Ticks(balance.0 as u64)
     } else {
         Ticks(0)
     }

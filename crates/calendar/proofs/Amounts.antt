@@ -1,13 +1,21 @@
 -- A run pays its amount or nothing, so that each half's most bounds it.
-use Rattle.std.proofs.Common.{◌≡◌, ℕ, ◌+◌, ◌*◌, ◌≤◌, cond, ap, ◌∙◌, arith}
+use Rattle.std.proofs.Common.{◌≡◌, ℕ, ◌+◌, ◌*◌, ◌≤◌, ◌<◌, cond, ap, ◌∙◌, arith}
 use Rattle.std.proofs.Math.Nat.{mul-le-mul}
 use Rattle.std.proofs.lemmas.Bool.Decides.{nat_tests}
 use Rattle.units.specs.declared.Ticks.{Ticks}
 use Rattle.units.specs.Units.{ticks}
 use Rattle.units.specs.Limits.{max_price, max_half_kwh, max_half_ticks}
 use Rattle.calendar.specs.declared.Halves.{Halves}
-use Rattle.calendar.specs.ElectionAndAdvances.{halves_count, paid_of, amount_of}
+use Rattle.calendar.specs.ElectionAndAdvances.{halves_count, threshold, paid_of, amount_of}
 use Rattle.units.specs.InnerWithin.{TicksWithin}
+
+pub paid-nothing : {amount : ℕ} → amount ≤ threshold → paid_of amount ≡ 0
+unfolding paid_of
+paid-nothing {amount} h = grind (arith, nat_tests)
+
+pub paid-whole : {amount : ℕ} → threshold < amount → paid_of amount ≡ amount
+unfolding paid_of
+paid-whole {amount} h = grind (arith, nat_tests)
 
 paid-at-most : (amount : ℕ) → paid_of amount ≤ amount
 unfolding paid_of

@@ -115,14 +115,14 @@ pub fn halves_paid(activation_year: u16, activation_month: u8, year: u16, run: u
 }
 
 // "A run of 1,500,000 ticks or less pays 0".
-const THRESHOLD: u64 = 1_500_000;
+const THRESHOLD: Ticks = Ticks(1_500_000);
 
 /// What a run of that amount pays.
 #[tactic(auto, unfolding(crate::specs::ElectionAndAdvances::paid_of))]
 pub fn paid_of(amount: Ticks) -> Ticks
     ensures { result ≡ ticks (paid_of amount.0) }
 {
-    if amount.0 <= THRESHOLD {
+    if amount <= THRESHOLD {
         Ticks(0)
     } else {
         amount
@@ -160,7 +160,6 @@ impl Halves {
 
     /// "The amount is the rate times the last closed year's half, or times that half's estimate if no year is closed; a run due
     /// for both halves pays their sum."
-    #[tactic(auto, unfolding(crate::specs::ElectionAndAdvances::halves_count, crate::specs::ElectionAndAdvances::amount_of))]
     pub fn amount(self, price: Rate, first: WideKwh, second: WideKwh) -> Ticks
         requires price_bound { price.0 ≤ max_price }
         requires halves_bound { (first.0 ≤ max_half_kwh) × (second.0 ≤ max_half_kwh) }
@@ -168,6 +167,6 @@ impl Halves {
     {
         let first = share(self.first, first, price);
         let second = share(self.second, second, price);
-        paid_of(Ticks(first.0 + second.0))
+        paid_of(first + second)
     }
 }

@@ -4,7 +4,7 @@ use Rattle.units.specs.Units.{ticks}
 use Rattle.sheet.specs.YearSheet.{sheet_user}
 use Rattle.sheet_values.specs.declared.YearValues.{YearValues}
 use Rattle.account_steps.specs.declared.Account.{Account}
-use Rattle.account_steps.specs.Account.{balance_bits, account_closed, settled, InRange}
+use Rattle.account_steps.specs.Account.{balance, account_closed, settled, InRange}
 use Rattle.account_steps.specs.Charges.{closing_withheld, account_withheld}
 use Rattle.book_records.specs.Entries.{closing_entry}
 use Rattle.call_rules.specs.Changes.{Change, enters}
@@ -25,7 +25,7 @@ no_sums =
       contribution = ticks 0;
       liquidation = ticks 0;
       lapsed = ticks 0;
-      balance = balance_bits (pos 0);
+      balance = balance (pos 0);
     }
 
 -- an answer beside a refusal

@@ -1,9 +1,11 @@
 -- A change that fits keeps a good book good, and what it leaves alone is one frame: one law for every call.
-use Prim.Native.Nat.{ℕ, ◌+◌, ◌^◌, ◌<◌}
+use Prim.Native.Nat.{ℕ, ◌+◌, ◌<◌}
 use mathlib.Core.Path.{◌≡◌, refl, sym, ap, ◌∙◌}
 use mathlib.Core.Bool.{true}
 use mathlib.Core.List.{List}
 use native.Mathlib.Nat.{le_refl, add-zero}
+use Rattle.std.specs.Int.{w64}
+use Rattle.std.specs.Prelude.{FitsSigned}
 use Rattle.units.specs.declared.Ticks.{Ticks}
 use Rattle.account_steps.specs.declared.Account.{Account}
 use Rattle.account_steps.specs.declared.ClosingSums.{ClosingSums}
@@ -27,7 +29,7 @@ use Rattle.call_keeps.proofs.NewEntries.{advance-entered, closing-entered}
 pub data Joins (a : Account) (y : ℕ) : Entry → Type 0 where
   an-advance : {year booked run : ℕ} {paid withheld : Ticks} → advance_fits a (advance_record 0 0 year booked run paid withheld) ≡ true → level_from year booked ≡ y
       → a.open_year ≡ y → Joins a y (advance_entry year booked run paid withheld)
-  a-closing : {option : ℕ} {s : ClosingSums} {withheld : Ticks} → closing_fits a (closing_record 0 0 y option s withheld) ≡ true → s.balance.0 < 2 ^ 64
+  a-closing : {option : ℕ} {s : ClosingSums} {withheld : Ticks} → closing_fits a (closing_record 0 0 y option s withheld) ≡ true → FitsSigned w64 s.balance.0
       → a.open_year ≡ y + 1 → Joins a y (closing_entry y option s withheld)
 
 -- a change of the user at i that fits the book

@@ -1,16 +1,14 @@
 -- An accepted closing keeps a sound book sound: each sum of the entry stays in its range, and the new account fits.
-use Prim.Native.Nat.{ℕ, ◌+◌, ◌-◌, ◌*◌, ◌^◌, ◌≤◌, ◌<◌}
-use mathlib.Core.Path.{◌≡◌, refl, sym}
-use mathlib.Core.Bool.{true, ◌||◌}
-use mathlib.Core.Logic.{◌⊎◌, inl, inr}
+use Prim.Native.Nat.{ℕ, ◌+◌, ◌-◌, ◌*◌, ◌≤◌}
+use mathlib.Core.Path.{◌≡◌, refl}
+use mathlib.Core.Bool.{true, ◌&&◌}
 use native.Mathlib.Nat.{le_trans}
 use native.Mathlib.Omega.{arith}
-use native.Mathlib.Decide.{dec_lt}
-use borrow.Author.Tests.{le-leb, lt-leb}
-use lib.Dec.{leb}
-use mir.Syntax.{w64}
-use mir.Val.{of_z}
-use mir.Facts.{Fits-of_z}
+use borrow.Author.Tests.{le-leb}
+use lib.IntN.{pos, neg_ℤ}
+use Rattle.std.specs.Int.{w64, int_wrap}
+use Rattle.std.specs.Prelude.{FitsSigned, int_le}
+use Rattle.std.proofs.lemmas.Int.{SFits-int_wrap}
 use Rattle.units.proofs.Bools.{and_both}
 use Rattle.units.specs.Units.{ticks}
 use Rattle.units.specs.Limits.{max_year_ticks, max_flat_rate, max_contribution, last_activation}
@@ -20,44 +18,29 @@ use Rattle.account_steps.specs.declared.Account.{Account}
 use Rattle.account_steps.specs.Account.{account_closed}
 use Rattle.account_steps.specs.Closing.{contribution_of, liquidation_of, lapsed_of, balance_of}
 use Rattle.account_steps.proofs.Closing.{contribution-capped, liquidation-capped, lapsed-at-most}
-use Rattle.account_steps.proofs.Balances.{balance-bits-in-range, balance-fits, balance-above, balance-below}
+use Rattle.account_steps.proofs.Balances.{balance-held, by_sign}
 use Rattle.account_steps.specs.Charges.{positive_part, closing_withheld, account_withheld}
-use Rattle.account_steps.proofs.Charges.{closing-paid, positive-balance}
+use Rattle.account_steps.proofs.Charges.{closing-paid}
 use Rattle.book_rules.specs.Book.{account_fits, year_fits, balance_fits, paid_balance, withheld_fits, closing_fits}
-use Rattle.call_keeps.proofs.Bools.{or-first, or-second}
 use Rattle.call_keeps.proofs.Widths.{account-within}
 use Rattle.call_keeps.proofs.Accounts.{closed-fits, withheld-fits}
 use Rattle.book_records.specs.Entries.{closing_entry, closing_record}
 use Rattle.call_keeps.proofs.Changes.{Joins, a-closing}
 use Rattle.account_steps.specs.Account.{settled}
 
--- the bits of a balance
-bits_fit : (x a : ℕ) → x ≤ max_contribution → a ≤ max_year_ticks → balance_fits (of_z w64 (balance_of x a)) ≡ true
+-- the balance of a closing, which 64 bits hold, is in its range, and pays its positive part
+balance-fits-range : (x a : ℕ) → x ≤ max_contribution → a ≤ max_year_ticks → balance_fits (int_wrap w64 (balance_of x a)) ≡ true
 unfolding balance_fits
-bits_fit x a hx ha = either (balance-bits-in-range x a hx ha)
-  where
-    bits : ℕ
-    bits = of_z w64 (balance_of x a)
+balance-fits-range x a hx ha =
+    rw (balance-held x a (omega arith) (omega arith))
+    (by_sign (λ z. (int_le (neg_ℤ (pos max_year_ticks)) z && int_le z (pos max_contribution)) ≡ true) x a (λ n h. le-leb n max_contribution (omega arith))
+    (λ n h. and_both (le-leb n (max_year_ticks - 1) (omega arith)) refl))
 
-    either : (bits ≤ max_contribution) ⊎ (2 ^ 64 - max_year_ticks ≤ bits) → (leb bits max_contribution || leb (2 ^ 64 - max_year_ticks) bits) ≡ true
-    either (inl low) = or-first (leb (2 ^ 64 - max_year_ticks) bits) (le-leb bits max_contribution low)
-    either (inr high) = or-second (leb bits max_contribution) (le-leb (2 ^ 64 - max_year_ticks) bits high)
-
-bits_below : (x a : ℕ) → x ≤ max_contribution → a ≤ max_year_ticks → of_z w64 (balance_of x a) < 2 ^ 64
-bits_below x a hx ha = (Fits-of_z {w = w64} {z = balance_of x a} (balance-fits x a (omega arith) (omega arith))).fits
-
--- what the bits of a balance pay is its positive part
-paid-bits : (x a : ℕ) → x ≤ max_contribution → a ≤ max_year_ticks → paid_balance (of_z w64 (balance_of x a)) ≡ positive_part (balance_of x a)
-unfolding paid_balance
-paid-bits x a hx ha = by_size (dec_lt x a)
-  where
-    by_size : Dec (x < a) → paid_balance (of_z w64 (balance_of x a)) ≡ positive_part (balance_of x a)
-    by_size (yes below) =
-        let bits : of_z w64 (balance_of x a) ≡ 2 ^ 64 + x - a = rw (balance-below x a below) (omega arith) in
-        rw (bits, lt-leb (2 ^ 64 + x - a) max_contribution (omega arith)) (omega (arith, positive-balance x a))
-    by_size (no above) =
-        let bits : of_z w64 (balance_of x a) ≡ x - a = rw (balance-above x a (omega (arith, above))) (omega arith) in
-        rw (bits, le-leb (x - a) max_contribution (omega arith)) (sym (positive-balance x a))
+paid-part : (x a : ℕ) → x ≤ max_contribution → a ≤ max_year_ticks → paid_balance (int_wrap w64 (balance_of x a)) ≡ positive_part (balance_of x a)
+unfolding paid_balance positive_part
+paid-part x a hx ha =
+    rw (balance-held x a (omega arith) (omega arith))
+    (by_sign (λ z. paid_balance z ≡ positive_part z) x a (λ n h. rw (le-leb n max_contribution (omega arith)) refl) (λ n h. refl))
 
 -- the account and the entry of a closed year
 pub record YearBooked (a : Account) (v : YearValues) : Type 0 where
@@ -76,9 +59,9 @@ module _ (a : Account) (v : YearValues) (before : account_fits a ≡ true) (valu
       let w = account-within a before in
       let due = contribution_of a.option a.credit.0 v.value.0 v.cost.0 v.flat_rate.0 in
       let liquidation = liquidation_of a.option v.value.0 v.cost.0 in
-      let paid = paid-bits due a.advances.0 contribution-below w.advances in
+      let paid = paid-part due a.advances.0 contribution-below w.advances in
       let most = closing-paid a.charge.rest.0 (balance_of due a.advances.0) liquidation in
-      le-leb (closing_withheld a v) (paid_balance (of_z w64 (balance_of due a.advances.0)) + liquidation) (omega (arith, paid, most))
+      le-leb (closing_withheld a v) (paid_balance (int_wrap w64 (balance_of due a.advances.0)) + liquidation) (omega (arith, paid, most))
 
   closing-in-range : closing_fits (account_withheld (closing_withheld a v) (account_closed v a)) (closing_record 0 0 a.open_year a.option (settled a v) (ticks (closing_withheld a v))) ≡ true
   unfolding closing_fits year_fits account_closed account_withheld settled
@@ -98,14 +81,12 @@ module _ (a : Account) (v : YearValues) (before : account_fits a ≡ true) (valu
       (le-leb (liquidation_of a.option v.value.0 v.cost.0) max_year_ticks (liquidation-capped a.option v.value.0 v.cost.0 values.value))
       (le-leb (lapsed_of a.option a.credit.0) (max_year_ticks * (a.open_year - a.details.year)) (le_trans lapsed w.credit)))
       (and_both
-      (bits_fit (contribution_of a.option a.credit.0 v.value.0 v.cost.0 v.flat_rate.0) a.advances.0 contribution-below w.advances)
+      (balance-fits-range (contribution_of a.option a.credit.0 v.value.0 v.cost.0 v.flat_rate.0) a.advances.0 contribution-below w.advances)
       held-in-range)))
 
-  balance-small : (settled a v).balance.0 < 2 ^ 64
+  balance-small : FitsSigned w64 (settled a v).balance.0
   unfolding settled
-  balance-small =
-      let w = account-within a before in
-      bits_below (contribution_of a.option a.credit.0 v.value.0 v.cost.0 v.flat_rate.0) a.advances.0 contribution-below w.advances
+  balance-small = SFits-int_wrap w64 (balance_of (contribution_of a.option a.credit.0 v.value.0 v.cost.0 v.flat_rate.0) a.advances.0)
 
   pub year-booked : a.open_year ≤ last_activation → YearBooked a v
   unfolding account_closed account_withheld

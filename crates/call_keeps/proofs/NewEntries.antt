@@ -7,6 +7,8 @@ use mathlib.Core.List.{List}
 use native.Mathlib.Omega.{arith}
 use borrow.Author.Tests.{eq-eqb, ne_eqb}
 use lib.Dec.{eqb}
+use Rattle.std.specs.Int.{w64}
+use Rattle.std.specs.Prelude.{FitsSigned}
 use Rattle.units.proofs.Bools.{and_both}
 use Rattle.account_steps.specs.declared.Account.{Account}
 use Rattle.book_layout.specs.Fields.{capacity, user_kind, advance_kind, closing_kind, first_entry_field}
@@ -100,7 +102,7 @@ module _ (b b' : List ℕ) (i : ℕ) (a : Account) (g : Good b) (h : is_user b i
         (entered b b' i a (advance_image x) g h same fits e new-advance room (an-entry (advance-entry b' (used b) is-advance) advance-good), (advance-entry b' (used b) is-advance, advance))
 
   -- a closing of the open year, which the next follows
-  module _ (x : ClosingRecord) (front : InFront b i x.next.0 x.owner.0 x.year) (ranges : closing_fits a x ≡ true) (balance : x.sums.balance.0 < 2 ^ 64)
+  module _ (x : ClosingRecord) (front : InFront b i x.next.0 x.owner.0 x.year) (ranges : closing_fits a x ≡ true) (balance : FitsSigned w64 x.sums.balance.0)
       (year : a.open_year ≡ open_year_of b i + 1) (e : EntryAdded b b' i a (closing_image x)) where
     closing : ClosingAt b' (used b) x
     closing =

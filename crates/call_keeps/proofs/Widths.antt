@@ -5,6 +5,9 @@ use mathlib.Core.Bool.{Bool, true, false, cond}
 use native.Mathlib.Omega.{arith}
 use borrow.Author.Tests.{leb-true, ltb-true, eqb-true}
 use lib.Dec.{leb, eqb}
+use lib.IntN.{ℤ, pos, negsuc}
+use Rattle.std.specs.Int.{w64}
+use Rattle.std.specs.Prelude.{FitsSigned}
 use Rattle.units.proofs.Bools.{and_right, cond-capped}
 use Rattle.units.specs.Units.{record_index}
 use Rattle.units.specs.Limits.{max_year_ticks, max_flat_rate, max_contribution, max_half_ticks, max_half_kwh, max_charge, last_open_year}
@@ -142,23 +145,24 @@ advance-widths owner x account h next own =
     run-below October = omega arith
     run-below January = omega arith
 
-pub paid-capped : (bits : ℕ) → paid_balance bits ≤ max_contribution
+pub paid-capped : (balance : ℤ) → paid_balance balance ≤ max_contribution
 unfolding paid_balance
-paid-capped bits = by_size (leb bits max_contribution) refl
+paid-capped (pos n) = by_size (leb n max_contribution) refl
   where
-    by_size : (t : Bool) → leb bits max_contribution ≡ t → cond t bits 0 ≤ max_contribution
-    by_size true e = leb-true bits max_contribution e
+    by_size : (t : Bool) → leb n max_contribution ≡ t → cond t n 0 ≤ max_contribution
+    by_size true e = leb-true n max_contribution e
     by_size false e = omega arith
+paid-capped (negsuc n) = omega arith
 
 held_below : (c : ClosingRecord) → withheld_fits c ≡ true → c.sums.liquidation.0 ≤ max_year_ticks → c.withheld.0 < 2 ^ 64
 unfolding withheld_fits
 held_below c h l =
-    let bits = c.sums.balance.0 in
-    let at_most = leb-true c.withheld.0 (paid_balance bits + c.sums.liquidation.0) h in
-    omega (arith, paid-capped bits)
+    let balance = c.sums.balance.0 in
+    let at_most = leb-true c.withheld.0 (paid_balance balance + c.sums.liquidation.0) h in
+    omega (arith, paid-capped balance)
 
 pub closing-widths : (owner : Account) (c : ClosingRecord) → account_fits owner ≡ true → closing_fits owner c ≡ true → c.next.0 < 2 ^ 32 → c.owner.0 < 2 ^ 32
-    → c.sums.balance.0 < 2 ^ 64 → ClosingFits c
+    → FitsSigned w64 c.sums.balance.0 → ClosingFits c
 unfolding closing_fits year_fits
 closing-widths owner c account h next own balance =
     let w = account-within owner account in

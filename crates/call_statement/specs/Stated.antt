@@ -1,7 +1,7 @@
 -- The sums that a statement answers: "A refusal .. answers zeros beside its number".
 use Rattle.std.specs.Prelude.{ℕ, cond, List, eqb, pos}
 use Rattle.units.specs.Units.{ticks}
-use Rattle.account_steps.specs.Account.{balance_bits}
+use Rattle.account_steps.specs.Account.{balance}
 use Rattle.chains.specs.Statements.{statement_at}
 use Rattle.book_rules.specs.Find.{find_user}
 use Rattle.statements.specs.declared.Sums.{Sums}
@@ -18,7 +18,7 @@ no_statement =
       contribution = ticks 0;
       liquidation = ticks 0;
       lapsed = ticks 0;
-      balance = balance_bits (pos 0);
+      balance = balance (pos 0);
       advances = ticks 0;
       closed_advances = ticks 0;
     }

@@ -1,17 +1,14 @@
 -- The ranges of an entry of a sound book, as facts.
-use Prim.Native.Nat.{ℕ, ◌-◌, ◌*◌, ◌^◌, ◌≤◌}
+use Prim.Native.Nat.{ℕ, ◌-◌, ◌*◌, ◌≤◌}
 use mathlib.Core.Path.{◌≡◌}
 use mathlib.Core.Bool.{true, not, ◌&&◌}
-use mathlib.Core.Logic.{⊎_elim}
 use mathlib.Core.List.{List}
 use native.Mathlib.Omega.{arith}
 use lib.Dec.{leb, eqb}
-use lib.IntN.{nat_abs}
-use mir.Syntax.{w64}
-use mir.Val.{to_z}
-use borrow.Author.Tests.{leb-true, lt-ltb, le-ltb}
+use lib.IntN.{ℤ, pos, negsuc, nat_abs}
+use borrow.Author.Tests.{leb-true}
 use Rattle.units.specs.Limits.{max_year_ticks, max_flat_rate, max_contribution, max_power, first_activation, last_activation, last_open_year, most_years}
-use Rattle.units.proofs.Bools.{and_left, and_right, or_cases}
+use Rattle.units.proofs.Bools.{and_left, and_right}
 use Rattle.account_steps.specs.declared.Account.{Account}
 use Rattle.book_layout.specs.Fields.{record_at}
 use Rattle.account_steps.specs.declared.ClosingSums.{ClosingSums}
@@ -37,7 +34,7 @@ pub record ClosingRanges (c : ClosingSums) : Type 0 where
   pub contribution : c.contribution.0 ≤ max_contribution
   pub liquidation : c.liquidation.0 ≤ max_year_ticks
   pub lapsed : c.lapsed.0 ≤ max_year_ticks * most_years
-  pub balance : nat_abs (to_z w64 c.balance.0) ≤ max_contribution
+  pub balance : nat_abs c.balance.0 ≤ max_contribution
 
 within-true : (low high n : ℕ) → within low high n ≡ true → (low ≤ n) × (n ≤ high)
 within-true low high n h = (leb-true low n (and_left (leb low n) (leb n high) h), leb-true n high (and_right (leb low n) (leb n high) h))
@@ -80,12 +77,13 @@ credit-of a h =
     omega arith
 
 -- a balance of −3.6·10^14 to 1.08·10^15, by its size
-balance-size : (bits : ℕ) → balance_fits bits ≡ true → nat_abs (to_z w64 bits) ≤ max_contribution
+balance-size : (z : ℤ) → balance_fits z ≡ true → nat_abs z ≤ max_contribution
 unfolding balance_fits
-balance-size bits h =
-    ⊎_elim (λ (low : leb bits max_contribution ≡ true). let l = leb-true bits max_contribution low in rw (lt-ltb bits (2 ^ 63) (omega arith)) l)
-    (λ (high : leb (2 ^ 64 - max_year_ticks) bits ≡ true). let l = leb-true (2 ^ 64 - max_year_ticks) bits high in rw (le-ltb bits (2 ^ 63) (omega arith)) (omega arith))
-    (or_cases (leb bits max_contribution) (leb (2 ^ 64 - max_year_ticks) bits) h)
+balance-size (pos n) h = leb-true n max_contribution h
+balance-size (negsuc n) h =
+    let least = and_left (leb n (max_year_ticks - 1)) true h in
+    let l = leb-true n (max_year_ticks - 1) least in
+    omega arith
 
 closing-ranges-of : (owner : Account) (c : ClosingRecord) → YearsFit owner → closing_fits owner c ≡ true → ClosingRanges c.sums
 unfolding closing_fits year_fits

@@ -44,7 +44,7 @@ size-difference a b = by-test (ltb a b) refl
     by-test true e = let l = ltb-true a b e in rw e (omega arith)
     by-test false e = rw e (omega arith)
 
-pub size-negated : (z : ℤ) → nat_abs (neg_ℤ z) ≡ nat_abs z
+size-negated : (z : ℤ) → nat_abs (neg_ℤ z) ≡ nat_abs z
 size-negated (pos zero) = refl
 size-negated (pos (suc n)) = refl
 size-negated (negsuc n) = refl

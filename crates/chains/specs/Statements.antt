@@ -1,8 +1,6 @@
 -- "Statement: open year, credit, and the sums over the chain of C, O, F, contribution, liquidation, lapsed, balance, all
 -- advances, advances of closed years." (document 01, "Election and advances")
 use Rattle.std.specs.Prelude.{ℕ, ◌+◌, Bool, true, cond, ◌&&◌, List, [], ◌∷◌, ltb, ℤ, pos, ◌+ℤ◌}
-use Rattle.std.specs.Int.{w64}
-use Rattle.std.proofs.Common.{to_z}
 use Rattle.book_layout.specs.Fields.{record_at}
 use Rattle.account_steps.specs.declared.ClosingSums.{ClosingSums}
 use Rattle.book_records.specs.Records.{advance_in, closing_in}
@@ -19,7 +17,7 @@ advance_part p b e = cond (is_advance b e && p (advance_in (record_at b e)).year
 
 -- a balance is signed
 unfoldable pub balance_part : List ℕ → ℕ → ℤ
-balance_part b e = cond (is_closing b e) (to_z w64 (closing_in (record_at b e)).sums.balance.0) (pos 0)
+balance_part b e = cond (is_closing b e) (closing_in (record_at b e)).sums.balance.0 (pos 0)
 
 -- sums over the entries of a chain
 unfoldable pub sum_over : (ℕ → ℕ) → List ℕ → ℕ

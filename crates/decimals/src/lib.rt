@@ -13,7 +13,7 @@ struct DigitRun {
 }
 
 // Writes a number at a place of the text, and answers the place behind it.
-pub fn write_number(out: &mut [u8], at: usize, n: u64) -> usize
+fn write_number(out: &mut [u8], at: usize, n: u64) -> usize
     requires { at + length (decimal n) ≤ length out.old }
     ensures { TextPut at (decimal n) out.old out.new result }
 {

@@ -1,5 +1,4 @@
+pub mod FeedLemmas
 pub mod Full
-pub mod LinesFound
-pub mod LinesTaken
-pub mod Repeated
-pub mod Taken
+pub mod NextFound
+pub mod PassedOver

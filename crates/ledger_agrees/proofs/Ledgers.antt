@@ -18,7 +18,7 @@ use Rattle.account_steps.specs.declared.Account.{Account}
 use Rattle.account_steps.specs.Closing.{contribution_of}
 use Rattle.account_steps.specs.Account.{account_elected, account_advanced, account_closed, settled}
 use Rattle.account_steps.specs.Charges.{charge_of, withheld_from, withheld_at_closing, closing_withheld, account_charged, account_withheld}
-use Rattle.account_steps.proofs.Balances.{balance-back}
+use Rattle.account_steps.proofs.Balances.{balance-held}
 use Rattle.book_records.specs.Entries.{advance_entry, closing_entry}
 use Rattle.ledger.specs.Ledger.{Item, Advance, Ledger, open_year, year_after, sum_items, sum_balances, sum_advances, advance_amount, sheet_value, sheet_flat_rate, statement_of}
 use Rattle.ledger.specs.Ledger as ledger
@@ -194,7 +194,7 @@ module _ (v : View) (l : Ledger) (a : Agrees v l) where
       ≡ ledger.item_of (sheet_year s) l.option l.credit (sum_advances (eqb (sheet_year s)) l.advances) (sheet_value l.details s) (cost_of s) (sheet_flat_rate l.details s)
   unfolding settled ledger.item_of year_values sheet_value sheet_flat_rate
   same_item s year small field =
-      let signed = balance-back (contribution v.account s) v.account.advances.0 small field in
+      let signed = balance-held (contribution v.account s) v.account.advances.0 small field in
       rw (signed, year, a.open-year, a.option, a.credit, a.advances, a.details)
 
   -- what the closing withholds, on both sides

@@ -8,8 +8,6 @@ use native.Mathlib.Nat.{zero-add}
 use native.Mathlib.Omega.{arith}
 use lib.Dec.{ltb}
 use lib.IntN.{ℤ, pos, ◌+ℤ◌, +ℤ_idl}
-use mir.Syntax.{w64}
-use mir.Val.{to_z}
 use Rattle.book_layout.specs.Fields.{record_at, advance_kind, closing_kind}
 use Rattle.book_records.specs.Records.{advance_in, closing_in}
 use Rattle.book_records.specs.Entries.{Entry, advance_entry, closing_entry, entry_in}
@@ -36,7 +34,7 @@ item_of year option s =
       contribution = s.contribution.0;
       liquidation = s.liquidation.0;
       lapsed = s.lapsed.0;
-      balance = to_z w64 s.balance.0;
+      balance = s.balance.0;
     }
 
 abbrev pub advance_of : ℕ → ℕ → Advance
@@ -89,10 +87,10 @@ module _ (b : List ℕ) where
   sum-balances (e ∷ es) a = by_kind (told b e a.0) (sum-balances es a.1)
     where
       by_kind : Told b e → sum_over_ℤ (balance_part b) es ≡ sum_balances (items_of (entries_in b es))
-          → cond (is_closing b e) (to_z w64 (closing_in (record_at b e)).sums.balance.0) (pos 0) +ℤ sum_over_ℤ (balance_part b) es
+          → cond (is_closing b e) (closing_in (record_at b e)).sums.balance.0 (pos 0) +ℤ sum_over_ℤ (balance_part b) es
           ≡ sum_balances (items_of (entry_in (record_at b e) ∷ entries_in b es))
       by_kind (an-advance p q r) rest = rw (q, r) (+ℤ_idl (sum_over_ℤ (balance_part b) es) ∙ rest)
-      by_kind (a-closing p q r) rest = rw (q, r) (ap (λ (z : ℤ). to_z w64 (closing_in (record_at b e)).sums.balance.0 +ℤ z) rest)
+      by_kind (a-closing p q r) rest = rw (q, r) (ap (λ (z : ℤ). (closing_in (record_at b e)).sums.balance.0 +ℤ z) rest)
 
   sum-advances : (p : ℕ → Bool) (es : List ℕ) → All (IsEntry b) es → sum_over (advance_part p b) es ≡ sum_advances p (advances_of (entries_in b es))
   unfolding sum_over advance_part sum_advances advances_of entries_in

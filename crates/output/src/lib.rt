@@ -2,13 +2,10 @@
 // written is told on standard error.
 #![tactic(auto)]
 
-ghost use Rattle.std.specs.Prelude.{◌≡◌, ◌≤◌, [], ◌∷◌, true, length, IfSome, OnOk};
+ghost use Rattle.std.specs.Prelude.{◌≡◌, ◌≤◌, length, IfSome, OnOk};
 ghost use Rattle.std.specs.Fmt.{with_newline};
 ghost use Rattle.std.specs.Io.KnownBytes.{Appends};
-ghost use Rattle.io.specs.Digits.{last_digits};
-ghost use Rattle.decimals.specs.Decimals.{decimal};
 ghost use Rattle.output.specs.declared.Failure.TheVariants.{OutOfMemory};
-ghost use Rattle.output.specs.InnerRows.{text_of, joined, blanks};
 
 use std::alloc::{AllocError, AllocFailed, Global};
 use std::env::FillError;
@@ -122,147 +119,6 @@ pub fn only_argument<'a, V: Env>(env: &V, buffer: &'a mut [u8]) -> Option<&'a [u
         return None;
     }
     buffer.get(..length)
-}
-
-// What a row holds at most.
-const ROOM: usize = 256;
-
-// A row of text as it is made: its bytes stand at the front. What does not fit is left out.
-#[derive(Clone, Copy)]
-pub struct Row {
-    pub bytes: [u8; ROOM],
-    pub count: usize,
-}
-
-pub fn no_text() -> Row
-    ensures { text_of result ≡ [] }
-{
-    Row {
-        bytes: [0; ROOM],
-        count: 0,
-    }
-}
-
-pub fn put(row: Row, b: u8) -> Row
-    ensures { text_of result ≡ joined (text_of row) (b ∷ []) }
-{
-    let at = row.count;
-    if ROOM <= at {
-        return row;
-    }
-    let mut bytes = row.bytes;
-    bytes[at] = b;
-    Row {
-        bytes,
-        count: at + 1,
-    }
-}
-
-pub fn put_text(row: Row, text: &[u8]) -> Row
-    ensures { text_of result ≡ joined (text_of row) text.now }
-{
-    let mut longer = row;
-    for k in 0..text.len() {
-        longer = put(longer, text[k]);
-    }
-    longer
-}
-
-pub fn put_blanks(row: Row, count: usize) -> Row
-    ensures { text_of result ≡ joined (text_of row) (blanks count) }
-{
-    let mut longer = row;
-    for k in 0..count {
-        longer = put(longer, b' ');
-    }
-    longer
-}
-
-// The last decimal digit of a number.
-pub fn put_digit(row: Row, n: u64) -> Row
-    ensures { text_of result ≡ joined (text_of row) (last_digits 10 1 n) }
-{
-    put(row, b'0' + (n % 10) as u8)
-}
-
-// A number in decimal, without zeros in front.
-pub fn put_number(row: Row, n: u64) -> Row
-    ensures { text_of result ≡ joined (text_of row) (decimal n) }
-{
-    let mut digits = [0u8; 20];
-    let count = decimals::write_number(&mut digits, 0, n);
-    put_text(row, &digits[..count])
-}
-
-// A blank, and a number.
-pub fn put_field(row: Row, n: u64) -> Row
-    ensures { text_of result ≡ joined (joined (text_of row) (32 ∷ [])) (decimal n) }
-{
-    put_number(put(row, b' '), n)
-}
-
-// What prints itself is put behind what a row holds.
-impl fmt::Write for Row {
-    ghost write_str_gives = { λ before text after. text_of after ≡ joined (text_of before) text };
-
-    fn write_str(&mut self, s: &str) -> fmt::Result {
-        *self = put_text(*self, s.as_bytes());
-        Ok(())
-    }
-}
-
-// The text of a row.
-fn bytes_of(row: &Row) -> &[u8]
-    ensures { result.now ≡ text_of row.now }
-{
-    let count = if row.count < ROOM { row.count } else { ROOM };
-    &row.bytes[..count]
-}
-
-// Where the number begins that an error of the system has behind its words, or where the words end.
-fn words_end(words: &[u8]) -> usize
-    ensures { result ≤ length words.now }
-{
-    for at in 0..words.len() {
-        if words[at..].starts_with(b" (os error ") {
-            return at;
-        }
-    }
-    words.len()
-}
-
-// Says on standard error what failed, and why, in the words of the error.
-pub fn fail<E: Write>(err: &mut E, what: &[u8], error: io::Error) {
-    let mut said = no_text();
-    let _ = fmt::Write::write(&mut said, error);
-    let words = bytes_of(&said);
-    let why = put_text(put_text(no_text(), b": "), &words[..words_end(words)]);
-    let _ = err.write_all(what);
-    let _ = err.write_all(bytes_of(&put(why, b'\n')));
-}
-
-// Writes bytes on standard output. Where that fails it says so, and names what failed.
-pub fn write<O: Write, E: Write>(out: &mut O, err: &mut E, what: &[u8], bytes: &[u8]) -> bool
-    ensures { result ≡ true → Appends (O.contents out.old) (O.contents out.new) bytes.now }
-{
-    match out.write_all(bytes) {
-        Ok(()) => true,
-        Err(error) => {
-            fail(err, what, error);
-            false
-        }
-    }
-}
-
-pub fn write_row<O: Write, E: Write>(out: &mut O, err: &mut E, what: &[u8], row: Row) -> bool
-    ensures { result ≡ true → Appends (O.contents out.old) (O.contents out.new) (text_of row) }
-{
-    write(out, err, what, bytes_of(&row))
-}
-
-// How a program is used, for whoever uses it wrongly.
-pub fn tell_use<E: Write>(err: &mut E, text: &[u8]) {
-    let _ = err.write_all(text);
 }
 
 // Whether a program was given an argument at a place, an empty one too. The program's own name stands at 0.

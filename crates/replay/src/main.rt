@@ -2,451 +2,220 @@
 // numbers in decimal with one blank between. A line that is no call is answered `error` and changes nothing.
 #![tactic(auto)]
 
-ghost use Rattle.std.specs.Prelude.{◌+◌, ◌*◌, ◌≤◌, length};
-ghost use Rattle.replay_script.specs.Requests.{longest_book};
-ghost use Rattle.replay.specs.InnerLines.{LineDone, FoundDone};
+ghost use Rattle.replay.specs.InnerLines.{LineAnswered};
 
-use account_steps::{Balance, ClosingSums};
 use call_advance::Advanced;
 use call_answers::Reply;
 use call_close::Closed;
 use call_more_sun::MoreSun;
 use call_statement::Stated;
-use input::Found;
+use input::{Line, Lines};
 use listing_text::Listed;
-use output::Row;
+use output::{Failure, Printer};
 use refusals::{Position, Refusal};
-use replay_script::{Digits, Request};
+use replay_script::Request;
 use sheet_more_sun::Addition;
 use sheet_values::Details;
-use statements::Sums;
-use text::Bytes;
+use std::alloc::Global;
+use std::fmt::Display;
+use text::Hex;
 use units::{Rate, UserNumber, WideKwh};
 
-// What the longest answer takes: a row of numbers, two digits a byte, and the line feed.
-const ANSWER: usize = 131_329;
+const USAGE: &str = "give the lines of a script on standard input, and no argument";
 
-// What a row holds at most.
-const ROW: usize = 256;
-
-// The length of the book after a line, and whether to look for the next one.
-#[derive(Drop)]
-struct Step {
-    len: usize,
-    more: bool,
+fn say_error(out: &mut Printer) -> Result<(), Failure> {
+    out.line("error")
 }
 
-// What says something answers whether it was written.
-fn say_text(rt: &HostRuntime, bytes: &[u8]) -> bool {
-    output::write(
-        &mut rt.stdout(),
-        &mut rt.stderr(),
-        b"replay: standard output",
-        bytes,
-    )
+// The number of a refusal, 0 of an accepted call, and the values behind it.
+fn say<D: Display + Drop>(out: &mut Printer, number: u32, values: D) -> Result<(), Failure> {
+    out.line(format_args!("{number} {values}"))
 }
 
-fn say_error(rt: &HostRuntime) -> bool {
-    say_text(rt, b"error\n")
-}
-
-// A row that ends no line.
-fn say_row(rt: &HostRuntime, row: Row) -> bool {
-    output::write_row(
-        &mut rt.stdout(),
-        &mut rt.stderr(),
-        b"replay: standard output",
-        row,
-    )
-}
-
-fn say(rt: &HostRuntime, row: Row) -> bool {
-    say_row(rt, output::put(row, b'\n'))
-}
-
-fn put_balance(row: Row, balance: Balance) -> Row {
-    if account_steps::signed(balance) < 0 {
-        output::put_number(
-            output::put_text(row, b" -"),
-            std::num::wrapping_sub_u64(0, balance.0),
-        )
-    } else {
-        output::put_field(row, balance.0)
-    }
-}
-
-fn refusal_of(reply: Reply) -> Row {
-    output::put_number(output::no_text(), reply.refusal as u64)
+fn say_position(out: &mut Printer, number: u32, position: Position) -> Result<(), Failure> {
+    let Position { month, place } = position;
+    say(out, number, format_args!("{month} {place}"))
 }
 
 // What an enrolment or a charge answers. After a 2 the record stands in the place of the values, whatever the call.
-fn say_record(rt: &HostRuntime, reply: Reply) -> bool {
-    say(
-        rt,
-        output::put_field(refusal_of(reply), reply.record.0 as u64),
-    )
+fn say_record(out: &mut Printer, reply: Reply) -> Result<(), Failure> {
+    say(out, reply.refusal, reply.record.0)
 }
 
-fn say_fresh(rt: &HostRuntime, refusal: u32) -> bool {
-    say(rt, output::put_number(output::no_text(), refusal as u64))
+fn say_fresh(out: &mut Printer, refusal: u32) -> Result<(), Failure> {
+    out.line(refusal)
 }
 
-fn say_elected(rt: &HostRuntime, reply: Reply) -> bool {
+fn say_elected(out: &mut Printer, reply: Reply) -> Result<(), Failure> {
     if reply.refusal == 2 {
-        return say_record(rt, reply);
+        return say_record(out, reply);
     }
-    say(rt, refusal_of(reply))
+    out.line(reply.refusal)
 }
 
-fn say_advanced(rt: &HostRuntime, answer: Advanced) -> bool {
+fn say_advanced(out: &mut Printer, answer: Advanced) -> Result<(), Failure> {
     if answer.reply.refusal == 2 {
-        return say_record(rt, answer.reply);
+        return say_record(out, answer.reply);
     }
-    say(
-        rt,
-        output::put_field(refusal_of(answer.reply), answer.ticks.0),
-    )
-}
-
-fn put_closing(row: Row, sums: ClosingSums) -> Row {
-    let mut longer = output::put_field(row, sums.value.0);
-    longer = output::put_field(longer, sums.cost.0);
-    longer = output::put_field(longer, sums.flat_rate.0);
-    longer = output::put_field(longer, sums.contribution.0);
-    longer = output::put_field(longer, sums.liquidation.0);
-    longer = output::put_field(longer, sums.lapsed.0);
-    put_balance(longer, sums.balance)
-}
-
-fn put_position(row: Row, position: Position) -> Row {
-    let longer = output::put_field(row, position.month as u64);
-    output::put_field(longer, position.place as u64)
+    say(out, answer.reply.refusal, answer.ticks.0)
 }
 
 // After a 13 or 19 the month and the place of the number at fault stand in the place of the values.
-fn say_closed(rt: &HostRuntime, answer: Closed) -> bool {
-    if answer.reply.refusal == 2 {
-        return say_record(rt, answer.reply);
+fn say_closed(out: &mut Printer, answer: Closed) -> Result<(), Failure> {
+    let reply = answer.reply;
+    if reply.refusal == 2 {
+        return say_record(out, reply);
     }
     if answer.position.month != 0 {
-        return say(rt, put_position(refusal_of(answer.reply), answer.position));
+        return say_position(out, reply.refusal, answer.position);
     }
-    say(rt, put_closing(refusal_of(answer.reply), answer.sums))
+    let sums = answer.sums;
+    let balance = sums.balance.0;
+    let values = format_args!(
+        "{} {} {} {} {} {} {balance}",
+        sums.value.0,
+        sums.cost.0,
+        sums.flat_rate.0,
+        sums.contribution.0,
+        sums.liquidation.0,
+        sums.lapsed.0
+    );
+    say(out, reply.refusal, values)
 }
 
-fn put_sums(row: Row, sums: Sums) -> Row {
-    let mut longer = output::put_field(row, sums.open_year);
-    longer = output::put_field(longer, sums.credit.0);
-    longer = output::put_field(longer, sums.value.0);
-    longer = output::put_field(longer, sums.cost.0);
-    longer = output::put_field(longer, sums.flat_rate.0);
-    longer = output::put_field(longer, sums.contribution.0);
-    longer = output::put_field(longer, sums.liquidation.0);
-    longer = output::put_field(longer, sums.lapsed.0);
-    longer = put_balance(longer, sums.balance);
-    longer = output::put_field(longer, sums.advances.0);
-    output::put_field(longer, sums.closed_advances.0)
-}
-
-fn say_stated(rt: &HostRuntime, answer: Stated) -> bool {
-    if answer.reply.refusal == 2 {
-        return say_record(rt, answer.reply);
+fn say_stated(out: &mut Printer, answer: Stated) -> Result<(), Failure> {
+    let reply = answer.reply;
+    if reply.refusal == 2 {
+        return say_record(out, reply);
     }
-    say(rt, put_sums(refusal_of(answer.reply), answer.sums))
-}
-
-// Prints bytes in hexadecimal, behind what stands in `out` up to a place.
-fn say_hex(rt: &HostRuntime, bytes: &[u8], out: &mut [u8], at: usize) -> bool
-    requires { at + 2 * length bytes.now + 1 ≤ length out.old }
-{
-    let end = at + text::hex_to(bytes, &mut out[at..]);
-    out[end] = b'\n';
-    say_text(rt, text::front(out, end + 1))
-}
-
-// Prints the listing, by way of `out`, which has room for every listing.
-fn list(rt: &HostRuntime, book: &[u8], out: &mut [u8]) -> bool {
-    let Listed::Written(count) = listing_text::listing_of(book, out) else {
-        return false;
-    };
-    say_text(rt, text::front(out, count))
-}
-
-fn close_year(rt: &HostRuntime, book: &mut [u8], line: &[u8], at: usize) -> bool {
-    let mut sheet = io::large_buffer();
-    let Bytes::Read(count) = text::hex_from(line, at, &mut sheet) else {
-        return say_error(rt);
-    };
-    say_closed(rt, call_close::close(book, text::front(&sheet, count)))
+    let sums = answer.sums;
+    let balance = sums.balance.0;
+    let values = format_args!(
+        "{} {} {} {} {} {} {} {} {balance} {} {}",
+        sums.open_year,
+        sums.credit.0,
+        sums.value.0,
+        sums.cost.0,
+        sums.flat_rate.0,
+        sums.contribution.0,
+        sums.liquidation.0,
+        sums.lapsed.0,
+        sums.advances.0,
+        sums.closed_advances.0
+    );
+    say(out, reply.refusal, values)
 }
 
 // 1 and the least addition, or zeros where there is none.
-fn put_addition(row: Row, addition: Addition) -> Row {
-    match addition {
-        Addition::Found(added) => output::put_field(output::put_field(row, 1), added.0 as u64),
-        Addition::None => output::put_field(output::put_field(row, 0), 0),
-    }
-}
-
-fn say_more_sun(rt: &HostRuntime, answer: MoreSun) -> bool {
-    if answer.reply.refusal == 2 {
-        return say_record(rt, answer.reply);
+fn say_more_sun(out: &mut Printer, answer: MoreSun) -> Result<(), Failure> {
+    let reply = answer.reply;
+    if reply.refusal == 2 {
+        return say_record(out, reply);
     }
     if answer.position.month != 0 {
-        return say(rt, put_position(refusal_of(answer.reply), answer.position));
+        return say_position(out, reply.refusal, answer.position);
     }
-    let addition = answer.addition;
-    say(rt, put_addition(refusal_of(answer.reply), addition))
-}
-
-// Asks how much more sun the user of a sheet needs.
-fn ask_more_sun(
-    rt: &HostRuntime,
-    book: &[u8],
-    line: &[u8],
-    digits: Digits,
-    month: u32,
-    band: u32,
-) -> bool {
-    let mut sheet = io::large_buffer();
-    let Bytes::Read(count) = text::hex_from(text::front(line, digits.to), digits.from, &mut sheet)
-    else {
-        return say_error(rt);
-    };
-    say_more_sun(
-        rt,
-        call_more_sun::more_sun(book, text::front(&sheet, count), month, band),
-    )
-}
-
-// The number of an accepted call, and a blank.
-fn put_accepted(out: &mut [u8])
-    requires { 2 ≤ length out.old }
-{
-    out[0] = b'0';
-    out[1] = b' ';
-}
-
-// Prints the number of an answer, and of an accepted one the buffer after it, by way of `out`.
-fn say_buffer(rt: &HostRuntime, refusal: u32, buffer: &[u8], out: &mut [u8]) -> bool
-    requires { 2 * length buffer.now + 3 ≤ length out.old }
-{
-    if refusal != 0 {
-        return say_fresh(rt, refusal);
+    match answer.addition {
+        Addition::Found(added) => say(out, reply.refusal, format_args!("1 {}", added.0)),
+        Addition::None => say(out, reply.refusal, "0 0"),
     }
-    put_accepted(out);
-    say_hex(rt, buffer, out, 2)
 }
 
-// After a 17 the line, and after a 13 the month and the place stand in the place of the values.
-fn refusal_row(refusal: Refusal) -> Row {
-    let number = output::put_number(output::no_text(), u64::from(refusal.number()));
+// A refused call: what it objects to in one place stands in the place of the values, else zeros do, each with a blank before it.
+fn say_refused(out: &mut Printer, refusal: Refusal, zeros: &str) -> Result<(), Failure> {
+    let number = refusal.number();
     match refusal {
-        Refusal::WrongLine(line) => output::put_field(number, u64::from(line)),
-        Refusal::AboveLimit(position) => put_position(number, position),
-        _ => number,
+        Refusal::FaultyRecord(record) => say(out, number, record.0),
+        Refusal::WrongLine(line) => say(out, number, line),
+        Refusal::AboveLimit(position) | Refusal::UnusedBand(position) => say_position(
+            out, number, position,
+        ),
+        _ => out.line(format_args!("{number}{zeros}")),
     }
 }
 
-fn say_read(rt: &HostRuntime, answer: Result<(), Refusal>, sheet: &[u8], out: &mut [u8]) -> bool
-    requires { 2 * length sheet.now + 3 ≤ length out.old }
+// What is made of the bytes of one word in a buffer that holds those of another: the number, and of an accepted call the buffer.
+fn rearrange<F: FnOnce(&[u8], &mut [u8]) -> Result<(), Refusal>>(
+    out: &mut Printer,
+    alloc: Global,
+    source: Hex<'_>,
+    buffer: Hex<'_>,
+    work: F,
+) -> Result<(), Failure>
+    requires { F.IsAlwaysCallable work }
 {
-    match answer {
-        Ok(()) => say_buffer(rt, 0, sheet, out),
-        Err(refusal) => say(rt, refusal_row(refusal)),
+    let source = source.bytes(alloc)?;
+    let mut buffer = buffer.bytes(alloc)?;
+    match work(&source, &mut buffer) {
+        Ok(()) => {
+            let digits = text::hex_of(alloc, &buffer)?;
+            say(out, 0, digits.as_str())
+        }
+        Err(refusal) => say_refused(out, refusal, ""),
     }
 }
 
-// Prints the number and the length, and of an accepted call the buffer after it.
-fn say_written(
-    rt: &HostRuntime,
-    answer: Result<u32, Refusal>,
-    buffer: &[u8],
-    out: &mut [u8],
-) -> bool
-    requires { 2 * length buffer.now + 3 ≤ length out.old }
-{
-    match answer {
+// The number and the length, and of an accepted call the buffer after it.
+fn write_measures(
+    out: &mut Printer,
+    alloc: Global,
+    sheet: Hex<'_>,
+    buffer: Hex<'_>,
+) -> Result<(), Failure> {
+    let sheet = sheet.bytes(alloc)?;
+    let mut text = buffer.bytes(alloc)?;
+    match sheet_text::write_measures(&sheet, &mut text) {
         Ok(length) => {
-            let row = output::put_field(
-                output::put_number(output::no_text(), 0),
-                u64::from(length),
-            );
-            if !say_row(rt, output::put(row, b' ')) {
-                return false;
-            }
-            say_hex(rt, buffer, out, 0)
+            let digits = text::hex_of(alloc, &text)?;
+            say(out, 0, format_args!("{length} {}", digits.as_str()))
         }
-        Err(refusal) => match refusal {
-            Refusal::AboveLimit(_) => say(rt, refusal_row(refusal)),
-            _ => say(rt, output::put_field(refusal_row(refusal), 0)),
-        },
+        Err(refusal) => say_refused(out, refusal, " 0"),
     }
 }
 
-// The number of a refusal, 0 for an accepted call.
-fn number_of(answer: Result<(), Refusal>) -> u32 {
-    match answer {
-        Ok(()) => 0,
-        Err(refusal) => refusal.number(),
-    }
-}
-
-// What is made of two words of bytes, the second of them lent.
-#[derive(Drop)]
-enum Work {
-    Archive,
-    Restore,
-    Read,
-    Write,
-}
-
-fn work_on(rt: &HostRuntime, work: Work, source: &[u8], lent: &mut [u8], out: &mut [u8]) -> bool
-    requires { 2 * length lent.old + 3 ≤ length out.old }
-{
-    match work {
-        Work::Archive => {
-            let refusal = number_of(sheet_archive::archive(source, lent));
-            say_buffer(rt, refusal, lent, out)
-        }
-        Work::Restore => {
-            let refusal = number_of(sheet_archive::restore(source, lent));
-            say_buffer(rt, refusal, lent, out)
-        }
-        Work::Read => {
-            let read = sheet_text::read_measures(lent, source);
-            say_read(rt, read, lent, out)
-        }
-        Work::Write => {
-            let written = sheet_text::write_measures(source, lent);
-            say_written(rt, written, lent, out)
-        }
-    }
-}
-
-// A sheet to its archive or back, or a sheet to the operator's text or back, into a buffer that holds a word's bytes.
-fn rearrange(
-    rt: &HostRuntime,
-    line: &[u8],
-    source: Digits,
-    buffer: Digits,
-    work: Work,
-    out: &mut [u8],
-) -> bool
-    requires { 2 * longest_book + 257 ≤ length out.old }
-{
-    let mut from = io::large_buffer();
-    let Bytes::Read(read) = text::hex_from(text::front(line, source.to), source.from, &mut from)
-    else {
-        return say_error(rt);
-    };
-    let mut to = io::large_buffer();
-    let Bytes::Read(room) = text::hex_from(text::front(line, buffer.to), buffer.from, &mut to)
-    else {
-        return say_error(rt);
-    };
-    work_on(rt, work, &from[..read], &mut to[..room], out)
-}
-
-fn put_rests(row: Row, rests: [u32; 3]) -> Row {
-    let mut longer = row;
-    for rest in rests {
-        longer = output::put_field(longer, u64::from(rest));
-    }
-    longer
-}
-
-// How many bytes of a row stand in it.
-fn row_length(row: Row) -> usize
-    ensures { result ≤ 256 }
-{
-    if row.count < ROW { row.count } else { ROW }
-}
-
-// A row goes to the front of `out`; answers its length.
-fn put_front(row: Row, out: &mut [u8]) -> usize
-    requires { 256 ≤ length out.old }
-    ensures { result ≤ 256 }
-{
-    let bytes = row.bytes;
-    let count = row_length(row);
-    for k in 0..count {
-        out[k] = bytes[k];
-    }
-    count
-}
-
-// Prints the number of an answer and the rests, and of an accepted call the sheet after it, by way of `out`. After a 13 the month
-// and the place of the reading at fault stand in the place of the values.
-fn say_raised(
-    rt: &HostRuntime,
-    answer: Result<[u32; 3], Refusal>,
-    sheet: &[u8],
-    out: &mut [u8],
-) -> bool
-    requires { 2 * length sheet.now + 257 ≤ length out.old }
-{
-    match answer {
+// The number and the rests, and of an accepted call the sheet after them.
+fn raise(out: &mut Printer, alloc: Global, sheet: Hex<'_>, factor: u32) -> Result<(), Failure> {
+    let mut sheet = sheet.bytes(alloc)?;
+    match sheet_losses::raise(&mut sheet, factor) {
         Ok(rests) => {
-            let row = put_rests(output::put_number(output::no_text(), 0), rests);
-            let at = put_front(output::put(row, b' '), out);
-            say_hex(rt, sheet, out, at)
+            let [first, second, third] = rests;
+            let digits = text::hex_of(alloc, &sheet)?;
+            say(
+                out,
+                0,
+                format_args!("{first} {second} {third} {}", digits.as_str()),
+            )
         }
-        Err(refusal) => {
-            let number = output::put_number(output::no_text(), u64::from(refusal.number()));
-            match refusal {
-                Refusal::AboveLimit(position) => say(rt, put_position(number, position)),
-                _ => say(rt, put_rests(number, [0; 3])),
-            }
-        }
+        Err(refusal) => say_refused(out, refusal, " 0 0 0"),
     }
 }
 
-// Raises the injected readings of the sheet that the word's bytes are.
-fn raise(rt: &HostRuntime, line: &[u8], word: Digits, factor: u32, out: &mut [u8]) -> bool
-    requires { 2 * longest_book + 257 ≤ length out.old }
-{
-    let mut sheet = io::large_buffer();
-    let Bytes::Read(count) = text::hex_from(text::front(line, word.to), word.from, &mut sheet)
-    else {
-        return say_error(rt);
-    };
-    let lent = &mut sheet[..count];
-    let raised = sheet_losses::raise(lent, factor);
-    say_raised(rt, raised, lent, out)
-}
-
-fn new_book(buffer: &mut [u8], len: usize) -> usize
-    requires { len ≤ length buffer.old }
-    ensures { result ≤ length buffer.new }
-{
-    for k in 0..len {
-        buffer[k] = 0;
+fn list(out: &mut Printer, book: &[u8]) -> Result<(), Failure> {
+    let mut lines = listing_text::buffer();
+    if let Listed::Written(count) = listing_text::listing_of(book, &mut lines) {
+        out.bytes(lines.get(..count).unwrap_or(b""))?;
     }
-    len
-}
-
-fn load_book(rt: &HostRuntime, buffer: &mut [u8], len: usize, line: &[u8], at: usize) -> Step
-    requires { len ≤ length buffer.old }
-    ensures { result.len ≤ length buffer.new }
-{
-    let Bytes::Read(count) = text::hex_from(line, at, buffer) else {
-        let more = say_error(rt);
-        return Step { len, more };
-    };
-    Step {
-        len: count,
-        more: true,
-    }
+    Ok(())
 }
 
 // Makes a call, on the book or on sheets, and prints its answer.
-fn call(rt: &HostRuntime, request: Request, line: &[u8], book: &mut [u8], out: &mut [u8]) -> bool
-    requires book_room { 2 * length book.old + 1 ≤ length out.old }
-    requires text_room { 2 * longest_book + 257 ≤ length out.old }
-{
+fn call(
+    out: &mut Printer,
+    alloc: Global,
+    request: Request<Hex<'_>>,
+    book: &mut Vec<u8>,
+) -> Result<(), Failure> {
     match request {
-        Request::Fresh => say_fresh(rt, check_book::fresh(book)),
+        Request::New(length) => {
+            book.clear();
+            book.resize(length, 0)?;
+            Ok(())
+        }
+        Request::Load(bytes) => {
+            *book = bytes.bytes(alloc)?;
+            Ok(())
+        }
+        Request::Fresh => say_fresh(out, check_book::fresh(book)),
         Request::Enrol {
             number,
             class,
@@ -466,7 +235,7 @@ fn call(rt: &HostRuntime, request: Request, line: &[u8], book: &mut [u8], out: &
                 island,
             };
             say_record(
-                rt,
+                out,
                 call_enrol::enrol(book, UserNumber(number), details, option),
             )
         }
@@ -478,7 +247,7 @@ fn call(rt: &HostRuntime, request: Request, line: &[u8], book: &mut [u8], out: &
             day,
         } => {
             say_elected(
-                rt,
+                out,
                 call_elect::elect(book, UserNumber(number), option, year, month, day),
             )
         }
@@ -490,145 +259,105 @@ fn call(rt: &HostRuntime, request: Request, line: &[u8], book: &mut [u8], out: &
             estimate1,
             estimate2,
         } => {
+            let estimates = (WideKwh(estimate1), WideKwh(estimate2));
             say_advanced(
-                rt,
+                out,
                 call_advance::advance(
                     book,
                     UserNumber(number),
                     year,
                     run,
                     Rate(rate),
-                    WideKwh(estimate1),
-                    WideKwh(estimate2),
+                    estimates.0,
+                    estimates.1,
                 ),
             )
         }
-        Request::Close(at) => close_year(rt, book, line, at),
-        Request::Charge(number) => say_record(rt, call_charge::charge(book, UserNumber(number))),
+        Request::Close(sheet) => say_closed(out, call_close::close(book, &sheet.bytes(alloc)?)),
+        Request::Charge(number) => say_record(out, call_charge::charge(book, UserNumber(number))),
         Request::Statement(number) => say_stated(
-            rt,
+            out,
             call_statement::statement(book, UserNumber(number)),
         ),
         Request::Archive { sheet, buffer } => rearrange(
-            rt,
-            line,
+            out,
+            alloc,
             sheet,
             buffer,
-            Work::Archive,
-            out,
+            sheet_archive::archive,
         ),
         Request::Restore { archive, buffer } => rearrange(
-            rt,
-            line,
+            out,
+            alloc,
             archive,
             buffer,
-            Work::Restore,
-            out,
+            sheet_archive::restore,
         ),
-        Request::Raise { sheet, factor } => raise(rt, line, sheet, factor, out),
-        Request::ReadMeasures { sheet, text } => rearrange(rt, line, text, sheet, Work::Read, out),
-        Request::WriteMeasures { sheet, buffer } => rearrange(
-            rt,
-            line,
-            sheet,
-            buffer,
-            Work::Write,
-            out,
-        ),
-        Request::MoreSun { sheet, month, band } => ask_more_sun(rt, book, line, sheet, month, band),
-        Request::Dump => say_hex(rt, book, out, 0),
-        Request::List => list(rt, book, out),
-        Request::New(_) => say_error(rt),
-        Request::Load(_) => say_error(rt),
-        Request::Wrong => say_error(rt),
-    }
-}
-
-// Does what a line asks on the book in the first `len` bytes of the buffer.
-fn answer(rt: &HostRuntime, line: &[u8], buffer: &mut [u8], len: usize, out: &mut [u8]) -> Step
-    requires buffer_room { (longest_book ≤ length buffer.old) × (len ≤ length buffer.old) }
-    requires text_room { 2 * length buffer.old + 257 ≤ length out.old }
-    ensures { LineDone line.now buffer.old buffer.new len result.len }
-{
-    let request = replay_script::request_of(line);
-    match request {
-        Request::New(n) => Step {
-            len: new_book(buffer, n),
-            more: true,
-        },
-        Request::Load(at) => load_book(rt, buffer, len, line, at),
-        Request::Wrong => Step {
-            len,
-            more: say_error(rt),
-        },
-        _ => Step {
-            len,
-            more: call(rt, request, line, &mut buffer[..len], out),
-        },
-    }
-}
-
-// Answers what was found where a line was looked for. Only a whole line is made a call.
-fn answer_found(
-    rt: &HostRuntime,
-    found: Found,
-    line: &[u8],
-    buffer: &mut [u8],
-    len: usize,
-    out: &mut [u8],
-) -> Step
-    requires buffer_room { (longest_book ≤ length buffer.old) × (len ≤ length buffer.old) }
-    requires text_room { 2 * length buffer.old + 257 ≤ length out.old }
-    ensures { FoundDone found line.now buffer.old buffer.new len result }
-{
-    match found {
-        Found::Whole => answer(rt, line, buffer, len, out),
-        Found::Long => Step {
-            len,
-            more: say_error(rt),
-        },
-        Found::Half => {
-            say_error(rt);
-            Step { len, more: false }
+        Request::Raise { sheet, factor } => raise(out, alloc, sheet, factor),
+        Request::ReadMeasures { sheet, text } => {
+            rearrange(
+                out,
+                alloc,
+                text,
+                sheet,
+                |text, sheet| sheet_text::read_measures(sheet, text),
+            )
         }
-        Found::End => Step { len, more: false },
-        Found::Failed(e) => {
-            output::fail(&mut rt.stderr(), b"replay: standard input", e);
-            Step { len, more: false }
+        Request::WriteMeasures { sheet, buffer } => write_measures(out, alloc, sheet, buffer),
+        Request::MoreSun { sheet, month, band } => {
+            say_more_sun(
+                out,
+                call_more_sun::more_sun(book, &sheet.bytes(alloc)?, month, band),
+            )
+        }
+        Request::Dump => out.line(text::hex_of(alloc, book)?.as_str()),
+        Request::List => list(out, book),
+    }
+}
+
+// Answers what stands in the place of a line, and says whether to look for the next. Only a whole line makes a call.
+fn answer(out: &mut Printer, alloc: Global, line: Line, book: &mut Vec<u8>) -> Result<bool, Failure>
+    ensures { LineAnswered line book.old.items book.new.items result }
+{
+    match line {
+        Line::Whole(line) => {
+            match replay_script::request_of(&line) {
+                Some(request) => call(out, alloc, request, book)?,
+                None => say_error(out)?,
+            }
+            Ok(true)
+        }
+        Line::Long => {
+            say_error(out)?;
+            Ok(true)
+        }
+        Line::Half => {
+            say_error(out)?;
+            Ok(false)
         }
     }
 }
 
-// A proved loop has to end, so the lines are counted to a number that no input reaches.
-fn run(rt: &HostRuntime, held: &mut [u8], buffer: &mut [u8], out: &mut [u8])
-    requires buffer_room { longest_book ≤ length buffer.old }
-    requires text_room { 2 * length buffer.old + 257 ≤ length out.old }
-{
-    let mut line = input::start();
-    let mut len = 0;
-    for turn in 0..u64::MAX {
-        line = input::next_line(&mut rt.stdin(), held, line);
-        let found = line.found;
-        let from = line.from;
-        let to = line.to;
-        let step = answer_found(rt, found, &held[from..to], buffer, len, out);
-        if !step.more {
-            return;
-        }
-        len = step.len;
+// A proved loop has to end: no input has as many lines as are taken.
+fn run(rt: &HostRuntime) -> Result<(), Failure> {
+    if output::has_argument(rt, 1) {
+        return Err(Failure::Use);
     }
+    let mut out = Printer::new(rt.alloc(), rt.stdout());
+    let mut book = Vec::new(rt.alloc());
+    for line in Lines::new(rt.alloc(), rt.stdin()).take(usize::MAX) {
+        if !answer(
+            &mut out,
+            rt.alloc(),
+            line.map_err(Failure::Input)?,
+            &mut book,
+        )? {
+            return Ok(());
+        }
+    }
+    Ok(())
 }
 
 fn main(rt: HostRuntime) {
-    if output::has_argument(&rt, 1) {
-        output::tell_use(
-            &mut rt.stderr(),
-            b"replay: give the lines of a script on standard input, and no argument\n",
-        );
-        return;
-    }
-    let mut held = input::line_buffer();
-    let mut buffer = io::large_buffer();
-    let mut out = [0u8; ANSWER];
-    run(&rt, &mut held, &mut buffer, &mut out);
+    output::report(&mut rt.stderr(), "replay", USAGE, run(&rt));
 }

@@ -1,11 +1,7 @@
 -- A flat answer says what the answer beneath it says.
 use Prim.Native.Nat.{ℕ}
-use mathlib.Core.Path.{◌≡◌, ap, sym, subst, ◌∙◌}
+use mathlib.Core.Path.{◌≡◌, ap, sym, subst}
 use mathlib.Core.List.{List}
-use lib.IntN.{ℤ}
-use mir.Syntax.{w64}
-use mir.Val.{Fits, to_z, of_z}
-use mir.Facts.{of_z-to_z}
 use Rattle.refusals.specs.declared.Position.{Position}
 use Rattle.sheet.specs.YearSheet.{Tells}
 use Rattle.call_rules.specs.Calls.{close, statement}
@@ -17,10 +13,6 @@ use Rattle.call_statement.specs.Stated.{sums_stated}
 use Rattle.ssp.specs.declared.Closed.{Closed}
 use Rattle.ssp.specs.declared.Sums.{Sums}
 use Rattle.ssp.specs.Flat.{position_of, flat_closed, flat_sums}
-
--- a signed number stands in its field as its bits, and is read back from them
-pub read_back : {n : ℕ} {z : ℤ} → Fits w64 n → z ≡ to_z w64 n → to_z w64 (of_z w64 z) ≡ to_z w64 n
-read_back {n} fits e = ap (λ x. to_z w64 (of_z w64 x)) e ∙ ap (to_z w64) (of_z-to_z fits)
 
 module _ (b : List ℕ) (refusal named : ℕ) where
   pub closed-flat : (sheet after : List ℕ) (p : Position) (s : ClosingSums) (r : Closed) → r ≡ flat_closed refusal named p s

@@ -1,8 +1,6 @@
 -- Flat answers: each sum in its field as a plain number, and the balance signed. And an enrolment's details from plain numbers.
 use Rattle.std.specs.Prelude.{ℕ, List, [], get_or, Result}
 use Rattle.std.specs.Result.{result_unwrap_or}
-use Rattle.std.specs.Int.{w64}
-use Rattle.std.proofs.Common.{to_z}
 use Rattle.sheet_values.specs.declared.Details.{Details}
 use Rattle.refusals.specs.declared.Position.{Position}
 use Rattle.refusals.specs.declared.Refusal.{Refusal}
@@ -40,7 +38,7 @@ flat_closed refusal named position s =
       contribution = s.contribution.0;
       liquidation = s.liquidation.0;
       lapsed = s.lapsed.0;
-      balance = to_z w64 s.balance.0;
+      balance = s.balance.0;
     }
 
 unfoldable pub flat_sums : ℕ → ℕ → statements.Sums → Sums
@@ -56,7 +54,7 @@ flat_sums refusal named s =
       contribution = s.contribution.0;
       liquidation = s.liquidation.0;
       lapsed = s.lapsed.0;
-      balance = to_z w64 s.balance.0;
+      balance = s.balance.0;
       advances = s.advances.0;
       closed_advances = s.closed_advances.0;
     }

@@ -133,7 +133,6 @@ fn flat_closed(closed: call_close::Closed) -> Closed
     ensures { result ≡ flat_closed closed.reply.refusal closed.reply.record.0 closed.position closed.sums }
 {
     let year = closed.sums;
-    let balance = account_steps::signed(year.balance);
     Closed {
         refusal: closed.reply.refusal,
         record: closed.reply.record.0,
@@ -145,7 +144,7 @@ fn flat_closed(closed: call_close::Closed) -> Closed
         contribution: year.contribution.0,
         liquidation: year.liquidation.0,
         lapsed: year.lapsed.0,
-        balance,
+        balance: year.balance.0,
     }
 }
 
@@ -153,7 +152,6 @@ fn flat_sums(stated: call_statement::Stated) -> Sums
     ensures { result ≡ flat_sums stated.reply.refusal stated.reply.record.0 stated.sums }
 {
     let sums = stated.sums;
-    let balance = account_steps::signed(sums.balance);
     Sums {
         refusal: stated.reply.refusal,
         record: stated.reply.record.0,
@@ -165,7 +163,7 @@ fn flat_sums(stated: call_statement::Stated) -> Sums
         contribution: sums.contribution.0,
         liquidation: sums.liquidation.0,
         lapsed: sums.lapsed.0,
-        balance,
+        balance: sums.balance.0,
         advances: sums.advances.0,
         closed_advances: sums.closed_advances.0,
     }

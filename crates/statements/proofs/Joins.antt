@@ -1,6 +1,6 @@
 -- One sum over the entries of a chain, past the entry that stands first: a closing joins the sums over closings and passes
 -- those over advances, an advance the other way round.
-use Rattle.std.proofs.Common.{◌≡◌, ℕ, ◌+◌, Bool, true, cond, List, ◌∷◌, ℤ, pos, ◌+ℤ◌, sym, ap, ◌∙◌, arith, w64, to_z}
+use Rattle.std.proofs.Common.{◌≡◌, ℕ, ◌+◌, Bool, true, cond, List, ◌∷◌, ℤ, pos, ◌+ℤ◌, sym, ap, ◌∙◌, arith}
 use lib.IntN.{+ℤ_idl}
 use Rattle.book_layout.specs.Fields.{record_at, advance_kind, closing_kind}
 use Rattle.account_steps.specs.declared.ClosingSums.{ClosingSums}
@@ -21,7 +21,7 @@ module _ (b : List ℕ) (e : ℕ) (es : List ℕ) where
     closing-passes p x w h =
         let t : x + (0 + sum_over (advance_part p b) es) ≡ w = rw (kinds-apart b closing_kind advance_kind e (λ q. omega arith) closing) at h in omega arith
 
-    pub balance-part : balance_part b e ≡ to_z w64 (closing_in (record_at b e)).sums.balance.0
+    pub balance-part : balance_part b e ≡ (closing_in (record_at b e)).sums.balance.0
     unfolding balance_part
     balance-part = rw closing
 

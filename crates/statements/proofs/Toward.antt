@@ -1,12 +1,11 @@
 -- The sums so far and the sum over the entries that follow come to the whole: kept by each entry, room for the next one, and
 -- at the end the statement.
-use Rattle.std.proofs.Common.{◌≡◌, ℕ, ◌+◌, ◌*◌, ◌^◌, ◌<◌, ◌≤◌, true, ltb, List, [], ◌∷◌, ℤ, pos, negsuc, ◌+ℤ◌, nat_abs, sym, ap, ◌∙◌, arith, w64, to_z, of_z}
+use Rattle.std.proofs.Common.{◌≡◌, ℕ, ◌+◌, ◌*◌, ◌^◌, ◌<◌, ◌≤◌, true, ltb, List, [], ◌∷◌, ℤ, pos, negsuc, ◌+ℤ◌, nat_abs, sym, ap, ◌∙◌, arith, w64}
 use lib.IntN.{+ℤ_assoc, +ℤ_idr}
 use lib.Signed.{mag}
-use mir.Facts.{of_z-to_z, Fits-of_z}
+use Rattle.std.specs.Prelude.{FitsSigned}
 use Rattle.units.specs.Units.{ticks}
 use Rattle.units.specs.Limits.{max_contribution, most_years}
-use Rattle.account_steps.proofs.Balances.{signed_back}
 use Rattle.book_layout.specs.Fields.{record_at}
 use Rattle.book_records.specs.declared.AdvanceRecord.{AdvanceRecord}
 use Rattle.account_steps.specs.declared.ClosingSums.{ClosingSums}
@@ -29,14 +28,13 @@ pub record Toward (b : List ℕ) (whole : Statement) (es : List ℕ) (s : Sums) 
   pub contribution : s.contribution.0 + sum_over (closing_part (λ c. c.contribution.0) b) es ≡ whole.contribution
   pub liquidation : s.liquidation.0 + sum_over (closing_part (λ c. c.liquidation.0) b) es ≡ whole.liquidation
   pub lapsed : s.lapsed.0 + sum_over (closing_part (λ c. c.lapsed.0) b) es ≡ whole.lapsed
-  pub balance : to_z w64 s.balance.0 +ℤ sum_over_ℤ (balance_part b) es ≡ whole.balance
-  pub bits : s.balance.0 < 2 ^ 64
+  pub balance : s.balance.0 +ℤ sum_over_ℤ (balance_part b) es ≡ whole.balance
   pub sizes : sum_over (λ e. nat_abs (balance_part b e)) es ≤ max_contribution * most_years
   pub advances : s.advances.0 + sum_over (advance_part (λ y. true) b) es ≡ whole.advances
   pub closed_advances : s.closed_advances.0 + sum_over (advance_part (λ y. ltb y whole.open_year) b) es ≡ whole.closed_advances
 
 -- THE NEXT ENTRY
-pub mag-size : (z : ℤ) → mag z ≤ nat_abs z
+mag-size : (z : ℤ) → mag z ≤ nat_abs z
 mag-size (pos n) = omega arith
 mag-size (negsuc n) = omega arith
 
@@ -53,16 +51,17 @@ module _ (b : List ℕ) (whole : Statement) (e : ℕ) (es : List ℕ) (s : Sums)
     c = (closing_in (record_at b e)).sums
 
     abbrev sum : ℤ
-    sum = to_z w64 s.balance.0 +ℤ to_z w64 c.balance.0
+    sum = s.balance.0 +ℤ c.balance.0
 
-    balance-left : to_z w64 s.balance.0 +ℤ (to_z w64 c.balance.0 +ℤ sum_over_ℤ (balance_part b) es) ≡ whole.balance
+    balance-left : s.balance.0 +ℤ (c.balance.0 +ℤ sum_over_ℤ (balance_part b) es) ≡ whole.balance
     unfolding sum_over_ℤ
-    balance-left = ap (λ z. to_z w64 s.balance.0 +ℤ (z +ℤ sum_over_ℤ (balance_part b) es)) (sym (balance-part b e es closing)) ∙ t.balance
+    balance-left = ap (λ z. s.balance.0 +ℤ (z +ℤ sum_over_ℤ (balance_part b) es)) (sym (balance-part b e es closing)) ∙ t.balance
 
-    balance-room : mag sum < 2 ^ 63
+    balance-room : FitsSigned w64 sum
     balance-room =
         let rest = sum_over_ℤ (balance_part b) es in
-        omega (arith, mag-size sum, size-before (to_z w64 s.balance.0) (to_z w64 c.balance.0) rest whole.balance balance-left, size-of-sum (balance_part b) es, sizes-left, fit.balance)
+        let small : mag sum < 2 ^ 63 = omega (arith, mag-size sum, size-before (s.balance.0) (c.balance.0) rest whole.balance balance-left, size-of-sum (balance_part b) es, sizes-left, fit.balance) in
+        record { sfits = small }
 
     room : (g : ClosingSums → ℕ) (x w : ℕ) → w < 2 ^ 63 → x + sum_over (closing_part g b) (e ∷ es) ≡ w → x + g c < 2 ^ 64
     room g x w l h = omega (arith, closing-joins b e es closing g x w h)
@@ -92,10 +91,8 @@ module _ (b : List ℕ) (whole : Statement) (e : ℕ) (es : List ℕ) (s : Sums)
           liquidation = closing-joins b e es closing (λ r. r.liquidation.0) s.liquidation.0 whole.liquidation t.liquidation;
           lapsed = closing-joins b e es closing (λ r. r.lapsed.0) s.lapsed.0 whole.lapsed t.lapsed;
           balance =
-              ap (λ z. z +ℤ sum_over_ℤ (balance_part b) es) (signed_back sum balance-room)
-              ∙ +ℤ_assoc (to_z w64 s.balance.0) (to_z w64 c.balance.0) (sum_over_ℤ (balance_part b) es)
+              +ℤ_assoc (s.balance.0) (c.balance.0) (sum_over_ℤ (balance_part b) es)
               ∙ balance-left;
-          bits = (Fits-of_z {w = w64} {z = sum} (record { sfits = balance-room })).fits;
           sizes = sizes-left;
           advances = closing-passes b e es closing (λ y. true) s.advances.0 whole.advances t.advances;
           closed_advances = closing-passes b e es closing (λ y. ltb y whole.open_year) s.closed_advances.0 whole.closed_advances t.closed_advances;
@@ -125,8 +122,7 @@ module _ (b : List ℕ) (whole : Statement) (e : ℕ) (es : List ℕ) (s : Sums)
           contribution = advance-passes b e es advance (λ r. r.contribution.0) s.contribution.0 whole.contribution t.contribution;
           liquidation = advance-passes b e es advance (λ r. r.liquidation.0) s.liquidation.0 whole.liquidation t.liquidation;
           lapsed = advance-passes b e es advance (λ r. r.lapsed.0) s.lapsed.0 whole.lapsed t.lapsed;
-          balance = advance-keeps-balance b e es advance (to_z w64 s.balance.0) whole.balance t.balance;
-          bits = t.bits;
+          balance = advance-keeps-balance b e es advance (s.balance.0) whole.balance t.balance;
           sizes = sizes-left;
           advances = advance-joins b e es advance (λ y. true) s.advances.0 whole.advances t.advances;
           closed_advances = rw t.open_year (advance-joins b e es advance (λ y. ltb y whole.open_year) s.closed_advances.0 whole.closed_advances t.closed_advances);
@@ -137,7 +133,7 @@ pub arrived : (b : List ℕ) (whole : Statement) (s : Sums) → Toward b whole [
 unfolding sums_of sum_over sum_over_ℤ
 arrived b whole s t =
     let none : (x w : ℕ) → x + 0 ≡ w → x ≡ w = λ x w h. omega arith in
-    let balance : s.balance.0 ≡ of_z w64 whole.balance = sym (of_z-to_z {w = w64} (record { fits = t.bits })) ∙ ap (of_z w64) (sym (+ℤ_idr (to_z w64 s.balance.0)) ∙ t.balance) in
+    let balance : s.balance.0 ≡ whole.balance = sym (+ℤ_idr s.balance.0) ∙ t.balance in
     λ i.
     record {
       open_year = t.open_year i;

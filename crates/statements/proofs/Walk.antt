@@ -61,7 +61,6 @@ module _ (b : List ℕ) (i : ℕ) (long : length_fits b ≡ true) (good : sound 
         liquidation = omega arith;
         lapsed = omega arith;
         balance = +ℤ_idl (sum_over_ℤ (balance_part b) (chain_from (next_of b) (first_entry_of b i)));
-        bits = omega arith;
         sizes = balance-sizes b f i user;
         advances = omega arith;
         closed_advances = omega arith;

@@ -1,11 +1,9 @@
 -- A statement as the program holds it, and the steps of the walk that sums it ("Election and advances").
-use Rattle.std.specs.Prelude.{◌≡◌, ℕ, ◌+◌, ◌^◌, ◌<◌, true, cond, List, pos, ◌+ℤ◌, nat_lt}
-use Rattle.std.specs.Int.Signed.{mag}
+use Rattle.std.specs.Prelude.{◌≡◌, ℕ, ◌+◌, ◌^◌, ◌<◌, true, cond, List, pos, ◌+ℤ◌, nat_lt, FitsSigned}
 use Rattle.std.specs.Int.{w64}
-use Rattle.std.proofs.Common.{to_z}
 use Rattle.units.specs.Units.{ticks}
 use Rattle.account_steps.specs.declared.Account.{Account}
-use Rattle.account_steps.specs.Account.{balance_bits}
+use Rattle.account_steps.specs.Account.{balance}
 use Rattle.book_layout.specs.Fields.{record_at}
 use Rattle.book_records.specs.declared.AdvanceRecord.{AdvanceRecord}
 use Rattle.account_steps.specs.declared.ClosingSums.{ClosingSums}
@@ -25,12 +23,12 @@ sums_of s =
       contribution = ticks s.contribution;
       liquidation = ticks s.liquidation;
       lapsed = ticks s.lapsed;
-      balance = balance_bits s.balance;
+      balance = balance s.balance;
       advances = ticks s.advances;
       closed_advances = ticks s.closed_advances;
     }
 
--- the statement that answered sums are: the balance is signed
+-- the statement that answered sums are
 unfoldable pub statement_in : Sums → Statement
 statement_in s =
     record {
@@ -42,7 +40,7 @@ statement_in s =
       contribution = s.contribution.0;
       liquidation = s.liquidation.0;
       lapsed = s.lapsed.0;
-      balance = to_z w64 s.balance.0;
+      balance = s.balance.0;
       advances = s.advances.0;
       closed_advances = s.closed_advances.0;
     }
@@ -58,7 +56,7 @@ sums_before a =
       contribution = ticks 0;
       liquidation = ticks 0;
       lapsed = ticks 0;
-      balance = balance_bits (pos 0);
+      balance = balance (pos 0);
       advances = ticks 0;
       closed_advances = ticks 0;
     }
@@ -74,7 +72,7 @@ closing_added c s =
       contribution = ticks (s.contribution.0 + c.contribution.0);
       liquidation = ticks (s.liquidation.0 + c.liquidation.0);
       lapsed = ticks (s.lapsed.0 + c.lapsed.0);
-      balance = balance_bits (to_z w64 s.balance.0 +ℤ to_z w64 c.balance.0);
+      balance = balance (s.balance.0 +ℤ c.balance.0);
       advances = s.advances;
       closed_advances = s.closed_advances;
     }
@@ -107,7 +105,7 @@ pub record ClosingRoom (c : ClosingSums) (s : Sums) : Type 0 where
   pub contribution : s.contribution.0 + c.contribution.0 < 2 ^ 64
   pub liquidation : s.liquidation.0 + c.liquidation.0 < 2 ^ 64
   pub lapsed : s.lapsed.0 + c.lapsed.0 < 2 ^ 64
-  pub balance : mag (to_z w64 s.balance.0 +ℤ to_z w64 c.balance.0) < 2 ^ 63
+  pub balance : FitsSigned w64 (s.balance.0 +ℤ c.balance.0)
 
 pub record AdvanceRoom (a : AdvanceRecord) (s : Sums) : Type 0 where
   pub advances : s.advances.0 + a.ticks.0 < 2 ^ 64

@@ -1,15 +1,11 @@
 // A user's statement: a walk over its chain that sums the entries (document 01, "Election and advances").
 #![tactic(auto)]
 
-ghost use Rattle.std.specs.Prelude.{◌≡◌, ◌+◌, ◌*◌, ◌^◌, ◌<◌, ◌≤◌, true, length, ◌+ℤ◌};
-ghost use Rattle.std.specs.Int.Signed.{mag};
-ghost use Rattle.std.specs.Int.{w64};
-ghost use Rattle.std.proofs.Common.{to_z};
+ghost use Rattle.std.specs.Prelude.{◌≡◌, ◌+◌, ◌*◌, ◌≤◌, true, length};
 ghost use Rattle.units.specs.Limits.{record_length};
-ghost use Rattle.account_steps.specs.Account.{balance_bits};
 ghost use Rattle.book_rules.specs.Book.{length_fits, sound, is_user, is_entry, kind_at};
 ghost use Rattle.chains.specs.Statements.{statement_at};
-ghost use Rattle.statements.specs.InnerWalk.{sums_of, sums_before, closing_added, advance_added, entry_added, ClosingRoom, AdvanceRoom};
+ghost use Rattle.statements.specs.InnerWalk.{sums_of, sums_before, entry_added};
 ghost use Rattle.statements.specs.InnerWalk.{EntryRoom};
 
 use account_steps::{Account, Balance, ClosingSums};
@@ -17,9 +13,9 @@ use book_layout::kind;
 use book_records::AdvanceRecord;
 use units::{RecordIndex, Ticks};
 
-// "Statement: open year, credit, and the sums over the chain of C, O, F, contribution, liquidation, lapsed, balance, all
-// advances, advances of closed years."
-#[derive(Clone, Copy)]
+/// "Statement: open year, credit, and the sums over the chain of C, O, F, contribution, liquidation, lapsed, balance, all
+/// advances, advances of closed years."
+#[derive(Clone, Copy, Debug, PartialEq, Eq)]
 pub struct Sums {
     pub open_year: u64,
     pub credit: Ticks,
@@ -34,47 +30,33 @@ pub struct Sums {
     pub closed_advances: Ticks,
 }
 
-// The sum of two balances, which adds their bits.
-pub fn joined(a: Balance, b: Balance) -> Balance
-    requires { mag (to_z w64 a.0 +ℤ to_z w64 b.0) < 2 ^ 63 }
-    ensures { result ≡ balance_bits (to_z w64 a.0 +ℤ to_z w64 b.0) }
-{
-    Balance(std::num::wrapping_add_u64(a.0, b.0))
-}
-
 impl Sums {
+    ghost use Rattle.statements.specs.InnerWalk.{closing_added, advance_added, ClosingRoom, AdvanceRoom};
+
+    #[tactic(auto, unfolding(crate::specs::InnerWalk::closing_added))]
     fn with_closing(mut self, closing: ClosingSums) -> Sums
         requires { ClosingRoom closing self }
         ensures { result ≡ closing_added closing self }
     {
-        let value = Ticks(self.value.0 + closing.value.0);
-        let cost = Ticks(self.cost.0 + closing.cost.0);
-        let flat_rate = Ticks(self.flat_rate.0 + closing.flat_rate.0);
-        let contribution = Ticks(self.contribution.0 + closing.contribution.0);
-        let liquidation = Ticks(self.liquidation.0 + closing.liquidation.0);
-        let lapsed = Ticks(self.lapsed.0 + closing.lapsed.0);
-        let balance = joined(self.balance, closing.balance);
-        self.value = value;
-        self.cost = cost;
-        self.flat_rate = flat_rate;
-        self.contribution = contribution;
-        self.liquidation = liquidation;
-        self.lapsed = lapsed;
-        self.balance = balance;
+        self.value += closing.value;
+        self.cost += closing.cost;
+        self.flat_rate += closing.flat_rate;
+        self.contribution += closing.contribution;
+        self.liquidation += closing.liquidation;
+        self.lapsed += closing.lapsed;
+        self.balance += closing.balance;
         self
     }
 
+    #[tactic(auto, unfolding(crate::specs::InnerWalk::advance_added))]
     fn with_advance(mut self, advance: AdvanceRecord) -> Sums
         requires { AdvanceRoom advance self }
         ensures { result ≡ advance_added advance self }
     {
-        let advances = Ticks(self.advances.0 + advance.ticks.0);
-        let mut closed = self.closed_advances;
-        if (advance.year as u64) < self.open_year {
-            closed = Ticks(closed.0 + advance.ticks.0);
+        self.advances += advance.ticks;
+        if u64::from(advance.year) < self.open_year {
+            self.closed_advances += advance.ticks;
         }
-        self.advances = advances;
-        self.closed_advances = closed;
         self
     }
 }
@@ -97,12 +79,13 @@ fn with_entry(book: &[u8], at: RecordIndex, kind: u8, sums: Sums) -> Sums
 }
 
 // The sums before the first entry.
+#[tactic(auto, unfolding(crate::specs::InnerWalk::sums_before))]
 fn sums_before(account: Account) -> Sums
     ensures { result ≡ sums_before account }
 {
     Sums {
-        open_year: account.open_year as u64,
-        credit: Ticks(account.credit.0),
+        open_year: u64::from(account.open_year),
+        credit: account.credit,
         value: Ticks(0),
         cost: Ticks(0),
         flat_rate: Ticks(0),
@@ -115,6 +98,7 @@ fn sums_before(account: Account) -> Sums
     }
 }
 
+/// The statement of a user of a sound book.
 pub fn statement_of(book: &[u8], user: RecordIndex) -> Sums
     requires book_length { length_fits book.now ≡ true }
     requires sound_book { sound book.now ≡ true }

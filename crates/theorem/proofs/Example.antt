@@ -8,6 +8,7 @@ use native.Mathlib.Omega.{arith}
 use borrow.Author.Tests.{ltb-true}
 use lib.Dec.{ltb}
 use lib.ListN.{replicate}
+use Rattle.std.specs.Int.{int_wrap}
 use Rattle.units.proofs.Bools.{and_left, and_right}
 use Rattle.units.specs.Folds.{sum_below, all_below, any_below}
 use Rattle.codec.specs.Bytes.{little_endian, bytes_of, part, number, stored, zeros}
@@ -88,7 +89,7 @@ unfolding made_of calls others sum_below all_below any_below little_endian bytes
     flat_rate_of days_in is_day not_after in_window withdrawn_reading injected_reading word header_fits last_words_fit form_fits refused11 limit_at above_limit unused_band stray_band
     at_fault earliest refused13 refused19 month_withdrawn refused14 cost_in cost_of single_price value_in value_of month_injected withdrawn_over injected_over exchanged_over month_exchanged
     annual_rate annual_flat_rate flat_rate_over half_of year_values halves_paid due halves_count paid_of amount_of account_elected runs_in account_advanced account_closed contribution_of
-    liquidation_of lapsed_of credit_after balance_of charge_of withheld_from positive_part withheld_at_closing closing_withheld account_charged account_withheld get zeros record_at
+    liquidation_of lapsed_of credit_after balance_of int_wrap charge_of withheld_from positive_part withheld_at_closing closing_withheld account_charged account_withheld get zeros record_at
     put_record written head_image user_image advance_image closing_image account_in advance_in closing_in length_fits fresh_book used first_user used_fits kind_at has_kind entry_kind
     entry_ranges unnamed_of all_zero level_in is_entry details_fit open_year_fits halves_of is_made due_if_made runs_fit halves_made advances_fit later_half later_fits credit_fits halves_fit
     charge_fits account_fits year_fits is_run level_from booked_fits advance_fits balance_fits paid_balance withheld_fits closing_fits owner_of ranges_fit zero_bytes_fit next_of

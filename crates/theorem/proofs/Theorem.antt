@@ -1,30 +1,21 @@
 -- THE THIRD DEMAND, over the functions themselves.
-use Prim.Native.Nat.{ℕ, ◌^◌, ◌≤◌}
+use Prim.Native.Nat.{ℕ}
 use mathlib.Core.Path.{◌≡◌, refl, ap, sym, subst, subst₂, ◌∙◌}
 use mathlib.Core.Bool.{Bool, true, false, cond}
 use mathlib.Core.List.{List, [], ◌∷◌}
 use mathlib.Core.Option.{Option, none, some}
 use native.Mathlib.Omega.{arith}
 use borrow.Author.Tests.{eq-eqb}
-use lib.IntN.{nat_abs}
 use lib.ListN.{length}
-use Rattle.account_steps.proofs.Balances.{signed_back}
 use Rattle.book_rules.specs.Book.{length_fits, fresh_book}
-use Rattle.book_rules.proofs.Faultless.{sound-faultless}
 use Rattle.check_book.specs.Verdicts.{fresh_answer, fresh_after}
 use Rattle.check_book.proofs.Contract.{fresh-says}
 use Rattle.ledger.specs.Ledger.{Ledger, enrolled}
 use Rattle.chains.specs.Statements.{statement_at}
-use Rattle.chains.proofs.Fit.{sums-fit}
 use Rattle.book_rules.specs.Find.{find_user}
-use Rattle.call_rules.specs.Rules.{test_of}
-use Rattle.call_rules.specs.Refusals.{look_at}
-use Rattle.call_rules.specs.Calls.{Call, enrol, elect, advance, close, statement, charge, named_by, rules_of, refusal_of, record_named}
-use Rattle.call_rules.proofs.Orders.{fact}
-use Rattle.call_keeps.proofs.CallsFit.{named-user}
+use Rattle.call_rules.specs.Calls.{Call, enrol, elect, advance, close, statement, charge, named_by, refusal_of, record_named}
 use Rattle.statements.specs.InnerWalk.{sums_of, statement_in}
 use Rattle.ledger.specs.Accounting.{Accounts}
-use Rattle.statements.proofs.Toward.{mag-size}
 use Rattle.call_statement.specs.Stated.{sums_stated}
 use Rattle.call_statement.proofs.Contract.{statement-says}
 use Rattle.call_statement.proofs.statement.Reads as statement-of
@@ -63,18 +54,10 @@ has-ledger {number} (later m ms e) l = has-ledger e (cond (is_for number m) (pos
 
 -- the sums that a statement answers are the statement of the user's chain
 module _ (b : List ℕ) (number : ℕ) (known : refusal_of b (statement number) ≡ 0) where
-  balance-small : nat_abs (statement_at b (find_user b number)).balance ≤ 2 ^ 62
-  unfolding test_of rules_of look_at named_by
-  balance-small =
-      let met = fact b (statement number) known in
-      let user = (named-user b number (met 6)).user in
-      (sums-fit b (sound-faultless b (met 1) (met 2)) (met 1) (find_user b number) user).balance
-
   sums-back : statement_in (sums_of (statement_at b (find_user b number))) ≡ statement_at b (find_user b number)
   unfolding statement_in sums_of
   sums-back =
-      let t = statement_at b (find_user b number) in
-      rw (signed_back t.balance (omega (arith, mag-size t.balance, balance-small)))
+      refl
 
   statement-answers : (κs : _) (a : _) (r : _) (s : _) → statement-of.Post κs a r s → a.0.now ≡ b → a.1.0.0 ≡ number
       → (r.reply.refusal ≡ 0) × (r.reply.«record».0 ≡ 0) × (statement_in r.sums ≡ statement_at b (find_user b number))

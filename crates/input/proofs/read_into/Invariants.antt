@@ -1,5 +1,5 @@
 -- What was read stands behind what was held, and is what the reader had next.
-use Rattle.std.proofs.Common.{◌≡◌, ◌+◌, length, drop, vec_len, vec_items}
+use Rattle.std.proofs.Common.{◌≡◌, ◌+◌, vec_len, vec_items}
 use Rattle.std.specs.Io.{StartsWith, appended_bytes}
 use Rattle.std.specs.Io.KnownBytes.{Consumes}
 use Rattle.input.proofs.read_into.Given as goal

@@ -1,13 +1,13 @@
--- `flat_closed` is held to `flat_closed`: each field but the balance is copied; the balance is read as a signed number.
-use mir.Syntax.{w64}
-use mir.Val.{Fits}
-use Rattle.ssp.specs.Flat.{flat_closed}
-use Rattle.ssp.proofs.Flat.{read_back}
+-- `flat_closed` is held to `flat_closed`: each field is copied; the balance fits its own.
+use Rattle.std.specs.Int.{w64}
+use Rattle.std.specs.Prelude.{FitsSigned}
+use Rattle.std.proofs.lemmas.Int.{to_z-of_z}
 use Rattle.std.proofs.Common.{rules}
+use Rattle.ssp.specs.Flat.{flat_closed}
 use Rattle.ssp.proofs.flat_closed.Goals as goal
 
 pub returns : goal.returns
 unfolding flat_closed
 returns c =
-    let fits : Fits w64 c.args.closed.sums.balance.0 = search rules in
-    rw (read_back fits c.signed-balance.ensures)
+    let fits : FitsSigned w64 c.args.closed.sums.balance.0 = search rules in
+    rw (to_z-of_z w64 c.args.closed.sums.balance.0 fits)
