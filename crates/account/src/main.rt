@@ -3,7 +3,7 @@
 // conserved sum, in euro.
 #![tactic(auto)]
 
-ghost use Rattle.std.specs.Prelude.{◌≡◌, true, false, ◌≢◌, Some};
+ghost use Rattle.std.specs.Prelude.{◌≡◌, true, false, Some};
 ghost use Rattle.std.specs.Prelude.{unsigned_abs};
 ghost use Rattle.std.specs.Int.{is_negative};
 ghost use Rattle.account.specs.Amounts.{amount};
@@ -87,6 +87,15 @@ impl fmt::Display for Charge {
     }
 }
 
+// A user of an accepted book.
+#[derive(Clone, Copy)]
+struct User<'a> {
+    book: &'a [u8],
+    index: RecordIndex,
+    ghost accepted: { Accepted book.now },
+    ghost user_record: { is_user book.now index.0 ≡ true },
+}
+
 fn say_headings(out: &mut Printer) -> Result<(), Failure> {
     out.line(format_args!(
         "year option     {:>19}{:>19}{:>19}{:>19}{:>19}{:>19}{:>19}{:>19}{:>19}",
@@ -124,14 +133,11 @@ fn say_year(out: &mut Printer, year: Year) -> Result<(), Failure> {
 }
 
 // The closed years of a user, oldest first.
-fn say_years(out: &mut Printer, book: &[u8], user: RecordIndex) -> Result<(), Failure>
-    requires accepted { Accepted book.now }
-    requires user_record { is_user book.now user.0 ≡ true }
-{
-    let activation = book_view::activation_of(book, user);
-    let open = book_view::open_year_of(book, user);
+fn say_years(out: &mut Printer, user: User<'_>) -> Result<(), Failure> {
+    let activation = book_view::activation_of(user.book, user.index);
+    let open = book_view::open_year_of(user.book, user.index);
     for n in 0..open - activation {
-        say_year(out, account_years::closed_year(book, user, n))?;
+        say_year(out, account_years::closed_year(user.book, user.index, n))?;
     }
     Ok(())
 }
@@ -180,39 +186,23 @@ fn say_payments<N: fmt::Display + Drop>(
 }
 
 // The closed years of a user, oldest first.
-fn say_closed_payments(
-    out: &mut Printer,
-    book: &[u8],
-    user: RecordIndex,
-    each: OfEach,
-) -> Result<(), Failure>
-    requires accepted { Accepted book.now }
-    requires user_record { is_user book.now user.0 ≡ true }
-{
-    let activation = book_view::activation_of(book, user);
-    let open = book_view::open_year_of(book, user);
+fn say_closed_payments(out: &mut Printer, user: User<'_>, each: OfEach) -> Result<(), Failure> {
+    let activation = book_view::activation_of(user.book, user.index);
+    let open = book_view::open_year_of(user.book, user.index);
     for year in activation..open {
-        let payments = account_years::payments_of(book, user, year, year);
+        let payments = account_years::payments_of(user.book, user.index, year, year);
         say_payments(out, year, each, payments)?;
     }
     Ok(())
 }
 
 // The two open years, of which the earlier one takes charges.
-fn say_open_payments(
-    out: &mut Printer,
-    book: &[u8],
-    user: RecordIndex,
-    charge: Ticks,
-) -> Result<(), Failure>
-    requires accepted { Accepted book.now }
-    requires user_record { is_user book.now user.0 ≡ true }
-{
-    let open = book_view::open_year_of(book, user);
-    let payments = account_years::payments_of(book, user, open, open);
+fn say_open_payments(out: &mut Printer, user: User<'_>, charge: Ticks) -> Result<(), Failure> {
+    let open = book_view::open_year_of(user.book, user.index);
+    let payments = account_years::payments_of(user.book, user.index, open, open);
     say_payments(out, open, OfEach::Charged(charge), payments)?;
     let later = open + 1;
-    let payments = account_years::payments_of(book, user, later, later);
+    let payments = account_years::payments_of(user.book, user.index, later, later);
     say_payments(out, later, OfEach::Charged(Ticks(0)), payments)
 }
 
@@ -227,15 +217,17 @@ fn say_charges_made(out: &mut Printer, charges: Charges) -> Result<(), Failure> 
     ))
 }
 
-fn say_charges(out: &mut Printer, book: &[u8], user: RecordIndex) -> Result<(), Failure>
-    requires accepted { Accepted book.now }
-    requires user_record { is_user book.now user.0 ≡ true }
-{
+fn say_charges(out: &mut Printer, user: User<'_>) -> Result<(), Failure> {
     say_payment_headings(out)?;
-    let charges = account_years::charges_of(book, user);
-    say_closed_payments(out, book, user, charges.each)?;
-    say_open_payments(out, book, user, charges.open)?;
-    let payments = account_years::payments_of(book, user, 0, account_years::LAST_NAMED_YEAR);
+    let charges = account_years::charges_of(user.book, user.index);
+    say_closed_payments(out, user, charges.each)?;
+    say_open_payments(out, user, charges.open)?;
+    let payments = account_years::payments_of(
+        user.book,
+        user.index,
+        0,
+        account_years::LAST_NAMED_YEAR,
+    );
     say_payments(out, "all", OfEach::Charged(charges.made), payments)?;
     say_charges_made(out, charges)
 }
@@ -254,36 +246,23 @@ fn say_rest(out: &mut Printer, sums: Sums) -> Result<(), Failure>
     })
 }
 
-fn say_account(out: &mut Printer, book: &[u8], user: RecordIndex) -> Result<(), Failure>
-    requires accepted { Accepted book.now }
-    requires user_record { is_user book.now user.0 ≡ true }
-{
+fn say_account(out: &mut Printer, user: User<'_>) -> Result<(), Failure> {
     say_headings(out)?;
-    say_years(out, book, user)?;
-    let sums = statements::statement_of(book, user);
+    say_years(out, user)?;
+    let sums = statements::statement_of(user.book, user.index);
     say_totals(out, sums)?;
-    say_charges(out, book, user)?;
+    say_charges(out, user)?;
     out.line("")?;
     out.line(format_args!("open year {}", sums.open_year))?;
     say_rest(out, sums)
-}
-
-fn answer_sound(out: &mut Printer, book: &[u8], user: RecordIndex) -> Result<(), Failure>
-    requires accepted { Accepted book.now }
-    requires user_record { (user.0 ≢ 0) → is_user book.now user.0 ≡ true }
-{
-    if user.0 == 0 {
-        out.line("refused 6")
-    } else {
-        say_account(out, book, user)
-    }
 }
 
 fn answer(out: &mut Printer, book: &[u8], number: UserNumber) -> Result<(), Failure> {
     match check_book::find(book, number) {
         Verdict::Length => out.line("refused 1"),
         Verdict::Faulty(_) => out.line("refused 2"),
-        Verdict::Sound(user) => answer_sound(out, book, user),
+        Verdict::Sound(index) if index.0 == 0 => out.line("refused 6"),
+        Verdict::Sound(index) => say_account(out, User { book, index }),
     }
 }
 
