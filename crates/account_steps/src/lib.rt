@@ -28,7 +28,7 @@ pub struct Charge {
 
 /// A user's account. Option, runs and what `Charge` has made are numbers, as the details are: the check of a book reads them from any
 /// bytes and judges them, so an enum would want an account of the faulty ones beside it.
-#[derive(Clone, Copy)]
+#[derive(Clone, Copy, Debug, PartialEq, Eq)]
 pub struct Account {
     pub number: UserNumber,
     pub details: Details,
@@ -66,7 +66,7 @@ pub struct Settlement {
 }
 
 /// The account after a closing, and what the closing came to.
-#[derive(Clone, Copy)]
+#[derive(Clone, Copy, Debug, PartialEq, Eq)]
 pub struct Closed {
     pub account: Account,
     pub settlement: Settlement,

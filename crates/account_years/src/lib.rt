@@ -20,7 +20,7 @@ use units::{RecordIndex, Ticks};
 pub const LAST_NAMED_YEAR: u16 = 65_535;
 
 // What entries pay: the advances among them, what was withheld from all of them, and what was paid out.
-#[derive(Clone, Copy)]
+#[derive(Clone, Copy, Debug, PartialEq, Eq)]
 pub struct Payments {
     pub advances: Ticks,
     pub withheld: Ticks,
@@ -28,14 +28,14 @@ pub struct Payments {
 }
 
 // What each closed year was charged. Which of them were is not kept.
-#[derive(Clone, Copy)]
+#[derive(Clone, Copy, Debug, PartialEq, Eq)]
 pub enum OfEach {
     Charged(Ticks),
     NotKept,
 }
 
 // The charges made, what of them was withheld and what rests, and those of the open year and of each closed one.
-#[derive(Clone, Copy)]
+#[derive(Clone, Copy, Debug, PartialEq, Eq)]
 pub struct Charges {
     pub made: Ticks,
     pub withheld: Ticks,
@@ -45,7 +45,7 @@ pub struct Charges {
 }
 
 // One closed year.
-#[derive(Clone, Copy)]
+#[derive(Clone, Copy, Debug, PartialEq, Eq)]
 pub struct Year {
     pub year: u16,
     pub option: u8,

@@ -12,7 +12,7 @@ use sheet_values::Details;
 use units::{Kwh, RECORD_LENGTH, RecordIndex, Ticks};
 
 // A user record: its links and the account.
-#[derive(Clone, Copy)]
+#[derive(Clone, Copy, Debug, PartialEq, Eq)]
 pub struct UserRecord {
     pub next: RecordIndex,
     pub first: RecordIndex,
@@ -21,7 +21,7 @@ pub struct UserRecord {
 
 // An advance entry. One of the later year has the year that was open when it was booked; else that is 0. An entry keeps what was
 // withheld from what it pays (document 02, ticket 1).
-#[derive(Clone, Copy)]
+#[derive(Clone, Copy, Debug, PartialEq, Eq)]
 pub struct AdvanceRecord {
     pub next: RecordIndex,
     pub run: u8,
@@ -33,7 +33,7 @@ pub struct AdvanceRecord {
 }
 
 // A closing entry.
-#[derive(Clone, Copy)]
+#[derive(Clone, Copy, Debug, PartialEq, Eq)]
 pub struct ClosingRecord {
     pub next: RecordIndex,
     pub option: u8,

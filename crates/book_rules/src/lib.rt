@@ -189,6 +189,7 @@ fn nothing_paid(a: Account) -> bool
 }
 
 // What is paid of both open years, and what of the charges is not.
+#[inline(always)]
 fn payments_fit(a: Account) -> bool
     ensures { result ≡ payments_fit a }
 {
@@ -202,6 +203,7 @@ fn payments_fit(a: Account) -> bool
 }
 
 // What is paid is looked at last, where all else fits.
+#[inline(always)]
 fn account_fits(a: Account) -> bool
     ensures { result ≡ account_fits a }
 {
@@ -304,8 +306,10 @@ fn closing_fits(activation: u16, open_year: u16, c: ClosingRecord) -> bool
         & ((energy & flat) & (rest & payments))
 }
 
-// A RECORD'S OWN RULES: its ranges and its zero bytes. Those of an entry go by its owner's record too.
+// A RECORD'S OWN RULES: its ranges and its zero bytes. Those of an entry go by its owner's record too. A pass over a book asks them of
+// every record, so that they and what they ask of an account are made part of it.
 
+#[inline(always)]
 pub fn user_record_fits(r: &[u8]) -> bool
     requires { length r.now ≡ record_length }
     ensures { result ≡ (account_fits (account_in r.now) && all_zero unnamed_of_user r.now) }
@@ -318,6 +322,7 @@ pub fn user_record_fits(r: &[u8]) -> bool
     }
 }
 
+#[inline(always)]
 pub fn entry_record_fits(r: &[u8], owner: &[u8]) -> bool
     requires { length r.now ≡ record_length }
     ensures { result ≡ (entry_ranges (account_in owner.now) r.now

@@ -2,11 +2,11 @@
 // book here: an index may lead anywhere, and a record past the end has zeros in all its fields.
 #![tactic(auto)]
 
-ghost use Rattle.std.specs.Prelude.{◌≡◌, ◌+◌, ◌*◌, ◌≤◌, length};
+ghost use Rattle.std.specs.Prelude.{◌≡◌, true, ◌+◌, ◌*◌, ◌≤◌, length};
 ghost use Rattle.units.specs.Limits.{record_length};
 ghost use Rattle.units.specs.Units.{user_number, record_index};
 ghost use Rattle.book_rules.specs.Book.{first_user, used_fits, kind_at, has_kind, is_user, is_advance, is_closing, is_entry, owner_of};
-ghost use Rattle.book_rules.specs.Book.{account_at};
+ghost use Rattle.book_rules.specs.Book.{account_at, length_fits, sound};
 ghost use Rattle.book_rules.specs.Book.{next_of, first_entry_of, number_of, level_of, activation_of, open_year_of};
 ghost use Rattle.book_rules.specs.Book.{used as usedIn};
 
@@ -14,6 +14,22 @@ use account_steps::Account;
 use book_layout::kind::{ADVANCE, CLOSING, USER};
 use book_layout::record;
 use units::{RECORD_LENGTH, RecordIndex, UserNumber};
+
+/// A book that refusals 1 and 2 pass: of the length of a book, and with no faulty record.
+#[derive(Clone, Copy)]
+pub struct SoundBook<'a> {
+    pub bytes: &'a [u8],
+    ghost length: { length_fits bytes.now ≡ true },
+    ghost no_fault: { sound bytes.now ≡ true },
+}
+
+/// A user of a sound book, by the index of its record.
+#[derive(Clone, Copy)]
+pub struct User<'a> {
+    pub book: SoundBook<'a>,
+    pub index: RecordIndex,
+    ghost user_record: { is_user book.bytes.now index.0 ≡ true },
+}
 
 // THE HEAD
 

@@ -15,7 +15,7 @@ use book_records::AdvanceRecord;
 use call_answers::Reply;
 use units::{Kwh, Rate, RecordIndex, Ticks, UserNumber, WideKwh};
 
-#[derive(Clone, Copy)]
+#[derive(Clone, Copy, Debug, PartialEq, Eq)]
 pub struct Advanced {
     pub reply: Reply,
     pub ticks: Ticks,

@@ -9,7 +9,7 @@ use check_book::Verdict;
 use units::{RecordIndex, UserNumber};
 
 // A refusal, 0 for none, and the record that it or the call names.
-#[derive(Clone, Copy)]
+#[derive(Clone, Copy, Debug, PartialEq, Eq)]
 pub struct Reply {
     pub refusal: u32,
     pub record: RecordIndex,
@@ -26,7 +26,7 @@ pub fn refused(refusal: u32) -> Reply
 }
 
 // Refusal 1 or 2 with its record, or none and the user with the number, 0 for none.
-#[derive(Clone, Copy)]
+#[derive(Clone, Copy, Debug, PartialEq, Eq)]
 pub struct Looked {
     pub reply: Reply,
     pub user: RecordIndex,

@@ -18,7 +18,7 @@ use sheet_values::YearValues;
 use units::{RecordIndex, Ticks};
 
 // The reply, after a refusal 13 or 19 where the number at fault stands, and the entry's sums.
-#[derive(Clone, Copy)]
+#[derive(Clone, Copy, Debug, PartialEq, Eq)]
 pub struct Closed {
     pub reply: Reply,
     pub position: Position,

@@ -16,7 +16,7 @@ use sheet_more_sun::Addition;
 use units::RecordIndex;
 
 // The reply, after a refusal 13 or 19 where the number at fault stands, and the least addition.
-#[derive(Clone, Copy)]
+#[derive(Clone, Copy, Debug, PartialEq, Eq)]
 pub struct MoreSun {
     pub reply: Reply,
     pub position: Position,

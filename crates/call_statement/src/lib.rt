@@ -11,7 +11,7 @@ use call_answers::Reply;
 use statements::Sums;
 use units::{RecordIndex, Ticks, UserNumber};
 
-#[derive(Clone, Copy)]
+#[derive(Clone, Copy, Debug, PartialEq, Eq)]
 pub struct Stated {
     pub reply: Reply,
     pub sums: Sums,

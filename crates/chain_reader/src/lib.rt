@@ -15,7 +15,7 @@ struct Chain<'a> {
 }
 
 // A link of a chain: the index that follows, and the kind of the record.
-#[derive(Clone, Copy)]
+#[derive(Clone, Copy, Debug, PartialEq, Eq)]
 pub struct Link {
     pub next: RecordIndex,
     pub kind: u8,

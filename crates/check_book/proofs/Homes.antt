@@ -6,6 +6,10 @@ use mathlib.Core.Path.{◌≡◌, refl, sym, ◌∙◌}
 use mathlib.Core.Bool.{Bool, true, false, cond, not, ◌&&◌, true≢false, false≢true}
 use mathlib.Core.Logic.{◌⊎◌, inl, inr}
 use mathlib.Core.List.{List}
+use Rattle.std.proofs.Common.{Option, Some, None, IfSome, MatchOption}
+use Rattle.std.proofs.lemmas.Option.{IfSome_then}
+use Rattle.units.specs.declared.RecordIndex.{RecordIndex}
+use Rattle.units.specs.Units.{record_index}
 use native.Mathlib.Decide.{dec_lt, ℕ_discrete}
 use native.Mathlib.Omega.{arith}
 use borrow.Author.Count.{below_more}
@@ -97,57 +101,45 @@ bad-first b bad k = record { from = k.from; to = k.to; is-bad = k.faulty }
 pub bad-here : (b : List ℕ) (i : ℕ) → 1 ≤ i → i < used b → good_record b i ≡ false → Bad b i
 bad-here b i lo hi g = record { from = lo; to = omega arith; is-bad = λ _. g }
 
--- The entries of a user are met from the first one up: those before e are fine, and e is one of them, or 0 after the last.
-pub record EntriesMet (b : List ℕ) (bad user e : ℕ) : Type 0 where
-  pub fine : (k : ℕ) → user < k → owns b user k ≡ true → (e ≡ 0) ⊎ (k < e) → Fine b bad k
-  pub here : (e ≡ 0 → ⊥) → owns b user e ≡ true
+-- The entries of a user are met from the first one up: those before the next one are fine, and so are all after the last.
+pub record EntriesMet (b : List ℕ) (bad user : ℕ) (next : Option RecordIndex) : Type 0 where
+  pub fine : (k : ℕ) → user < k → owns b user k ≡ true → IfSome next (λ i. k < i.0) → Fine b bad k
+  pub here : IfSome next (λ i. owns b user i.0 ≡ true)
 
-pub entries_none : (b : List ℕ) (bad user e : ℕ) → NextOwned b user 0 e → EntriesMet b bad user e
-entries_none b bad user e first =
+-- no entry of the user is before the next one
+not_before : (next : Option RecordIndex) (k : ℕ) → MatchOption next ⊥ (λ i. i.0 ≤ k) → IfSome next (λ i. k < i.0) → ⊥
+not_before None k n l = n
+not_before (Some i) k n l = omega (arith, n, l)
+
+pub entries_none : (b : List ℕ) (bad user : ℕ) (next : Option RecordIndex) → NextOwned b user 0 next → EntriesMet b bad user next
+entries_none b bad user next first =
     record {
-      fine = λ k p q d. absurd (before d (first.none_before k (omega arith) q));
-      here = λ some. (first.here some).0;
+      fine = λ k p q d. absurd (not_before next k (first.none_before k (omega arith) q) d);
+      here = IfSome_then next first.here (λ i h. h.0);
     }
-  where
-    before : {k : ℕ} → (e ≡ 0) ⊎ (k < e) → (e ≡ 0 → ⊥) × (e ≤ k) → ⊥
-    before (inl z) n = n.0 z
-    before (inr l) n = let w : ⊥ = omega (arith, l, n.1) in w
 
-module _ (b : List ℕ) (bad user e : ℕ) (met : EntriesMet b bad user e) (some : e ≡ 0 → ⊥) where
+module _ (b : List ℕ) (bad user e : ℕ) (met : EntriesMet b bad user (Some (record_index e))) where
   pub entry_here : is_entry b e ≡ true
-  entry_here = owns-entry b user e (met.here some)
+  entry_here = owns-entry b user e met.here
 
   pub entry_place : (1 ≤ e) × (e < used b)
   entry_place = entry-index b e entry_here
 
-  module _ (next : ℕ) (later : NextOwned b user (e + 1) next) where
-    pub entries_next : good_record b e ≡ true → EntriesMet b bad user next
-    entries_next g = record { fine = λ k p q d. by_place k p q d (dec_lt k e) (dec_lt e k); here = λ s. (later.here s).0 }
-      where
-        beyond : (k : ℕ) → e < k → owns b user k ≡ true → (next ≡ 0) ⊎ (k < next) → ⊥
-        beyond k over q (inl z) = (later.none_before k (omega arith) q).0 z
-        beyond k over q (inr l) = let n = (later.none_before k (omega arith) q).1 in let w : ⊥ = omega (arith, n) in w
-
-        by_place : (k : ℕ) → user < k → owns b user k ≡ true → (next ≡ 0) ⊎ (k < next) → Dec (k < e) → Dec (e < k) → Fine b bad k
-        by_place k p q d (yes under) t = met.fine k p q (inr under)
-        by_place k p q d (no n) (yes over) = absurd (beyond k over q d)
-        by_place k p q d (no n) (no m) = λ _. let same : k ≡ e = omega (arith, n, m) in rw same g
+  pub entries_next : {next : Option RecordIndex} → NextOwned b user (e + 1) next → good_record b e ≡ true → EntriesMet b bad user next
+  entries_next {next} later g = record { fine = λ k p q d. by_place k p q d (dec_lt k e) (dec_lt e k); here = IfSome_then next later.here (λ i h. h.0) }
+    where
+      by_place : (k : ℕ) → user < k → owns b user k ≡ true → IfSome next (λ i. k < i.0) → Dec (k < e) → Dec (e < k) → Fine b bad k
+      by_place k p q d (yes under) t = met.fine k p q under
+      by_place k p q d (no n) (yes over) = absurd (not_before next k (later.none_before k (omega arith) q) d)
+      by_place k p q d (no n) (no m) = λ _. let same : k ≡ e = omega (arith, n, m) in rw same g
 
   -- the entries are left at e: it is the smallest faulty one, or `bad` stands before it
   pub entries-left : (sooner : ℕ) → sooner ≤ bad → sooner ≤ e → (k : ℕ) → user < k → owns b user k ≡ true → Fine b sooner k
-  entries-left sooner l m k p q under = met.fine k p q (inr (omega arith)) (omega arith)
+  entries-left sooner l m k p q under = met.fine k p q (omega arith) (omega arith)
 
 -- all entries are met
-entries-all : (b : List ℕ) (bad user e : ℕ) → EntriesMet b bad user e → e ≡ 0 → (k : ℕ) → user < k → owns b user k ≡ true → Fine b bad k
-entries-all b bad user e met end k p q = met.fine k p q (inl end)
-
--- the entries are left at their end, or at one that is not before `bad`
-pub entries-ended : (b : List ℕ) (bad user e : ℕ) → EntriesMet b bad user e → (not (eqb e 0) && ltb e bad) ≡ false → (k : ℕ) → user < k → owns b user k ≡ true → Fine b bad k
-entries-ended b bad user e met test = by_end (ℕ_discrete e 0)
-  where
-    by_end : Dec (e ≡ 0) → (k : ℕ) → user < k → owns b user k ≡ true → Fine b bad k
-    by_end (yes end) = entries-all b bad user e met end
-    by_end (no some) = entries-left b bad user e met some bad (omega arith) (ltb-false e bad (rw (ne_eqb e 0 some) at test))
+pub entries-all : (b : List ℕ) (bad user : ℕ) → EntriesMet b bad user None → (k : ℕ) → user < k → owns b user k ≡ true → Fine b bad k
+entries-all b bad user met k p q = met.fine k p q tt
 
 -- an entry of a user whose turn it is stands behind it: what stands before has had its turn, and its owner is before it
 entry-not-user : (b : List ℕ) (e : ℕ) → is_entry b e ≡ true → is_user b e ≡ false
@@ -173,19 +165,16 @@ entry-after b bad i e homes user q = by_place (owns-entry b i e q) (owns-owner b
         absurd (not-both b e here entry)
 
 -- how far it is to the end of the records; 0 after the last entry
-unfoldable pub ahead : ℕ → ℕ → ℕ
-ahead records e = cond (eqb e 0) 0 (records - e)
+unfoldable pub ahead : ℕ → Option RecordIndex → ℕ
+ahead records None = 0
+ahead records (Some i) = records - i.0
 
-pub ahead-less : (b : List ℕ) (user records e next : ℕ) → records ≡ used b → e < used b → 1 ≤ e → NextOwned b user (e + 1) next → ahead records next < ahead records e
+pub ahead-less : (b : List ℕ) (user records e : ℕ) (next : Option RecordIndex) → records ≡ used b → e < used b → NextOwned b user (e + 1) next → ahead records next < ahead records (Some (record_index e))
 unfolding ahead
-ahead-less b user records e next all under from later = rw (ne_eqb e 0 (λ z. let w : ⊥ = omega (arith, from, z) in w)) (by_end (ℕ_discrete next 0))
-  where
-    by_end : Dec (next ≡ 0) → cond (eqb next 0) 0 (records - next) < records - e
-    by_end (yes end) = rw (eq-eqb next 0 end) (omega arith)
-    by_end (no some) =
-        let here = later.here some in
-        let inside = (entry-index b next (owns-entry b user next here.0)).1 in
-        rw (ne_eqb next 0 some) (omega (arith, here.1, inside))
+ahead-less b user records e None all under later = omega arith
+ahead-less b user records e (Some i) all under later =
+    let inside = (entry-index b i.0 (owns-entry b user i.0 later.here.0)).1 in
+    omega (arith, later.here.1)
 
 -- one index more
 pub homes-next : (b : List ℕ) (bad i : ℕ) → Homes b bad i → Home b bad i → Homes b bad (i + 1)

@@ -2,3 +2,4 @@ pub mod Contract
 pub mod FreshBooks
 pub mod Homes
 pub mod SeenNumbers
+pub mod Turns

@@ -1,6 +1,7 @@
 -- What each answer of the check says of the book, and what fresh answers and leaves (document 01, "Book" and "Who brings which
 -- number").
-use Rattle.std.specs.Prelude.{ℕ, ◌≤◌, ◌<◌, ◌≡◌, true, false, cond, List, length}
+use Rattle.std.specs.Prelude.{ℕ, ◌≤◌, ◌<◌, ◌≡◌, true, false, cond, Option, MatchOption, List, length}
+use Rattle.units.specs.declared.RecordIndex.{RecordIndex}
 use Rattle.units.specs.Units.{record_index}
 use Rattle.book_rules.specs.Book.{length_fits, fresh_book, used, good_record, sound, smallest_faulty}
 use Rattle.book_rules.specs.Find.{find_user}
@@ -12,6 +13,10 @@ pub record RecordsJudged (b : List ℕ) (bad : ℕ) : Type 0 where
   pub to : bad ≤ used b
   pub is-bad : bad < used b → good_record b bad ≡ false
   pub before : (i : ℕ) → 1 ≤ i → i < bad → good_record b i ≡ true
+
+-- what a search of them finds: the faulty one with the smallest index, none where none is faulty
+abbrev pub RecordsSearched : List ℕ → Option RecordIndex → Type 0
+RecordsSearched b r = MatchOption r (RecordsJudged b (used b)) (λ bad. (bad.0 < used b) × RecordsJudged b bad.0)
 
 -- a book that neither refusal 1 nor refusal 2 meets
 pub record Accepted (b : List ℕ) : Type 0 where

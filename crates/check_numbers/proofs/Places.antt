@@ -10,9 +10,9 @@ pub mixed-next : (n r : ℕ) → mixed n (r + 1) ≡ remixed (mixed n r)
 unfolding mixed
 mixed-next n r = rw add-one
 
-pub start-inside : (places : ℕ) {m : ℕ} → 0 < places → m < word_size → start_of places m < places
+pub start_inside : (places : ℕ) {m : ℕ} → 0 < places → m < word_size → start_of places m < places
 unfolding start_of
-start-inside places some small =
+start_inside places some small =
     let starts : 0 < min places word_size = omega arith in
     omega (arith, mul-lt-mul_of_pos_right small starts)
 

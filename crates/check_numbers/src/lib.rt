@@ -17,27 +17,24 @@ const RUN_LENGTH: usize = 4;
 // 2^32, and its golden section: numbers that follow one another fall far apart.
 const WORD_SIZE: usize = 4_294_967_296;
 
-const GOLDEN: usize = 2_654_435_769;
+const GOLDEN: u32 = 2_654_435_769;
 
 // Each run starts from all bits of the number, so that few numbers share the starts of several runs. The 1 is for numbers such as
 // 2^31, which no odd factor moves.
+#[tactic(auto, unfolding(crate::specs::InnerHeld::remixed))]
 fn remix(mixed: u32) -> u32
     ensures { result ≡ remixed mixed }
 {
-    ((mixed as usize * GOLDEN + 1) % WORD_SIZE) as u32
+    mixed.wrapping_mul(GOLDEN).wrapping_add(1)
 }
 
 // As far along the table as the mixed number is along 2^32. The product fits: no place from 2^32 on is a start.
+#[tactic(auto, using(crate::proofs::Places::start_inside), unfolding(crate::specs::InnerHeld::start_of))]
 fn start_of(places: usize, mixed: u32) -> usize
     requires { 0 < places }
     ensures { PlaceIs (start_of places mixed) places result }
 {
-    let starts = if places < WORD_SIZE {
-        places
-    } else {
-        WORD_SIZE
-    };
-    mixed as usize * starts / WORD_SIZE
+    mixed as usize * places.min(WORD_SIZE) / WORD_SIZE
 }
 
 // After the last place comes the first.
@@ -55,12 +52,10 @@ pub fn insert(table: &mut [u32], number: UserNumber) -> bool
     ensures { Put table.old number.0 table.new result }
 {
     let mut mixed = number.0;
-    let mut run = 0;
-    while run < MOST_RUNS {
+    for _run in 0..MOST_RUNS {
         mixed = remix(mixed);
         let mut at = start_of(table.len(), mixed);
-        let mut step = 0;
-        while step < RUN_LENGTH {
+        for _step in 0..RUN_LENGTH {
             let there = table[at];
             if there == 0 {
                 table[at] = number.0;
@@ -70,9 +65,7 @@ pub fn insert(table: &mut [u32], number: UserNumber) -> bool
                 return false;
             }
             at = place_after(table.len(), at);
-            step = step + 1;
         }
-        run = run + 1;
     }
     false
 }

@@ -3,6 +3,7 @@ use Prim.Native.Nat.{ℕ, ◌+◌, ◌≤◌, ◌<◌}
 use mathlib.Core.Path.{◌≡◌, refl, sym, ap, subst, ◌∙◌}
 use mathlib.Core.Bool.{Bool, true, false, ◌&&◌, true≢false}
 use mathlib.Core.List.{List}
+use Rattle.std.proofs.Common.{Option, Some, None}
 use native.Mathlib.Decide.{ℕ_discrete}
 use native.Mathlib.Omega.{arith}
 use borrow.Author.Tests.{lt-ltb}
@@ -15,60 +16,42 @@ use Rattle.units.specs.Limits.{most_records}
 use Rattle.units.specs.declared.RecordIndex.{RecordIndex}
 use Rattle.units.specs.Units.{record_index}
 use Rattle.check_owners.specs.declared.Entries.{Entries}
-use Rattle.check_owners.specs.InnerOwners.{owns, NextOwned, index_at, Linked}
+use Rattle.check_owners.specs.InnerOwners.{owns, NextOwned, Linked}
 use Rattle.check_owners.proofs.Owned.{owns-entry, owns-owner, owns-own, owns-no-other, owned-none, owned-here, owned-further, owned-all}
 
--- what a list has once one index of it is set
-module _ (l : List RecordIndex) (k : ℕ) (i : RecordIndex) where
-  index_same : k < length l → index_at (set l k i) k ≡ i.0
-  unfolding index_at
-  index_same h = ap (λ (r : RecordIndex). r.0) (get_or-set_same l k i (record_index 0) h)
-
-  index-other : (j : ℕ) → (j ≡ k → ⊥) → index_at (set l k i) j ≡ index_at l j
-  unfolding index_at
-  index-other j d = ap (λ (r : RecordIndex). r.0) (get_or-set_other l k j i (record_index 0) d)
-
-index-none : (n k : ℕ) → k < n → index_at (replicate n (record_index 0)) k ≡ 0
-unfolding index_at
-index-none n k h = ap (λ (r : RecordIndex). r.0) (get_or-replicate n k (record_index 0) (record_index 0) h)
-
 -- the entries from `n` on are linked
-pub record LinkedFrom (b : List ℕ) (n : ℕ) (firsts laters : List RecordIndex) : Type 0 where
-  pub first : (o : ℕ) → o < used b → NextOwned b o n (index_at firsts o)
-  pub later : (k : ℕ) → n ≤ k → (o : ℕ) → o < used b → owns b o k ≡ true → NextOwned b o (k + 1) (index_at laters k)
+pub record LinkedFrom (b : List ℕ) (n : ℕ) (firsts laters : List (Option RecordIndex)) : Type 0 where
+  pub first : (o : ℕ) → o < used b → NextOwned b o n (get_or firsts o None)
+  pub later : (k : ℕ) → n ≤ k → (o : ℕ) → o < used b → owns b o k ≡ true → NextOwned b o (k + 1) (get_or laters k None)
 
-pub linked-none : (b : List ℕ) (laters : List RecordIndex) (n : ℕ) → n ≡ used b → used b ≤ most_records → LinkedFrom b n (replicate most_records (record_index 0)) laters
+pub linked-none : (b : List ℕ) (laters : List (Option RecordIndex)) (n : ℕ) → n ≡ used b → used b ≤ most_records → LinkedFrom b n (replicate most_records None) laters
 linked-none b laters n end fits =
     record {
-      first = λ o h. rw (index-none most_records o (omega arith)) (owned-none b o n (omega (arith, end)));
-      later = λ k l o h q. absurd (((owned-none b o n (omega (arith, end))).none_before k l q).0 refl);
+      first = λ o h. rw (get_or-replicate {A = Option RecordIndex} most_records o None None (omega arith)) (owned-none b o n (omega (arith, end)));
+      later = λ k l o h q. absurd ((owned-none b o n (omega (arith, end))).none_before k l q);
     }
 
-module _ (b : List ℕ) (n : ℕ) {firsts laters : List RecordIndex} (linked : LinkedFrom b (n + 1) firsts laters) where
+module _ (b : List ℕ) (n : ℕ) {firsts laters : List (Option RecordIndex)} (linked : LinkedFrom b (n + 1) firsts laters) where
   -- the record is an entry of a record of the book
   module _ {owner : ℕ} (e : is_entry b n ≡ true) (w : owner ≡ owner_of b n) (room : owner < length firsts) (place : n < length laters) where
-    first-after : (o : ℕ) → o < used b → Dec (o ≡ owner) → NextOwned b o n (index_at (set firsts owner (record_index n)) o)
+    first-after : (o : ℕ) → o < used b → Dec (o ≡ owner) → NextOwned b o n (get_or (set firsts owner (Some (record_index n))) o None)
     first-after o h (yes same) =
         let here = owned-here b owner n (owns-own b owner n e (sym w)) in
-        rw (same, index_same firsts owner (record_index n) room) here
+        rw (same, get_or-set_same firsts owner (Some (record_index n)) None room) here
     first-after o h (no d) =
-        rw (index-other firsts owner (record_index n) o d) (owned-further b o n (owns-no-other b o n (λ same. d (sym (w ∙ same)))) (linked.first o h))
+        rw (get_or-set_other firsts owner o (Some (record_index n)) None d) (owned-further b o n (owns-no-other b o n (λ same. d (sym (w ∙ same)))) (linked.first o h))
 
-    abbrev laters-after : List RecordIndex
-    laters-after = set laters n (get_or firsts owner (record_index 0))
+    abbrev laters-after : List (Option RecordIndex)
+    laters-after = set laters n (get_or firsts owner None)
 
-    from_first : {o : ℕ} → owner ≡ o → NextOwned b o (n + 1) (index_at firsts o) → NextOwned b o (n + 1) (get_or firsts owner (record_index 0)).0
-    unfolding index_at
-    from_first {o} mine first = subst (λ (p : ℕ). NextOwned b o (n + 1) (get_or firsts p (record_index 0)).0) (sym mine) first
-
-    later-after : (k : ℕ) → n ≤ k → (o : ℕ) → o < used b → owns b o k ≡ true → Dec (k ≡ n) → NextOwned b o (k + 1) (index_at laters-after k)
+    later-after : (k : ℕ) → n ≤ k → (o : ℕ) → o < used b → owns b o k ≡ true → Dec (k ≡ n) → NextOwned b o (k + 1) (get_or laters-after k None)
     later-after k l o h q (yes same) =
         let here : owns b o n ≡ true = rw same at q in
         let mine : owner ≡ o = w ∙ owns-owner b o n here in
-        rw (same, index_same laters n (get_or firsts owner (record_index 0)) place) (from_first mine (linked.first o h))
-    later-after k l o h q (no d) = rw (index-other laters n (get_or firsts owner (record_index 0)) k d) (linked.later k (omega (arith, d)) o h q)
+        rw (same, get_or-set_same laters n (get_or firsts owner None) None place, mine) (linked.first o h)
+    later-after k l o h q (no d) = rw (get_or-set_other laters n k (get_or firsts owner None) None d) (linked.later k (omega (arith, d)) o h q)
 
-    pub linked-entry : LinkedFrom b n (set firsts owner (record_index n)) laters-after
+    pub linked-entry : LinkedFrom b n (set firsts owner (Some (record_index n))) laters-after
     linked-entry =
         record {
           first = λ o h. first-after o h (ℕ_discrete o owner);
@@ -90,7 +73,7 @@ module _ (b : List ℕ) (n : ℕ) {firsts laters : List RecordIndex} (linked : L
             let both : (entry && ltb owner records) ≡ true = rw (found, within) in
             absurd (true≢false (sym both ∙ told))
 
-    later-kept : (k : ℕ) → n ≤ k → (o : ℕ) → o < used b → owns b o k ≡ true → Dec (k ≡ n) → NextOwned b o (k + 1) (index_at laters k)
+    later-kept : (k : ℕ) → n ≤ k → (o : ℕ) → o < used b → owns b o k ≡ true → Dec (k ≡ n) → NextOwned b o (k + 1) (get_or laters k None)
     later-kept k l o h q (yes same) = let here : owns b o n ≡ true = rw same at q in absurd (true≢false (sym here ∙ nobody's o h))
     later-kept k l o h q (no d) = linked.later k (omega (arith, d)) o h q
 

@@ -9,11 +9,11 @@ ghost use Rattle.check_owners.specs.InnerOwners.{Linked};
 
 use units::{MOST_RECORDS, RecordIndex};
 
-// The first entry of each owner, and of each entry the next one that has the same owner; 0 for none.
+// The first entry of each owner, and of each entry the next one that has the same owner.
 #[derive(Clone, Copy)]
 pub struct Entries {
-    pub first: [RecordIndex; MOST_RECORDS],
-    pub later: [RecordIndex; MOST_RECORDS],
+    pub first: [Option<RecordIndex>; MOST_RECORDS],
+    pub later: [Option<RecordIndex>; MOST_RECORDS],
 }
 
 // The records but the head are passed from the last one down, and each is read once. An entry whose owner is no record of the book
@@ -23,19 +23,16 @@ pub fn by_owner(book: &[u8]) -> Entries
     requires records_used { used_fits book.now ≡ true }
     ensures { Linked book.now result }
 {
-    let mut first = [RecordIndex(0); MOST_RECORDS];
-    let mut later = [RecordIndex(0); MOST_RECORDS];
+    let mut first = [None; MOST_RECORDS];
+    let mut later = [None; MOST_RECORDS];
     let records = book_view::used(book);
-    let mut left = records;
-    while 1 < left {
-        let e = left - 1;
+    for e in (1..records).rev() {
         let r = book_layout::whole_record(book, e as usize);
         let owner = book_layout::owner_of(r).0;
         if book_rules::is_entry_kind(book_layout::kind_of(r)) & (owner < records) {
             later[e as usize] = first[owner as usize];
-            first[owner as usize] = RecordIndex(e);
+            first[owner as usize] = Some(RecordIndex(e));
         }
-        left = e;
     }
     Entries { first, later }
 }

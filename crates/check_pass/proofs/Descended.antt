@@ -7,13 +7,16 @@ use mathlib.Core.List.{List}
 use native.Mathlib.Decide.{ℕ_discrete}
 use native.Mathlib.Numerals.{add-one}
 use native.Mathlib.Omega.{arith}
-use borrow.Author.Tests.{ne_eqb, eqb-true, eqb-false}
+use borrow.Author.Tests.{ne_eqb, eqb-true}
+use Rattle.std.proofs.Common.{Option, Some, None, IfSome}
+use Rattle.units.specs.declared.RecordIndex.{RecordIndex}
+use Rattle.units.specs.Units.{record_index}
 use lib.Dec.{eqb}
 use lib.ListN.{length, get_or, set}
 use lib.Seq.{get_or-set_same, get_or-set_other}
 use Rattle.units.proofs.Bools.{and_left, and_right}
 use Rattle.units.proofs.Folds.{below_suc}
-use Rattle.book_layout.specs.Fields.{get, all_zero, unnamed_of_head, record_at, kind_field, number_field, next_field, owner_field, user_kind}
+use Rattle.book_layout.specs.Fields.{get, all_zero, unnamed_of_head, record_at, kind_field, number_field, next_field, owner_field, activation_year_field, user_kind}
 use Rattle.book_rules.specs.Book.{used, used_fits, first_user, kind_at, is_user, is_entry, account_at, owner_of, next_of, first_entry_of, open_year_of, activation_of, number_of, level_in, level_of}
 use Rattle.book_rules.specs.Book.{years_ended}
 use Rattle.book_rules.specs.Book.{entry_ranges, ranges_fit, zero_bytes_fit, own_rules_fit, sound}
@@ -25,79 +28,78 @@ use Rattle.check_descent.proofs.Sound.{passed-sound}
 use Rattle.book_rules.specs.Find.{find_below, find_user}
 use Rattle.book_rules.proofs.Find.{found_none}
 use Rattle.check_numbers.specs.InnerHeld.{Held, Inserted}
-use Rattle.check_pass.specs.InnerSteps.{entry_due, year_due, UserLeads, EntryLeads, StateAfter, last_met}
+use Rattle.check_lookup.specs.Found.{found_user}
+use Rattle.check_pass.specs.declared.Due.{Due}
+use Rattle.check_pass.specs.InnerSteps.{due_of, due_behind, UserLeads, EntryLeads, KeptUser, KeptEntry, last_met, index_or}
 
 -- the user with a number is found among the records from `left` on, so that the number is held, or is still to be looked for below
-pub record Sought (b : List ℕ) (n left found : ℕ) (seen : List ℕ) : Type 0 where
-  pub same : cond (eqb found 0) (find_below b n left) found ≡ find_user b n
-  pub number : (found ≡ 0 → ⊥) → Held seen n
+pub record Sought (b : List ℕ) (n left : ℕ) (found : Option RecordIndex) (seen : List ℕ) : Type 0 where
+  pub same : index_or (find_below b n left) found ≡ find_user b n
+  pub held : IfSome found (λ i. (1 ≤ i.0) × Held seen n)
 
-sought-first : (b : List ℕ) (n : ℕ) {left : ℕ} {seen : List ℕ} → left ≡ used b → Sought b n left 0 seen
+sought-first : (b : List ℕ) (n : ℕ) {left : ℕ} {seen : List ℕ} → left ≡ used b → Sought b n left None seen
 unfolding find_user
-sought-first b n l = record { same = ap (find_below b n) l; number = λ some. absurd (some refl) }
+sought-first b n l = record { same = ap (find_below b n) l; held = tt }
 
-module _ (b : List ℕ) (n : ℕ) {left found : ℕ} {seen : List ℕ} (s : Sought b n left found seen) (index : ℕ) (l : left ≡ index + 1) where
+-- the record at `index` is passed
+module _ (b : List ℕ) (n left index : ℕ) (l : left ≡ index + 1) where
   below : find_below b n left ≡ cond (is_user b index && eqb (number_of b index) n) index (find_below b n index)
   unfolding find_below
   below = ap (find_below b n) (l ∙ add-one index)
 
-  sought-past : is_user b index ≡ false → Sought b n index found seen
-  sought-past other =
-      record { same = ap (λ (k : ℕ). cond (eqb found 0) k found) (sym (below ∙ rw other)) ∙ s.same; number = s.number }
+  sought-past : {seen : List ℕ} (found : Option RecordIndex) → is_user b index ≡ false → Sought b n left found seen → Sought b n index found seen
+  sought-past None other s = record { same = sym (below ∙ rw other) ∙ s.same; held = tt }
+  sought-past (Some i) other s = record { same = s.same; held = s.held }
 
-  module _ (user : is_user b index ≡ true) (some : 1 ≤ index) {number : ℕ} (is : number ≡ number_of b index) {seen' : List ℕ} (ins : Inserted seen number seen') where
+  module _ (user : is_user b index ≡ true) (some : 1 ≤ index) {number : ℕ} (is : number ≡ number_of b index) {seen seen' : List ℕ} (ins : Inserted seen number seen') where
     by_number : {t : Bool} → eqb number n ≡ t → find_below b n left ≡ cond t index (find_below b n index)
     by_number e = below ∙ rw (user, ← is, e)
 
     -- no other user that was met has the number
-    met-with : (t f : Bool) → eqb number n ≡ t → eqb found 0 ≡ f → Sought b n index (cond t index found) seen'
-    met-with true true e z =
-        record {
-          same = rw (ne_eqb index 0 (λ (q : index ≡ 0). omega (arith, q, some))) (sym (by_number e) ∙ (rw z at s.same));
-          number = λ _. subst (Held seen') (eqb-true number n e) ins.held;
-        }
-    met-with true false e z = absurd (ins.fresh (subst (Held seen) (sym (eqb-true number n e)) (s.number (eqb-false found 0 z))))
-    met-with false true e z =
-        record { same = rw z (sym (by_number e) ∙ (rw z at s.same)); number = λ k. ins.kept n (s.number k) }
-    met-with false false e z = record { same = rw z (rw z at s.same); number = λ k. ins.kept n (s.number k) }
+    met-with : (t : Bool) (found : Option RecordIndex) → eqb number n ≡ t → Sought b n left found seen
+        → Sought b n index (cond t (Some (record_index index)) found) seen'
+    met-with true None e s =
+        record { same = sym (by_number e) ∙ s.same; held = (some, subst (Held seen') (eqb-true number n e) ins.held) }
+    met-with true (Some i) e s = absurd (ins.fresh (subst (Held seen) (sym (eqb-true number n e)) s.held.1))
+    met-with false None e s = record { same = sym (by_number e) ∙ s.same; held = tt }
+    met-with false (Some i) e s = record { same = s.same; held = (s.held.0, ins.kept n s.held.1) }
 
-    sought-at : Sought b n index (last_met found index number n) seen'
+    sought-at : (found : Option RecordIndex) → Sought b n left found seen → Sought b n index (last_met found (record_index index) number n) seen'
     unfolding last_met
-    sought-at = met-with (eqb number n) (eqb found 0) refl refl
+    sought-at found s = met-with (eqb number n) found refl s
 
 -- the records from `left` on are met
-pub record Descended (b : List ℕ) (n left expected found : ℕ) (states seen : List ℕ) : Type 0 where
+pub record Descended (b : List ℕ) (n left expected : ℕ) (found : Option RecordIndex) (dues : List (Option Due)) (seen : List ℕ) : Type 0 where
   pub gone : ℕ
   pub place : left + gone ≡ used b
   pub some : 1 ≤ left
   pub user : expected ≡ due_user b gone
-  pub entry : (o : ℕ) → entry_due (record_at b o) (get_or states o 0) ≡ due_entry b o gone
-  pub year : (o : ℕ) → year_due (record_at b o) (get_or states o 0) ≡ due_year b o gone
+  pub entry : (o : ℕ) → (due_of (record_at b o) (get_or dues o None)).entry.0 ≡ due_entry b o gone
+  pub year : (o : ℕ) → (due_of (record_at b o) (get_or dues o None)).year ≡ due_year b o gone
   pub each : (d : ℕ) → d < gone → MetUser b d ⊎ MetEntry b d
   pub held : (d : ℕ) → d < gone → is_user b (met b d) ≡ true → Held seen (number_of b (met b d))
   pub sought : Sought b n left found seen
 
--- no state is known at first
-pub started : (b : List ℕ) (wanted : ℕ) (states seen : List ℕ) → ((o : ℕ) → get_or states o 0 ≡ 0) → {left expected : ℕ} → left ≡ used b → 1 ≤ used b → expected ≡ first_user b
-    → Descended b wanted left expected 0 states seen
-unfolding due_user due_entry due_year entry_due year_due first_entry_of open_year_of
-started b wanted states seen none l lo e =
+-- no entry is met at first
+pub started : (b : List ℕ) (wanted : ℕ) (dues : List (Option Due)) (seen : List ℕ) → ((o : ℕ) → get_or dues o None ≡ None) → {left expected : ℕ} → left ≡ used b → 1 ≤ used b → expected ≡ first_user b
+    → Descended b wanted left expected None dues seen
+unfolding due_user due_entry due_year first_entry_of open_year_of
+started b wanted dues seen unmet l lo e =
     record {
       gone = 0;
       place = omega arith;
       some = omega arith;
       user = e;
-      entry = λ o. rw (none o);
-      year = λ o. rw (none o);
+      entry = λ o. rw (unmet o);
+      year = λ o. rw (unmet o);
       each = λ d h. let z : ⊥ = omega arith in absurd z;
       held = λ d h. let z : ⊥ = omega arith in absurd z;
       sought = sought-first b wanted l;
     }
 
 -- the record at `index` is met
-module _ (b : List ℕ) {wanted left expected found : ℕ} {states seen : List ℕ} (s : Descended b wanted left expected found states seen) (index : ℕ)
-    (l : left ≡ index + 1) (lo : 1 ≤ index) (r : List ℕ) (bytes : r ≡ record_at b index)
-    (own : own_rules_fit b index ≡ true) where
+module _ (b : List ℕ) {wanted left expected : ℕ} {found : Option RecordIndex} {dues : List (Option Due)} {seen : List ℕ}
+    (s : Descended b wanted left expected found dues seen) (index : ℕ) (l : left ≡ index + 1) (lo : 1 ≤ index) (own : own_rules_fit b index ≡ true) where
   after : index + suc s.gone ≡ used b
   after = let p = s.place in omega arith
 
@@ -114,25 +116,28 @@ module _ (b : List ℕ) {wanted left expected found : ℕ} {states seen : List �
   zeros-fit = and_right (ranges_fit b index) (zero_bytes_fit b index) own
 
   -- a user
-  module _ (kind : get kind_field r ≡ user_kind) {state : ℕ}
-      (known : state ≡ get_or states index 0) (f : UserLeads r index expected state) {number : ℕ} (n : number ≡ get number_field r) {seen' : List ℕ} (ins : Inserted seen number seen') where
+  module _ {r : List ℕ} (k : KeptUser b index r) {due : Due} (known : due ≡ due_of r (get_or dues index None)) (f : UserLeads r index expected due)
+      {number : ℕ} (n : number ≡ get number_field r) {seen' : List ℕ} (ins : Inserted seen number seen') where
+    due-here : due ≡ due_of (record_at b index) (get_or dues index None)
+    due-here = known ∙ ap (λ (x : List ℕ). due_of x (get_or dues index None)) k.bytes
+
     kind-here : kind_at b index ≡ user_kind
     unfolding kind_at
-    kind-here = rw bytes at kind
+    kind-here = rw k.bytes at k.user
 
     user-here : is_user b index ≡ true
     user-here = has-kind b user_kind index lo inside kind-here
 
     number-here : number ≡ number_of b index
     unfolding number_of
-    number-here = rw (n, bytes)
+    number-here = rw (n, k.bytes)
 
     ended_here : due_entry b index s.gone ≡ 0
-    ended_here = sym (s.entry index) ∙ (rw (bytes, known) at f.ended)
+    ended_here = sym (s.entry index) ∙ ap (λ (d : Due). d.entry.0) (sym due-here) ∙ f.ended
 
     opened-here : due_year b index s.gone ≡ activation_of b index
     unfolding activation_of
-    opened-here = sym (s.year index) ∙ (rw (bytes, known) at f.opened)
+    opened-here = sym (s.year index) ∙ ap (λ (d : Due). d.year) (sym due-here) ∙ f.opened ∙ ap (get activation_year_field) k.bytes
 
     met-user : MetUser b s.gone
     met-user =
@@ -140,20 +145,20 @@ module _ (b : List ℕ) {wanted left expected found : ℕ} {states seen : List �
           user = rw here user-here;
           ranges = rw here ranges-fit;
           zero-bytes = rw here zeros-fit;
-          due = sym s.user ∙ f.due ∙ sym here;
+          due = sym s.user ∙ f.here ∙ sym here;
           ended = rw here ended_here;
           opened = rw here opened-here;
           unlike = λ e h u same. ins.fresh (subst (Held seen) (same ∙ ap (number_of b) here ∙ sym number-here) (s.held e h u));
         }
 
-    pub user-met : {next : ℕ} → next ≡ get next_field r → Descended b wanted index next (last_met found index number wanted) states seen'
+    pub user-met : {next : ℕ} → next ≡ get next_field r → Descended b wanted index next (last_met found (record_index index) number wanted) dues seen'
     unfolding next_of
     user-met e =
         record {
           gone = suc s.gone;
           place = after;
           some = lo;
-          user = e ∙ ap (get next_field) bytes ∙ ap (next_of b) (sym here) ∙ sym (user-moves b s.gone met-user);
+          user = e ∙ ap (get next_field) k.bytes ∙ ap (next_of b) (sym here) ∙ sym (user-moves b s.gone met-user);
           entry = λ o. s.entry o ∙ sym (user-keeps-entry b s.gone met-user o);
           year = λ o. s.year o ∙ sym (user-keeps-year b s.gone met-user o);
           each = below_suc (λ d. MetUser b d ⊎ MetEntry b d) s.gone s.each (inl met-user);
@@ -161,42 +166,43 @@ module _ (b : List ℕ) {wanted left expected found : ℕ} {states seen : List �
               below_suc (λ d. is_user b (met b d) ≡ true → Held seen' (number_of b (met b d))) s.gone
               (λ d h u. ins.kept (number_of b (met b d)) (s.held d h u))
               (λ u. subst (Held seen') (number-here ∙ ap (number_of b) (sym here)) ins.held);
-          sought = sought-at b wanted s.sought index l user-here lo number-here ins;
+          sought = sought-at b wanted left index l user-here lo number-here ins found s.sought;
         }
 
   -- an entry
-  module _ {kind : ℕ} (k : kind ≡ get kind_field r) (other : kind ≡ user_kind
-      → ⊥) {home : ℕ} (h : home ≡ get owner_field r) (home-lo : 1 ≤ home) (home-hi : home < index) (owner : List ℕ) (owner-bytes : owner ≡ record_at b home)
-      {state : ℕ} (known : state ≡ get_or states home 0) (f : EntryLeads r owner index state) {state' : ℕ} (after-state : StateAfter r state')
-      (room : home < length states) where
+  module _ {r : List ℕ} {home : ℕ} {owner : List ℕ} (k : KeptEntry b index r home owner) {due : Due} (known : due ≡ due_of owner (get_or dues home None))
+      (f : EntryLeads r owner index due) (room : home < length dues) where
+    due-home : due ≡ due_of (record_at b home) (get_or dues home None)
+    due-home = known ∙ ap (λ (x : List ℕ). due_of x (get_or dues home None)) k.owner-bytes
+
     owner_here : owner_of b index ≡ home
     unfolding owner_of
-    owner_here = sym (h ∙ ap (get owner_field) bytes)
+    owner_here = sym (k.owned ∙ ap (get owner_field) k.bytes)
 
     owner-user : is_user b home ≡ true
     unfolding kind_at
-    owner-user = has-kind b user_kind home home-lo (let p = inside in omega arith) (rw owner-bytes at f.user)
+    owner-user = has-kind b user_kind home k.from (let p = inside in let q = k.below in omega arith) (rw k.owner-bytes at f.user)
 
     level-here : level_in r ≡ level_of b index
     unfolding level_of
-    level-here = ap level_in bytes
+    level-here = ap level_in k.bytes
 
     next_here : get next_field r ≡ next_of b index
     unfolding next_of
-    next_here = ap (get next_field) bytes
+    next_here = ap (get next_field) k.bytes
 
-    due-here : due_entry b (owner_of b index) s.gone ≡ index
-    due-here = rw owner_here (sym (s.entry home) ∙ (rw (owner-bytes, known) at f.due))
+    entry-due : due_entry b (owner_of b index) s.gone ≡ index
+    entry-due = rw owner_here (sym (s.entry home) ∙ ap (λ (d : Due). d.entry.0) (sym due-home) ∙ f.here)
 
-    year-due : year_due owner state ≡ due_year b (owner_of b index) s.gone
-    year-due = rw (owner_here, owner-bytes, known) (s.year home)
+    year-due : due.year ≡ due_year b (owner_of b index) s.gone
+    year-due = rw owner_here (ap (λ (d : Due). d.year) due-home ∙ s.year home)
 
     entry-kind-here : get kind_field r ≡ kind_at b index
     unfolding kind_at
-    entry-kind-here = ap (get kind_field) bytes
+    entry-kind-here = ap (get kind_field) k.bytes
 
     kind-other : kind_at b index ≡ user_kind → ⊥
-    kind-other e = other (k ∙ entry-kind-here ∙ e)
+    kind-other e = k.other (entry-kind-here ∙ e)
 
     entry-ranges-here : entry_ranges (account_at b (owner_of b index)) (record_at b index) ≡ true
     unfolding ranges_fit
@@ -216,37 +222,32 @@ module _ (b : List ℕ) {wanted left expected found : ℕ} {states seen : List �
           ranges = rw here ranges-fit;
           zero-bytes = rw here zeros-fit;
           owner = rw (here, owner_here) owner-user;
-          due = rw here due-here;
+          due = rw here entry-due;
           year = rw here level-due;
         }
 
     owner-met : owner_of b (met b s.gone) ≡ home
     owner-met = ap (owner_of b) here ∙ owner_here
 
-    known-after : state' ≡ 0 → ⊥
-    known-after z = let y = after-state.year in let p = f.some in omega arith
-
-    entry-after : (o : ℕ) → entry_due (record_at b o) (get_or (set states home state') o 0) ≡ due_entry b o (suc s.gone)
-    unfolding entry_due
+    entry-after : (o : ℕ) → (due_of (record_at b o) (get_or (set dues home (Some (due_behind r))) o None)).entry.0 ≡ due_entry b o (suc s.gone)
     entry-after o = by-owner (ℕ_discrete o home)
       where
-        by-owner : Dec (o ≡ home) → entry_due (record_at b o) (get_or (set states home state') o 0) ≡ due_entry b o (suc s.gone)
+        by-owner : Dec (o ≡ home) → (due_of (record_at b o) (get_or (set dues home (Some (due_behind r))) o None)).entry.0 ≡ due_entry b o (suc s.gone)
         by-owner (yes own) =
             let moved : due_entry b home (suc s.gone) ≡ next_of b index = rw (here, owner_here) at (entry-moves b s.gone met-entry) in
-            rw (own, get_or-set_same states home state' 0 room, ne_eqb state' 0 known-after) (after-state.next ∙ next_here ∙ sym moved)
+            rw (own, get_or-set_same dues home (Some (due_behind r)) None room) (next_here ∙ sym moved)
         by-owner (no other) =
-            rw (get_or-set_other states home o state' 0 other) (s.entry o ∙ sym (entry-keeps-other b s.gone met-entry o (λ e. other (sym e ∙ owner-met))))
+            rw (get_or-set_other dues home o (Some (due_behind r)) None other) (s.entry o ∙ sym (entry-keeps-other b s.gone met-entry o (λ e. other (sym e ∙ owner-met))))
 
-    year-after : (o : ℕ) → year_due (record_at b o) (get_or (set states home state') o 0) ≡ due_year b o (suc s.gone)
-    unfolding year_due
+    year-after : (o : ℕ) → (due_of (record_at b o) (get_or (set dues home (Some (due_behind r))) o None)).year ≡ due_year b o (suc s.gone)
     year-after o = by-owner (ℕ_discrete o home)
       where
-        by-owner : Dec (o ≡ home) → year_due (record_at b o) (get_or (set states home state') o 0) ≡ due_year b o (suc s.gone)
+        by-owner : Dec (o ≡ home) → (due_of (record_at b o) (get_or (set dues home (Some (due_behind r))) o None)).year ≡ due_year b o (suc s.gone)
         by-owner (yes own) =
             let moved : due_year b home (suc s.gone) ≡ level_of b index = rw (here, owner_here) at (entry-moves-year b s.gone met-entry) in
-            rw (own, get_or-set_same states home state' 0 room, ne_eqb state' 0 known-after) (after-state.year ∙ level-here ∙ sym moved)
+            rw (own, get_or-set_same dues home (Some (due_behind r)) None room) (level-here ∙ sym moved)
         by-owner (no other) =
-            rw (get_or-set_other states home o state' 0 other) (s.year o ∙ sym (entry-keeps-year b s.gone met-entry o (λ e. other (sym e ∙ owner-met))))
+            rw (get_or-set_other dues home o (Some (due_behind r)) None other) (s.year o ∙ sym (entry-keeps-year b s.gone met-entry o (λ e. other (sym e ∙ owner-met))))
 
     no-user : is_user b index ≡ false
     no-user = by_value (is_user b index) refl
@@ -255,7 +256,7 @@ module _ (b : List ℕ) {wanted left expected found : ℕ} {states seen : List �
         by_value true u = absurd (not-both b index u is-entry)
         by_value false u = u
 
-    pub entry-met : Descended b wanted index expected found (set states home state') seen
+    pub entry-met : Descended b wanted index expected found (set dues home (Some (due_behind r))) seen
     entry-met =
         record {
           gone = suc s.gone;
@@ -268,22 +269,20 @@ module _ (b : List ℕ) {wanted left expected found : ℕ} {states seen : List �
           held =
               below_suc (λ d. is_user b (met b d) ≡ true → Held seen (number_of b (met b d))) s.gone s.held
               (λ u. absurd (not-both b (met b s.gone) u met-entry.entry));
-          sought = sought-past b wanted s.sought index l no-user;
+          sought = sought-past b wanted left index l found no-user s.sought;
         }
 
 -- all records but the head are met
-module _ (b : List ℕ) {wanted left expected found : ℕ} {states seen : List ℕ} (s : Descended b wanted left expected found states seen) (l : left ≤ 1) where
-  pub descended : expected ≡ 0 → used_fits b ≡ true → all_zero unnamed_of_head (record_at b 0) ≡ true → sound b ≡ true
-  descended e fits rest =
-      let p = s.place in
-      let q = s.some in
-      let all : used b - 1 ≡ s.gone = omega arith in
-      passed-sound b record { used-fits = fits; rest = rest; each = λ d h. s.each d (omega arith); end = rw all (sym s.user ∙ e) }
+pub descended : (b : List ℕ) {wanted left expected : ℕ} {found : Option RecordIndex} {dues : List (Option Due)} {seen : List ℕ} → left ≤ 1 → Descended b wanted left expected found dues seen → expected ≡ 0
+    → used_fits b ≡ true → all_zero unnamed_of_head (record_at b 0) ≡ true → sound b ≡ true
+descended b l s e fits rest =
+    let p = s.place in
+    let q = s.some in
+    let all : used b - 1 ≡ s.gone = omega arith in
+    passed-sound b record { used-fits = fits; rest = rest; each = λ d h. s.each d (omega arith); end = rw all (sym s.user ∙ e) }
 
-  -- the head is no user
-  pub searched : found ≡ find_user b wanted
-  searched = by_value (eqb found 0) refl
-    where
-      by_value : (t : Bool) → eqb found 0 ≡ t → found ≡ find_user b wanted
-      by_value true z = eqb-true found 0 z ∙ sym (found_none b wanted left l) ∙ (rw z at s.sought.same)
-      by_value false z = rw z at s.sought.same
+-- the head is no user
+pub searched : (b : List ℕ) {n left : ℕ} {seen : List ℕ} → left ≤ 1 → (found : Option RecordIndex) → Sought b n left found seen → found ≡ found_user b n
+unfolding found_user
+searched b {n} {left} l None s = rw (← s.same, found_none b n left l)
+searched b l (Some i) s = let lo = s.held.0 in rw (← s.same, ne_eqb i.0 0 (omega arith))

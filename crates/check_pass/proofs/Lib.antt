@@ -1,4 +1,4 @@
+pub mod Counted
 pub mod OwnRules
-pub mod Tests
 pub mod Descended
-pub mod Passing
+pub mod Following

@@ -1,14 +1,14 @@
 -- The own rules of a record, as the pass tests them: a user by itself, an entry by its owner's record too; and that a record whose
 -- owner is not before it is not good.
-use Prim.Native.Nat.{ℕ, ◌<◌}
+use Prim.Native.Nat.{ℕ, ◌≤◌, ◌<◌}
 use mathlib.Core.Path.{◌≡◌, sym, ap, ◌∙◌}
-use mathlib.Core.Bool.{true, false, not, ◌&&◌, ◌||◌, and-false}
+use mathlib.Core.Bool.{true, false, not, ◌&&◌, and-false}
 use mathlib.Core.List.{List}
-use mathlib.Core.Logic.{⊎_elim}
+use native.Mathlib.Decide.{dec_lt}
 use native.Mathlib.Omega.{arith}
-use borrow.Author.Tests.{ne_eqb, eqb-true, eqb-false, leb-true, le-ltb, not-true}
-use lib.Dec.{eqb, leb, ltb}
-use Rattle.units.proofs.Bools.{and_left, or_cases}
+use borrow.Author.Tests.{ne_eqb, eqb-false, le-ltb, not-true}
+use lib.Dec.{eqb}
+use Rattle.units.proofs.Bools.{and_left}
 use Rattle.book_layout.specs.Fields.{get, all_zero, unnamed_of_user, record_at, kind_field, number_field, owner_field, user_kind}
 use Rattle.book_records.specs.Records.{account_in}
 use Rattle.book_rules.specs.Book.{kind_at, has_kind, is_user, owner_of, owner_fits, account_fits, entry_ranges, ranges_fit, unnamed_of, zero_bytes_fit, own_rules_fit, good_record, details_fit}
@@ -47,12 +47,13 @@ module _ (b : List ℕ) (index : ℕ) {r : List ℕ} (bytes : r ≡ record_at b 
     entry-own o = let no-user = ne_eqb (kind_at b index) user_kind (λ e. other (sym kind-here ∙ e)) in rw (o, owner_here, bytes, no-user)
 
     -- the head is no user
-    unowned : (eqb home 0 || leb index home) ≡ true → owner_fits b index ≡ false
+    unowned : (1 ≤ home → home < index → ⊥) → owner_fits b index ≡ false
     unfolding owner_fits has_kind
-    unowned t =
-        ⊎_elim (λ (z : eqb home 0 ≡ true). ap (λ (o : ℕ). is_user b o && ltb o index) (owner_here ∙ eqb-true home 0 z))
-        (λ (l : leb index home ≡ true). rw (owner_here, le-ltb home index (leb-true index home l), and-false (is_user b home)))
-        (or_cases (eqb home 0) (leb index home) t)
+    unowned past = by_order (dec_lt 0 home)
+      where
+        by_order : Dec (0 < home) → owner_fits b index ≡ false
+        by_order (yes h) = rw (owner_here, le-ltb home index (omega (arith, past h)), and-false (is_user b home))
+        by_order (no h) = rw (owner_here, le-ltb 0 home (omega (arith, h)))
 
-    pub owner-bad : (eqb home 0 || leb index home) ≡ true → good_record b index ≡ false
-    owner-bad t = ownerless-bad b index (λ e. other (sym kind-here ∙ e)) (unowned t)
+    pub owner-bad : (1 ≤ home → home < index → ⊥) → good_record b index ≡ false
+    owner-bad past = ownerless-bad b index (λ e. other (sym kind-here ∙ e)) (unowned past)

@@ -19,7 +19,7 @@ fn count(counts: &mut [u16; MOST_RECORDS], pointer: RecordIndex)
 {
     let to = pointer.0 as usize;
     if to < MOST_RECORDS {
-        counts[to] = counts[to] + 1;
+        counts[to] += 1;
     }
 }
 
@@ -38,10 +38,8 @@ pub fn counts(book: &[u8]) -> [u16; MOST_RECORDS]
         if kind == USER {
             count(&mut counts, book_layout::next_of(r));
             count(&mut counts, book_layout::first_entry_of(r));
-        } else {
-            if book_rules::is_entry_kind(kind) {
-                count(&mut counts, book_layout::next_of(r));
-            }
+        } else if book_rules::is_entry_kind(kind) {
+            count(&mut counts, book_layout::next_of(r));
         }
     }
     counts

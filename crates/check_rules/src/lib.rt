@@ -20,65 +20,52 @@ use units::{RecordIndex, UserNumber};
 
 // LINKS OF A USER
 
+#[tactic(auto, unfolding(book_rules::specs::Book::user_next_fits))]
 fn user_next_fits(book: &[u8], index: RecordIndex) -> bool
     ensures { result ≡ user_next_fits book.now index.0 }
 {
     let next = next_of(book, index);
-    if next.0 == 0 {
-        true
-    } else {
-        is_user(book, next) & (next.0 < index.0)
-    }
+    next.0 == 0 || (is_user(book, next) & (next < index))
 }
 
 // A user with the number. Most records have another.
-fn has_number(book: &[u8], index: RecordIndex, number: UserNumber) -> bool
+pub fn has_number(book: &[u8], index: RecordIndex, number: UserNumber) -> bool
     ensures { result ≡ (is_user book.now index.0 && eqb (number_of book.now index.0) number.0) }
 {
-    let other = number_of(book, index);
-    if other.0 == number.0 {
-        is_user(book, index)
-    } else {
-        false
-    }
+    number_of(book, index) == number && is_user(book, index)
 }
 
+#[tactic(auto, unfolding(book_rules::specs::Book::number_is_new))]
 pub fn number_is_new(book: &[u8], index: RecordIndex) -> bool
     ensures { result ≡ number_is_new book.now index.0 }
 {
     let number = number_of(book, index);
-    let below = index.0;
-    let mut taken = false;
-    for j in 0..below {
-        taken = taken | has_number(book, RecordIndex(j), number);
-    }
-    !taken
+    !(0..index.0).any(|j| has_number(book, RecordIndex(j), number))
 }
 
+#[tactic(auto, unfolding(book_rules::specs::Book::first_entry_fits))]
 fn first_entry_fits(book: &[u8], index: RecordIndex) -> bool
     ensures { result ≡ first_entry_fits book.now index.0 }
 {
     let first = first_entry_of(book, index);
-    if first.0 == 0 {
-        true
-    } else {
-        is_entry(book, first) & (owner_of(book, first).0 == index.0)
-    }
+    first.0 == 0 || (is_entry(book, first) & (owner_of(book, first) == index))
 }
 
 // LINKS OF AN ENTRY
 
+#[tactic(auto, unfolding(book_rules::specs::Book::owner_fits))]
 pub fn owner_fits(book: &[u8], index: RecordIndex) -> bool
     ensures { result ≡ owner_fits book.now index.0 }
 {
     let owner = owner_of(book, index);
-    is_user(book, owner) & (owner.0 < index.0)
+    is_user(book, owner) & (owner < index)
 }
 
 // THE ORDER OF A CHAIN
 
 // What stands where entries of a year may follow: nothing in the activation year, an advance of that year, or the closing of
 // the year before.
+#[tactic(auto, unfolding(book_rules::specs::Book::in_order))]
 fn in_order(book: &[u8], activation: u16, year: u16, entry: RecordIndex) -> bool
     ensures { result ≡ in_order book.now activation year entry.0 }
 {
@@ -87,11 +74,12 @@ fn in_order(book: &[u8], activation: u16, year: u16, entry: RecordIndex) -> bool
     } else {
         let level = level_of(book, entry);
         let advance = is_advance(book, entry) & (level == year);
-        let closing = is_closing(book, entry) & (level as u32 + 1 == year as u32);
+        let closing = is_closing(book, entry) & (u32::from(level) + 1 == u32::from(year));
         advance | closing
     }
 }
 
+#[tactic(auto, unfolding(book_rules::specs::Book::first_in_order))]
 fn first_in_order(book: &[u8], index: RecordIndex) -> bool
     ensures { result ≡ first_in_order book.now index.0 }
 {
@@ -105,18 +93,20 @@ fn first_in_order(book: &[u8], index: RecordIndex) -> bool
 
 // An entry that stands behind one of an owner and of a level: it has the same owner, and its level is that one, or it is the closing
 // of the year before.
+#[tactic(auto, unfolding(crate::specs::InnerFollows::follows_entry))]
 fn follows(r: &[u8], owner: RecordIndex, level: u16) -> bool
     ensures { result ≡ follows_entry r.now owner.0 level }
 {
     let kind = book_layout::kind_of(r);
-    let kin = book_rules::is_entry_kind(kind) & (book_layout::owner_of(r).0 == owner.0);
+    let kin = book_rules::is_entry_kind(kind) & (book_layout::owner_of(r) == owner);
     let behind = book_rules::level_of(r);
     let advance = (kind == ADVANCE) & (behind == level);
-    let closing = (kind == CLOSING) & (behind as u32 + 1 == level as u32);
+    let closing = (kind == CLOSING) & (u32::from(behind) + 1 == u32::from(level));
     kin & (advance | closing)
 }
 
 // Owner, next and order together: each of the records that they name is read once, and only where its index is below the entry's.
+#[tactic(auto, unfolding(book_rules::specs::Book::owner_fits, book_rules::specs::Book::entry_next_fits, book_rules::specs::Book::next_in_order, book_rules::specs::Book::in_order, book_rules::specs::Book::has_kind, book_rules::specs::Book::is_entry, book_rules::specs::Book::kind_at, book_rules::specs::Book::owner_of, book_rules::specs::Book::next_of, book_rules::specs::Book::level_of, book_rules::specs::Book::activation_of, book_rules::specs::Book::entry_kind, crate::specs::InnerFollows::follows_entry))]
 fn entry_links_fit(book: &[u8], index: RecordIndex) -> bool
     requires records_used { used_fits book.now ≡ true }
     requires index_bound { index.0 < used book.now }
@@ -125,7 +115,7 @@ fn entry_links_fit(book: &[u8], index: RecordIndex) -> bool
 {
     let r = whole_record(book, index.0 as usize);
     let owner = book_layout::owner_of(r);
-    if (owner.0 == 0) | (index.0 <= owner.0) {
+    if owner.0 == 0 || index <= owner {
         return false;
     }
     let home = whole_record(book, owner.0 as usize);
@@ -137,7 +127,7 @@ fn entry_links_fit(book: &[u8], index: RecordIndex) -> bool
     if next.0 == 0 {
         return level == book_layout::activation_year_of(home);
     }
-    if index.0 <= next.0 {
+    if index <= next {
         return false;
     }
     follows(whole_record(book, next.0 as usize), owner, level)
@@ -146,6 +136,7 @@ fn entry_links_fit(book: &[u8], index: RecordIndex) -> bool
 // FAULTS
 
 // Whether a user's number is new comes from the caller, who knows it of all users.
+#[tactic(auto, unfolding(book_rules::specs::Book::links_fit, book_rules::specs::Book::kind_at))]
 fn links_fit(book: &[u8], index: RecordIndex, new: bool) -> bool
     requires new_number { kind_at book.now index.0 ≡ user_kind → new ≡ number_is_new book.now index.0 }
     requires records_used { used_fits book.now ≡ true }
@@ -162,6 +153,7 @@ fn links_fit(book: &[u8], index: RecordIndex, new: bool) -> bool
 
 // A record that keeps its own rules is judged with the number of pointers that lead to it and, if it is a user, with whether its
 // number is new: both are known of all records together at less cost than of each by itself.
+#[tactic(auto, unfolding(book_rules::specs::Book::good_record, book_rules::specs::Book::pointed_once))]
 pub fn good_record(book: &[u8], index: RecordIndex, pointers: u16, new: bool) -> bool
     requires pointer_count { pointers ≡ pointers_to book.now index.0 }
     requires new_number { kind_at book.now index.0 ≡ user_kind → new ≡ number_is_new book.now index.0 }
@@ -173,10 +165,11 @@ pub fn good_record(book: &[u8], index: RecordIndex, pointers: u16, new: bool) ->
     links_fit(book, index, new) & (pointers == 1)
 }
 
+#[tactic(auto, unfolding(book_rules::specs::Book::good_head))]
 pub fn good_head(book: &[u8]) -> bool
     ensures { result ≡ good_head book.now }
 {
     let first = first_user(book);
-    let leads = (first.0 == 0) | is_user(book, first);
+    let leads = first.0 == 0 || is_user(book, first);
     leads & book_layout::head_rest_zero(record(book, RecordIndex(0)))
 }

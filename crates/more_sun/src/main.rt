@@ -18,7 +18,7 @@ const SHEET: usize = sheet::LENGTH + 1;
 const PATH: usize = 4095;
 
 // The least addition to a band, at the right of its column.
-#[derive(Clone, Copy)]
+#[derive(Clone, Copy, Debug, PartialEq, Eq)]
 struct Column(Addition);
 
 impl fmt::Display for Column {

@@ -10,7 +10,7 @@ use std::str;
 use text::Hex;
 
 /// What a line asks; `B` stands for the bytes that it names.
-#[derive(Clone, Copy)]
+#[derive(Clone, Copy, Debug, PartialEq, Eq)]
 pub enum Request<B> {
     New(usize),
     Load(B),

@@ -18,7 +18,7 @@ use sheet::{HEADER, LENGTH, MONTHS};
 const COLUMNS: usize = 24;
 
 // The numbers of four columns that stand side by side, in one month.
-#[derive(Clone, Copy)]
+#[derive(Clone, Copy, Debug, PartialEq, Eq)]
 struct Four {
     first: u32,
     second: u32,

@@ -14,7 +14,7 @@ use sheet_values::Details;
 use units::{Kwh, MAX_KWH, Rate, Ticks, WideKwh};
 
 // The least addition, or none within the field's limit.
-#[derive(Clone, Copy)]
+#[derive(Clone, Copy, Debug, PartialEq, Eq)]
 pub enum Addition {
     Found(Kwh),
     None,

@@ -17,7 +17,7 @@ use units::{Kwh, Rate, Ticks};
 
 // What enrolment notes of a user: class and plant by document 01's numbers, power in watts, year and month of
 // activation, island 1 where the network is not interconnected, else 0.
-#[derive(Clone, Copy)]
+#[derive(Clone, Copy, Debug, PartialEq, Eq)]
 pub struct Details {
     pub class: u8,
     pub plant: u8,
@@ -28,7 +28,7 @@ pub struct Details {
 }
 
 // What a closing takes from a sheet: document 01's C, O and F, and the exchanged energy of the two halves.
-#[derive(Clone, Copy)]
+#[derive(Clone, Copy, Debug, PartialEq, Eq)]
 pub struct YearValues {
     pub value: Ticks,
     pub cost: Ticks,

@@ -31,14 +31,14 @@ use units::{Rate, UserNumber, WideKwh};
 const INTERFACE: u32 = 7;
 
 #[repr(C)]
-#[derive(Clone, Copy)]
+#[derive(Clone, Copy, Debug, PartialEq, Eq)]
 pub struct Booked {
     pub refusal: u32,
     pub record: u32,
 }
 
 #[repr(C)]
-#[derive(Clone, Copy)]
+#[derive(Clone, Copy, Debug, PartialEq, Eq)]
 pub struct Advanced {
     pub refusal: u32,
     pub record: u32,
@@ -46,7 +46,7 @@ pub struct Advanced {
 }
 
 #[repr(C)]
-#[derive(Clone, Copy)]
+#[derive(Clone, Copy, Debug, PartialEq, Eq)]
 pub struct Closed {
     pub refusal: u32,
     pub record: u32,
@@ -62,7 +62,7 @@ pub struct Closed {
 }
 
 #[repr(C)]
-#[derive(Clone, Copy)]
+#[derive(Clone, Copy, Debug, PartialEq, Eq)]
 pub struct Sums {
     pub refusal: u32,
     pub record: u32,
@@ -80,7 +80,7 @@ pub struct Sums {
 }
 
 #[repr(C)]
-#[derive(Clone, Copy)]
+#[derive(Clone, Copy, Debug, PartialEq, Eq)]
 pub struct Raised {
     pub refusal: u32,
     pub month: u32,
@@ -91,7 +91,7 @@ pub struct Raised {
 }
 
 #[repr(C)]
-#[derive(Clone, Copy)]
+#[derive(Clone, Copy, Debug, PartialEq, Eq)]
 pub struct Read {
     pub refusal: u32,
     pub line: u32,
@@ -100,7 +100,7 @@ pub struct Read {
 }
 
 #[repr(C)]
-#[derive(Clone, Copy)]
+#[derive(Clone, Copy, Debug, PartialEq, Eq)]
 pub struct Written {
     pub refusal: u32,
     pub length: u32,
@@ -109,7 +109,7 @@ pub struct Written {
 }
 
 #[repr(C)]
-#[derive(Clone, Copy)]
+#[derive(Clone, Copy, Debug, PartialEq, Eq)]
 pub struct Sun {
     pub refusal: u32,
     pub record: u32,

@@ -22,7 +22,7 @@ const SHEET: usize = 4096;
 const BOOK: usize = 65_536;
 
 // What the lines ask.
-#[derive(Clone, Copy)]
+#[derive(Clone, Copy, Debug, PartialEq, Eq)]
 enum Question {
     Values,
     Table1,

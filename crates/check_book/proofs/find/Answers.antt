@@ -1,11 +1,11 @@
 -- By the length, the head, then as passed or as judged.
-use Prim.Native.Nat.{ℕ}
-use mathlib.Core.Path.{◌≡◌, sym, ap, ◌∙◌}
-use mathlib.Core.Bool.{Bool, true, not}
-use mathlib.Core.List.{List}
+use Rattle.std.proofs.Common.{◌≡◌, ℕ, Bool, true, not, Option, unwrap_or, List, sym, ap, ◌∙◌}
 use Rattle.book_rules.specs.Book.{length_fits, faulty}
 use Rattle.book_rules.proofs.Faults.{faulty-unfit, faulty-head, faulty-not-sound, smallest-head}
 use Rattle.check_book.specs.Verdicts.{Objected}
+use Rattle.units.specs.declared.RecordIndex.{RecordIndex}
+use Rattle.units.specs.Units.{record_index}
+use Rattle.check_lookup.proofs.Search.{found_or_none}
 use Rattle.check_book.proofs.find.Goals as goal
 
 -- a test that is passed
@@ -19,12 +19,17 @@ head-faulty b fits f = record { fits = fits; unsound = faulty-not-sound b fits 0
 pub returns-then-not-used_fits : goal.returns-then-not-used_fits
 returns-then-not-used_fits c =
     let b = c.args.book.now in
-    head-faulty b (holds c.length_fits.ensures c.if-not-length_fits.false) (faulty-unfit b 0 (sym c.used_fits.ensures ∙
-    c.if-not-used_fits.true))
+    head-faulty b (holds c.length_fits.ensures c.if-not-length_fits.false) (faulty-unfit b 0 (sym c.used_fits.ensures ∙ c.if-not-used_fits.true))
 
 pub returns-then-not-good_head : goal.returns-then-not-good_head
 returns-then-not-good_head c =
     let b = c.args.book.now in
     head-faulty b (holds c.length_fits.ensures c.if-not-length_fits.false)
-    (faulty-head b (holds c.used_fits.ensures c.if-not-used_fits.false) ∙ sym (ap not c.good_head.ensures) ∙
-    ap not c.if-not-good_head.true)
+    (faulty-head b (holds c.used_fits.ensures c.if-not-used_fits.false) ∙ sym (ap not c.good_head.ensures) ∙ ap not c.if-not-good_head.true)
+
+pub returns-in-Ok : goal.returns-in-Ok
+returns-in-Ok c =
+    let said = c.in-Ok.ensures in (
+      record { fits = holds c.length_fits.ensures c.if-not-length_fits.false; is_sound = said.is_sound },
+      c.unwrap_or.ensures ∙ ap (λ (o : Option RecordIndex). unwrap_or o (record_index 0)) said.found ∙ found_or_none c.args.book.now c.args.number.0,
+    )

@@ -1,16 +1,14 @@
 -- The records, then the user.
-use Prim.Native.Nat.{ℕ, ◌≤◌, ◌<◌}
-use mathlib.Core.Path.{◌≡◌, ap, ◌∙◌}
-use mathlib.Core.Bool.{true, not}
-use mathlib.Core.List.{List}
-use native.Mathlib.Omega.{arith}
+use Rattle.std.proofs.Common.{◌≡◌, ℕ, ◌≤◌, ◌<◌, true, not, Option, unwrap_or, List, ap, ◌∙◌, arith}
+use Rattle.units.specs.declared.RecordIndex.{RecordIndex}
+use Rattle.units.specs.Units.{record_index}
 use Rattle.book_rules.specs.Book.{length_fits, used, used_fits, good_head}
 use Rattle.book_rules.proofs.Faults.{faulty-record, faulty-not-sound, good-sound, smallest-record}
 use Rattle.check_book.specs.Verdicts.{RecordsJudged, Accepted, Objected}
+use Rattle.check_lookup.proofs.Search.{found_or_none}
 use Rattle.check_book.proofs.judge.Goals as goal
 
-module _ (b : List ℕ) (fits : length_fits b ≡ true) (u : used_fits b ≡ true) (head : good_head b ≡ true) (bad : ℕ) (judged :
-    RecordsJudged b bad) where
+module _ (b : List ℕ) (fits : length_fits b ≡ true) (u : used_fits b ≡ true) (head : good_head b ≡ true) (bad : ℕ) (judged : RecordsJudged b bad) where
   objected : bad < used b → Objected b bad
   objected under =
       let wrong = judged.is-bad under in
@@ -23,14 +21,15 @@ module _ (b : List ℕ) (fits : length_fits b ≡ true) (u : used_fits b ≡ tru
   accepted : used b ≤ bad → Accepted b
   accepted past = record { fits = fits; is_sound = good-sound b u head (λ i p h. judged.before i p (omega arith)) }
 
-pub returns-then-bad-used : goal.returns-then-bad-used
-returns-then-bad-used c =
-    objected c.args.book.now c.requires.book_length c.requires.records_used c.requires.head _ c.faulty_record-bad.ensures (omega
-    (arith, c.if-bad-used.true, c.used.ensures))
+pub returns-in-Some : goal.returns-in-Some
+returns-in-Some c =
+    let said = c.in-Some.ensures in
+    objected c.args.book.now c.requires.book_length c.requires.records_used c.requires.head c.in-Some.bad.0 said.1 said.0
 
-pub returns : goal.returns
-returns c = (
-  accepted c.args.book.now c.requires.book_length c.requires.records_used c.requires.head _ c.faulty_record-bad.ensures (omega
-      (arith, c.if-bad-used.false, c.used.ensures)),
-  c.find_user.ensures,
-)
+pub returns-in-None : goal.returns-in-None
+returns-in-None c =
+    let b = c.args.book.now in
+    let said = c.in-None.ensures in (
+      accepted b c.requires.book_length c.requires.records_used c.requires.head (used b) said (omega arith),
+      c.unwrap_or.ensures ∙ ap (λ (o : Option RecordIndex). unwrap_or o (record_index 0)) c.find_user.ensures ∙ found_or_none b c.args.number.0,
+    )

@@ -1,27 +1,27 @@
--- `find_user` is held to `find_user`: from the last record down.
+-- `find_user` is held to `found_user`: from the last record down.
 use native.Mathlib.Omega.{arith}
 use Rattle.check_lookup.proofs.Search.{search-begins, found_here, search-on, found_nowhere}
 use Rattle.check_lookup.proofs.find_user.Goals as goal
 
-pub loop-left-init : goal.loop-left-init
-loop-left-init c =
+pub loop-i-init : goal.loop-i-init
+loop-i-init c =
     let a = c.args in
-    search-begins a.book.now a.number.0 c.used-left.result c.used-left.ensures
+    search-begins a.book.now a.number.0 c.used-i.result c.used-i.ensures
 
-pub returns-then-is_named : goal.returns-then-is_named
-returns-then-is_named c =
+pub returns-then-has_number : goal.returns-then-has_number
+returns-then-has_number c =
     let a = c.args in
-    let l = c.loop-left in
-    found_here a.book.now a.number.0 l.left l.invariant (omega arith) c.is_named.result c.is_named.ensures c.if-is_named.true
+    let l = c.loop-i in
+    found_here a.book.now a.number.0 l.i l.invariant (omega arith) c.has_number.result c.has_number.ensures c.if-has_number.true
 
-pub loop-left-preserved : goal.loop-left-preserved
-loop-left-preserved c =
+pub loop-i-preserved : goal.loop-i-preserved
+loop-i-preserved c =
     let a = c.args in
-    let l = c.loop-left in
-    search-on a.book.now a.number.0 l.left l.invariant (omega arith) c.is_named.result c.is_named.ensures c.if-is_named.false
+    let l = c.loop-i in
+    search-on a.book.now a.number.0 l.i l.invariant (omega arith) c.has_number.result c.has_number.ensures c.if-has_number.false
 
 pub returns : goal.returns
 returns c =
     let a = c.args in
-    let l = c.loop-left in
-    found_nowhere a.book.now a.number.0 l.left l.invariant (omega arith)
+    let l = c.loop-i in
+    found_nowhere a.book.now a.number.0 l.i l.invariant (omega arith)

@@ -1,9 +1,6 @@
--- `find_user` is held to `find_user`: from the last record down.
+-- `find_user` is held to `found_user`: from the last record down.
 use Rattle.check_lookup.proofs.Search.{Searched}
 use Rattle.check_lookup.proofs.find_user.Given as goal
 
-abbrev pub invariant-loop-left : goal.invariant-loop-left
-invariant-loop-left l = Searched l.book l.number.0 l.left
-
-abbrev pub decreases-loop-left : goal.decreases-loop-left
-decreases-loop-left l = l.left
+abbrev pub invariant-loop-i : goal.invariant-loop-i
+invariant-loop-i l = Searched l.book l.number.0 l.i

@@ -3,6 +3,7 @@ use Prim.Native.Nat.{ℕ, ◌+◌, ◌-◌, ◌≤◌, ◌<◌}
 use mathlib.Core.Path.{◌≡◌, refl, sym, ap, subst, ◌∙◌}
 use mathlib.Core.Bool.{Bool, true, ◌&&◌}
 use mathlib.Core.List.{List}
+use Rattle.std.proofs.Common.{Option}
 use native.Mathlib.Omega.{arith}
 use borrow.Author.Tests.{ltb-true, lt-ltb}
 use lib.Dec.{ltb}
@@ -34,7 +35,7 @@ module _ (b : List ℕ) (n : ℕ) {r : List ℕ} (whole : r ≡ record_at b n) w
   owner_here w = ap (λ (i : RecordIndex). i.0) w ∙ ap (get owner_field) whole
 
 -- the record before `left`
-one_down : (b : List ℕ) (left : ℕ) (firsts laters : List RecordIndex) → 1 < left → LinkedFrom b left firsts laters → LinkedFrom b
+one_down : (b : List ℕ) (left : ℕ) (firsts laters : List (Option RecordIndex)) → 1 < left → LinkedFrom b left firsts laters → LinkedFrom b
     (left - 1 + 1) firsts laters
 one_down b left firsts laters some linked = let same : left ≡ left - 1 + 1 = omega arith in
     subst (λ n. LinkedFrom b n firsts laters) same linked
@@ -46,20 +47,20 @@ found_here c =
 
 -- what is read of the record
 read_here : (c : goal.After-is_entry_kind)
-    → (c.is_entry_kind.result ≡ is_entry c.args.book.now (c.loop-left.left - 1))
+    → (c.is_entry_kind.result ≡ is_entry c.args.book.now (c.loop-e.e - 1))
     × (c.owner_of-owner.result.0
-    ≡ owner_of c.args.book.now (c.loop-left.left - 1))
+    ≡ owner_of c.args.book.now (c.loop-e.e - 1))
 read_here c =
     let b = c.args.book.now in
-    let n = c.loop-left.left - 1 in
+    let n = c.loop-e.e - 1 in
     let whole = c.whole_record-r.ensures in (
       entry_here b n whole (omega arith) (omega arith) c.kind_of.ensures c.is_entry_kind.ensures,
       owner_here b n whole
           c.owner_of-owner.ensures,
     )
 
-pub loop-left-init : goal.loop-left-init
-loop-left-init c =
+pub loop-e-init : goal.loop-e-init
+loop-e-init c =
     record {
       within = search rules;
       firsts = refl;
@@ -70,33 +71,33 @@ loop-left-init c =
 
 pub whole_record-r-requires : goal.whole_record-r-requires
 whole_record-r-requires c =
-    used-whole c.args.book.now c.requires.records_used (c.loop-left.left - 1) (omega arith)
+    used-whole c.args.book.now c.requires.records_used (c.loop-e.e - 1) (omega arith)
 
-pub loop-left-preserved-then-is_entry_kind-owner : goal.loop-left-preserved-then-is_entry_kind-owner
-loop-left-preserved-then-is_entry_kind-owner c =
+pub loop-e-preserved-then-is_entry_kind-owner : goal.loop-e-preserved-then-is_entry_kind-owner
+loop-e-preserved-then-is_entry_kind-owner c =
     let b = c.args.book.now in
-    let f = found_here (goal.at.loop-left-preserved-then-is_entry_kind-owner c).Then-is_entry_kind-owner in
-    let is = read_here (goal.at.loop-left-preserved-then-is_entry_kind-owner c).After-is_entry_kind in
-    let linked = one_down b c.loop-left.left _ _ c.loop-left-test.true c.loop-left.invariant.linked in
+    let f = found_here (goal.at.loop-e-preserved-then-is_entry_kind-owner c).Then-is_entry_kind-owner in
+    let is = read_here (goal.at.loop-e-preserved-then-is_entry_kind-owner c).After-is_entry_kind in
+    let linked = one_down b c.loop-e.e _ _ c.loop-e-test.true c.loop-e.invariant.linked in
     record {
       within = search rules;
-      firsts = simp length-set c.loop-left.invariant.firsts;
-      laters = simp length-set c.loop-left.invariant.laters;
-      linked = linked-entry b (c.loop-left.left - 1) linked (sym is.0 ∙ f.0) is.1 (omega arith) (omega arith);
+      firsts = simp length-set c.loop-e.invariant.firsts;
+      laters = simp length-set c.loop-e.invariant.laters;
+      linked = linked-entry b (c.loop-e.e - 1) linked (sym is.0 ∙ f.0) is.1 (omega arith) (omega arith);
     }
 
-pub loop-left-preserved : goal.loop-left-preserved
-loop-left-preserved c =
+pub loop-e-preserved : goal.loop-e-preserved
+loop-e-preserved c =
     let b = c.args.book.now in
-    let is = read_here (goal.at.loop-left-preserved c).After-is_entry_kind in
-    let linked = one_down b c.loop-left.left _ _ c.loop-left-test.true c.loop-left.invariant.linked in
+    let is = read_here (goal.at.loop-e-preserved c).After-is_entry_kind in
+    let linked = one_down b c.loop-e.e _ _ c.loop-e-test.true c.loop-e.invariant.linked in
     record {
       within = search rules;
-      firsts = c.loop-left.invariant.firsts;
-      laters = c.loop-left.invariant.laters;
-      linked = linked-other b (c.loop-left.left - 1) linked is.0 is.1 c.used-records.ensures c.if-is_entry_kind-owner.false;
+      firsts = c.loop-e.invariant.firsts;
+      laters = c.loop-e.invariant.laters;
+      linked = linked-other b (c.loop-e.e - 1) linked is.0 is.1 c.used-records.ensures c.if-is_entry_kind-owner.false;
     }
 
 pub returns : goal.returns
 returns c =
-    linked-all c.args.book.now c.loop-left.left _ (omega (arith, c.loop-left-test.false)) c.loop-left.invariant.linked
+    linked-all c.args.book.now c.loop-e.e _ (omega (arith, c.loop-e-test.false)) c.loop-e.invariant.linked

@@ -1,5 +1,5 @@
 -- The counts so far are the sums over the records passed.
-use Prim.Native.Nat.{ℕ, ◌-◌, ◌≤◌, ◌<◌}
+use Prim.Native.Nat.{ℕ, ◌≤◌, ◌<◌}
 use mathlib.Core.Path.{◌≡◌}
 use mathlib.Core.List.{List}
 use lib.ListN.{length, get_or}
@@ -17,5 +17,3 @@ pub record Counting (book : List ℕ) (records : ℕ) (counts : List ℕ) (j : �
 abbrev pub invariant-loop-j : goal.invariant-loop-j
 invariant-loop-j l = Counting l.book l.records l.counts l.j
 
-abbrev pub decreases-loop-j : goal.decreases-loop-j
-decreases-loop-j l = l.records - l.j
