@@ -45,6 +45,11 @@ abbrev pub line_of : Refusal → ℕ
 line_of (WrongLine line) = line
 line_of other = 0
 
+-- .. and after 2 the faulty record, else 0
+abbrev pub record_of : Refusal → ℕ
+record_of (FaultyRecord index) = index.0
+record_of other = 0
+
 -- the same of an answer
 abbrev pub refusal_in : {A : Type 0} → Result A Refusal → ℕ
 refusal_in (Ok value) = 0
@@ -57,3 +62,8 @@ position_in (Err refusal) = position_of refusal
 abbrev pub line_in : {A : Type 0} → Result A Refusal → ℕ
 line_in (Ok value) = 0
 line_in (Err refusal) = line_of refusal
+
+-- the record that an answer names: an accepted call names one itself, or 0
+abbrev pub record_in : {A : Type 0} → (A → ℕ) → Result A Refusal → ℕ
+record_in named (Ok value) = named value
+record_in named (Err refusal) = record_of refusal

@@ -2,7 +2,8 @@
 #![tactic(auto)]
 
 ghost use Rattle.std.specs.Prelude.{◌≡◌};
-ghost use Rattle.refusals.specs.Refusals.{number_of, line_of, position_of};
+ghost use Rattle.units.specs.Units.{record_index};
+ghost use Rattle.refusals.specs.Refusals.{number_of, line_of, position_of, record_of};
 
 use std::error::Error;
 use std::fmt;
@@ -109,6 +110,16 @@ impl Refusal {
         match self {
             Refusal::WrongLine(line) => line,
             _ => 0,
+        }
+    }
+
+    // Which record is faulty; 0 after another refusal.
+    pub fn faulty_record(self) -> RecordIndex
+        ensures { result ≡ record_index (record_of self) }
+    {
+        match self {
+            Refusal::FaultyRecord(index) => index,
+            _ => RecordIndex(0),
         }
     }
 }
