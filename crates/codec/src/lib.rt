@@ -7,6 +7,8 @@ ghost use Rattle.std.proofs.Common.{rules};
 ghost use Rattle.codec.specs.Bytes.{little_endian, number, stored, bytes_of};
 ghost use Rattle.codec.specs.Bytes.{zeros as zeroBytes};
 
+use units::{Kwh, RecordIndex, Ticks, UserNumber};
+
 // A number as it stands in a record or a sheet: so many bytes, the lowest first.
 pub trait Number: Copy {
     ghost WIDTH: { ℕ };
@@ -103,6 +105,78 @@ impl Number for u64 {
     #[tactic(auto, unfolding(crate::specs::Bytes::bytes_of))]
     fn save(self, to: &mut [u8]) {
         to.copy_from_slice(&u64::to_le_bytes(self));
+    }
+
+    ghost narrow = { Prim.search rules };
+}
+
+impl Number for RecordIndex {
+    ghost WIDTH = { 4 };
+
+    const WIDTH: usize = 4;
+
+    ghost value = { λ index. index.0 };
+
+    fn load(bytes: &[u8]) -> RecordIndex {
+        RecordIndex(u32::load(bytes))
+    }
+
+    fn save(self, to: &mut [u8]) {
+        self.0.save(to);
+    }
+
+    ghost narrow = { Prim.search rules };
+}
+
+impl Number for UserNumber {
+    ghost WIDTH = { 4 };
+
+    const WIDTH: usize = 4;
+
+    ghost value = { λ number. number.0 };
+
+    fn load(bytes: &[u8]) -> UserNumber {
+        UserNumber(u32::load(bytes))
+    }
+
+    fn save(self, to: &mut [u8]) {
+        self.0.save(to);
+    }
+
+    ghost narrow = { Prim.search rules };
+}
+
+impl Number for Kwh {
+    ghost WIDTH = { 4 };
+
+    const WIDTH: usize = 4;
+
+    ghost value = { λ energy. energy.0 };
+
+    fn load(bytes: &[u8]) -> Kwh {
+        Kwh(u32::load(bytes))
+    }
+
+    fn save(self, to: &mut [u8]) {
+        self.0.save(to);
+    }
+
+    ghost narrow = { Prim.search rules };
+}
+
+impl Number for Ticks {
+    ghost WIDTH = { 8 };
+
+    const WIDTH: usize = 8;
+
+    ghost value = { λ amount. amount.0 };
+
+    fn load(bytes: &[u8]) -> Ticks {
+        Ticks(u64::load(bytes))
+    }
+
+    fn save(self, to: &mut [u8]) {
+        self.0.save(to);
     }
 
     ghost narrow = { Prim.search rules };
