@@ -7,9 +7,9 @@ ghost use Rattle.book_records.specs.Records.{head_image, user_image, advance_ima
 
 use account_steps::{Account, Balance, Charge, ClosingSums};
 use book_layout::{kind, place};
-use codec::put;
+use codec::{put, read};
 use sheet_values::Details;
-use units::{Kwh, RECORD_LENGTH, RecordIndex, Ticks};
+use units::{RECORD_LENGTH, RecordIndex, Ticks};
 
 // A user record: its links and the account.
 #[derive(Clone, Copy, Debug, PartialEq, Eq)]
@@ -50,12 +50,12 @@ fn read_details(r: &[u8]) -> Details
     ensures { result ≡ (account_in r.now).details }
 {
     Details {
-        class: codec::read(r, place::CLASS),
-        plant: codec::read(r, place::PLANT),
-        power: codec::read(r, place::POWER),
-        year: book_layout::activation_year_of(r),
-        month: codec::read(r, place::ACTIVATION_MONTH),
-        island: codec::read(r, place::ISLAND),
+        class: read(r, place::CLASS),
+        plant: read(r, place::PLANT),
+        power: read(r, place::POWER),
+        year: read(r, place::ACTIVATION_YEAR),
+        month: read(r, place::ACTIVATION_MONTH),
+        island: read(r, place::ISLAND),
     }
 }
 
@@ -64,8 +64,8 @@ fn read_charge(r: &[u8]) -> Charge
     ensures { result ≡ (account_in r.now).charge }
 {
     Charge {
-        made: codec::read(r, place::CHARGED),
-        rest: Ticks(codec::read(r, place::REST)),
+        made: read(r, place::CHARGED),
+        rest: read(r, place::REST),
     }
 }
 
@@ -74,17 +74,17 @@ fn account_of(r: &[u8]) -> Account
     ensures { result ≡ account_in r.now }
 {
     Account {
-        number: book_layout::number_of(r),
+        number: read(r, place::NUMBER),
         details: read_details(r),
-        option: codec::read(r, place::OPTION),
-        open_year: book_layout::open_year_of(r),
-        runs: codec::read(r, place::RUNS),
-        later_runs: codec::read(r, place::LATER_RUNS),
-        credit: Ticks(codec::read(r, place::CREDIT)),
-        advances: Ticks(codec::read(r, place::ADVANCES)),
-        later_advances: Ticks(codec::read(r, place::LATER_ADVANCES)),
-        half1: Kwh(codec::read(r, place::HALF1)),
-        half2: Kwh(codec::read(r, place::HALF2)),
+        option: read(r, place::OPTION),
+        open_year: read(r, place::OPEN_YEAR),
+        runs: read(r, place::RUNS),
+        later_runs: read(r, place::LATER_RUNS),
+        credit: read(r, place::CREDIT),
+        advances: read(r, place::ADVANCES),
+        later_advances: read(r, place::LATER_ADVANCES),
+        half1: read(r, place::HALF1),
+        half2: read(r, place::HALF2),
         charge: read_charge(r),
     }
 }
@@ -94,13 +94,13 @@ pub fn advance_of(r: &[u8]) -> AdvanceRecord
     ensures { result ≡ advance_in r.now }
 {
     AdvanceRecord {
-        next: book_layout::next_of(r),
-        run: codec::read(r, place::RUN),
-        year: book_layout::year_of(r),
-        ticks: Ticks(codec::read(r, place::TICKS)),
-        owner: book_layout::owner_of(r),
-        booked: book_layout::booked_of(r),
-        withheld: Ticks(codec::read(r, place::WITHHELD)),
+        next: read(r, place::NEXT),
+        run: read(r, place::RUN),
+        year: read(r, place::YEAR),
+        ticks: read(r, place::TICKS),
+        owner: read(r, place::OWNER),
+        booked: read(r, place::BOOKED),
+        withheld: read(r, place::WITHHELD),
     }
 }
 
@@ -109,13 +109,13 @@ fn sums_of(r: &[u8]) -> ClosingSums
     ensures { result ≡ (closing_in r.now).sums }
 {
     ClosingSums {
-        value: Ticks(codec::read(r, place::VALUE)),
-        cost: Ticks(codec::read(r, place::COST)),
-        flat_rate: Ticks(codec::read(r, place::FLAT_RATE)),
-        contribution: Ticks(codec::read(r, place::CONTRIBUTION)),
-        liquidation: Ticks(codec::read(r, place::LIQUIDATION)),
-        lapsed: Ticks(codec::read(r, place::LAPSED)),
-        balance: Balance(codec::read::<u64>(r, place::BALANCE).cast_signed()),
+        value: read(r, place::VALUE),
+        cost: read(r, place::COST),
+        flat_rate: read(r, place::FLAT_RATE),
+        contribution: read(r, place::CONTRIBUTION),
+        liquidation: read(r, place::LIQUIDATION),
+        lapsed: read(r, place::LAPSED),
+        balance: Balance(read::<u64>(r, place::BALANCE).cast_signed()),
     }
 }
 
@@ -124,12 +124,12 @@ pub fn closing_of(r: &[u8]) -> ClosingRecord
     ensures { result ≡ closing_in r.now }
 {
     ClosingRecord {
-        next: book_layout::next_of(r),
-        option: codec::read(r, place::CLOSING_OPTION),
-        year: book_layout::year_of(r),
+        next: read(r, place::NEXT),
+        option: read(r, place::CLOSING_OPTION),
+        year: read(r, place::YEAR),
         sums: sums_of(r),
-        owner: book_layout::owner_of(r),
-        withheld: Ticks(codec::read(r, place::WITHHELD)),
+        owner: read(r, place::OWNER),
+        withheld: read(r, place::WITHHELD),
     }
 }
 
@@ -164,7 +164,7 @@ pub fn head_image(used: u32, first: RecordIndex) -> [u8; RECORD_LENGTH]
 {
     let mut image = [0; RECORD_LENGTH];
     put(&mut image, place::USED, used);
-    put(&mut image, place::FIRST_USER, first.0);
+    put(&mut image, place::FIRST_USER, first);
     image
 }
 
@@ -176,27 +176,27 @@ pub fn user_image(user: UserRecord) -> [u8; RECORD_LENGTH]
     let details = account.details;
     let charge = account.charge;
     let mut image = [0; RECORD_LENGTH];
-    put(&mut image, place::NEXT, user.next.0);
+    put(&mut image, place::NEXT, user.next);
     put(&mut image, place::KIND, kind::USER);
     put(&mut image, place::CLASS, details.class);
     put(&mut image, place::PLANT, details.plant);
     put(&mut image, place::OPTION, account.option);
-    put(&mut image, place::NUMBER, account.number.0);
-    put(&mut image, place::FIRST_ENTRY, user.first.0);
+    put(&mut image, place::NUMBER, account.number);
+    put(&mut image, place::FIRST_ENTRY, user.first);
     put(&mut image, place::POWER, details.power);
     put(&mut image, place::ACTIVATION_YEAR, details.year);
     put(&mut image, place::ACTIVATION_MONTH, details.month);
     put(&mut image, place::ISLAND, details.island);
     put(&mut image, place::OPEN_YEAR, account.open_year);
     put(&mut image, place::RUNS, account.runs);
-    put(&mut image, place::CREDIT, account.credit.0);
-    put(&mut image, place::ADVANCES, account.advances.0);
-    put(&mut image, place::HALF1, account.half1.0);
-    put(&mut image, place::HALF2, account.half2.0);
+    put(&mut image, place::CREDIT, account.credit);
+    put(&mut image, place::ADVANCES, account.advances);
+    put(&mut image, place::HALF1, account.half1);
+    put(&mut image, place::HALF2, account.half2);
     put(&mut image, place::LATER_RUNS, account.later_runs);
-    put(&mut image, place::LATER_ADVANCES, account.later_advances.0);
+    put(&mut image, place::LATER_ADVANCES, account.later_advances);
     put(&mut image, place::CHARGED, charge.made);
-    put(&mut image, place::REST, charge.rest.0);
+    put(&mut image, place::REST, charge.rest);
     image
 }
 
@@ -205,14 +205,14 @@ pub fn advance_image(advance: AdvanceRecord) -> [u8; RECORD_LENGTH]
     ensures { result ≡ advance_image advance }
 {
     let mut image = [0; RECORD_LENGTH];
-    put(&mut image, place::NEXT, advance.next.0);
+    put(&mut image, place::NEXT, advance.next);
     put(&mut image, place::KIND, kind::ADVANCE);
     put(&mut image, place::RUN, advance.run);
     put(&mut image, place::YEAR, advance.year);
-    put(&mut image, place::TICKS, advance.ticks.0);
-    put(&mut image, place::OWNER, advance.owner.0);
+    put(&mut image, place::TICKS, advance.ticks);
+    put(&mut image, place::OWNER, advance.owner);
     put(&mut image, place::BOOKED, advance.booked);
-    put(&mut image, place::WITHHELD, advance.withheld.0);
+    put(&mut image, place::WITHHELD, advance.withheld);
     image
 }
 
@@ -222,18 +222,18 @@ pub fn closing_image(closing: ClosingRecord) -> [u8; RECORD_LENGTH]
 {
     let sums = closing.sums;
     let mut image = [0; RECORD_LENGTH];
-    put(&mut image, place::NEXT, closing.next.0);
+    put(&mut image, place::NEXT, closing.next);
     put(&mut image, place::KIND, kind::CLOSING);
     put(&mut image, place::CLOSING_OPTION, closing.option);
     put(&mut image, place::YEAR, closing.year);
-    put(&mut image, place::VALUE, sums.value.0);
-    put(&mut image, place::COST, sums.cost.0);
-    put(&mut image, place::FLAT_RATE, sums.flat_rate.0);
-    put(&mut image, place::CONTRIBUTION, sums.contribution.0);
-    put(&mut image, place::LIQUIDATION, sums.liquidation.0);
-    put(&mut image, place::LAPSED, sums.lapsed.0);
+    put(&mut image, place::VALUE, sums.value);
+    put(&mut image, place::COST, sums.cost);
+    put(&mut image, place::FLAT_RATE, sums.flat_rate);
+    put(&mut image, place::CONTRIBUTION, sums.contribution);
+    put(&mut image, place::LIQUIDATION, sums.liquidation);
+    put(&mut image, place::LAPSED, sums.lapsed);
     put(&mut image, place::BALANCE, sums.balance.0.cast_unsigned());
-    put(&mut image, place::OWNER, closing.owner.0);
-    put(&mut image, place::WITHHELD, closing.withheld.0);
+    put(&mut image, place::OWNER, closing.owner);
+    put(&mut image, place::WITHHELD, closing.withheld);
     image
 }
