@@ -186,7 +186,7 @@ pub fn sheet_fault(s: &[u8]) -> Objection
     requires { length s.now ≡ sheet_length }
     ensures { FaultTold s.now result }
 {
-    sheet::first_fault(sheet::whole(s))
+    sheet::fault_objection(sheet::whole(s))
 }
 
 // 12 13 19 14 3, of a sheet whose header is right. What 14 adds up is known to have passed 13.

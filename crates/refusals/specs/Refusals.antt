@@ -1,6 +1,6 @@
 -- The refusals of all calls: the number of each, and what it names. An answer that is a `Result` is read here as the numbers that
 -- the rules speak of: 0 for an accepted call.
-use Rattle.std.specs.Prelude.{ℕ, Result, Ok, Err}
+use Rattle.std.specs.Prelude.{ℕ, ◌+◌, Result, Ok, Err}
 use Rattle.refusals.specs.declared.Position.{Position}
 use Rattle.refusals.specs.declared.Refusal.{Refusal}
 use Rattle.refusals.specs.declared.Refusal.TheVariants.{BookLength, FaultyRecord, BookFull, NumberTaken, DetailOutOfRange, UnknownUser}
@@ -34,6 +34,10 @@ number_of BufferLength = 27
 -- no position: after every answer but 13 and 19 zeros stand there
 abbrev pub nowhere : Position
 nowhere = record { month = 0; place = 0 }
+
+-- a position by its month and its place, each counted from 0
+abbrev pub position_at : (month place : ℕ) → Position
+position_at month place = record { month = month + 1; place = place + 1 }
 
 -- what a refusal names: after 13 and 19 the position, after 17 the line; else zeros
 abbrev pub position_of : Refusal → Position

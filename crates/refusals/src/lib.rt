@@ -3,7 +3,7 @@
 
 ghost use Rattle.std.specs.Prelude.{◌≡◌};
 ghost use Rattle.units.specs.Units.{record_index};
-ghost use Rattle.refusals.specs.Refusals.{number_of, line_of, position_of, record_of};
+ghost use Rattle.refusals.specs.Refusals.{number_of, line_of, position_of, position_at, record_of};
 
 use std::error::Error;
 use std::fmt;
@@ -18,6 +18,18 @@ pub struct Position {
 }
 
 pub const NOWHERE: Position = Position { month: 0, place: 0 };
+
+impl Position {
+    // The position of a number by its month and its place in the month, both counted from 0, as a program counts them.
+    pub fn at(month: u8, place: u8) -> Position
+        ensures { result ≡ position_at month place }
+    {
+        Position {
+            month: u32::from(month) + 1,
+            place: u32::from(place) + 1,
+        }
+    }
+}
 
 // What a call objects to. What it objects to in one place names the place.
 #[derive(Clone, Copy, Debug, PartialEq, Eq)]

@@ -1,20 +1,22 @@
 -- The earliest number at fault: there is one where any number is at fault, and no sheet has two. It decides between 13 and 19.
 use Prim.Native.Nat.{ℕ, ◌+◌, ◌-◌, ◌≤◌, ◌<◌}
-use mathlib.Core.Path.{◌≡◌, refl, sym, ap₂, ◌∙◌}
+use mathlib.Core.Path.{◌≡◌, refl, sym, ap, ap₂, ◌∙◌}
 use mathlib.Core.Bool.{Bool, true, false, not, ◌&&◌, ◌||◌, true≢false}
 use mathlib.Core.Logic.{◌⊎◌, inl, inr, ⊎_elim}
 use mathlib.Core.List.{List}
 use native.Mathlib.Omega.{arith}
 use borrow.Author.Tests.{ne_eqb, not-true}
-use lib.Dec.{eqb, ltb}
 use Rattle.units.specs.Folds.{all_below, any_below}
 use Rattle.units.proofs.Bools.{and_left, and_right, and_both, or-neither}
 use Rattle.units.proofs.Folds.{all-at, all_of, none-at, none_of, any_of, First, first_below_lem}
+use Rattle.std.specs.Prelude.{Result, Ok, Err, is_ok}
 use Rattle.refusals.specs.declared.Position.{Position}
 use Rattle.sheet.specs.declared.Objection.{Objection}
-use Rattle.sheet.specs.YearSheet.{word, limit_at, above_limit, unused_band, stray_band, at_fault, earliest, refused13, refused19, EarliestAt, OneEarliest, tells, Tells, Past13}
+use Rattle.sheet.specs.YearSheet.{above_limit, stray_band, at_fault, earliest, refused13, refused19, EarliestAt, OneEarliest, tells, Tells, Past13}
 use Rattle.refusals.specs.Refusals.{nowhere}
-use Rattle.sheet.specs.Objections.{objection_of, number_of_fault, FaultTold}
+use Rattle.refusals.specs.declared.Refusal.{Refusal}
+use Rattle.refusals.specs.Refusals.{number_of, position_of, position_at, refusal_in, position_in}
+use Rattle.sheet.specs.Objections.{number_of_fault, answer_to, Faulted, FaultTold}
 
 -- every other answer tells zeros
 pub untold : (s : List ℕ) (n : ℕ) → tells n ≡ false → Tells s n nowhere
@@ -139,39 +141,34 @@ module _ (s : List ℕ) where
             rw (same.0, same.1, within) refl
 
     -- what is answered of it
-    pub told : (o : Objection) → o.refusal ≡ number_of_fault (above_limit s f.m f.place) (stray_band s f.m f.place) → o.position.month ≡ f.m + 1
-        → o.position.place ≡ f.place + 1 → FaultTold s o
-    unfolding at_fault
-    told o refusal month place = by-test (above_limit s f.m f.place) refl (stray_band s f.m f.place) refl
-      where
-        tell : (n : ℕ) → o.refusal ≡ n → tells n ≡ true → n ≡ number_of_fault (refused13 s) (refused19 s) → FaultTold s o
-        tell n e told-by is =
-            record {
-              refusal_is = e ∙ is;
-              tells = record { position = λ t. found_at f o.position month place; zeros = λ t. let other : tells n ≡ false = rw e at t in absurd (true≢false (sym told-by ∙ other)) };
-            }
+    module _ (e : Refusal) (answer : Err e ≡ answer_to (above_limit s f.m f.place) (stray_band s f.m f.place) (position_at f.m f.place)) where
+      tell : (n : ℕ) → number_of e ≡ n → position_of e ≡ position_at f.m f.place → tells n ≡ true → n ≡ number_of_fault (refused13 s) (refused19 s) → Faulted s e
+      tell n number at told-by is =
+          record {
+            number_is = number ∙ is;
+            tells = record {
+              position = λ t. found_at f (position_of e) (ap (λ (q : Position). q.month) at) (ap (λ (q : Position). q.place) at);
+              zeros = λ t. let other : tells n ≡ false = rw number at t in absurd (true≢false (sym told-by ∙ other));
+            };
+          }
 
-        by-test : (x : Bool) → above_limit s f.m f.place ≡ x → (y : Bool) → stray_band s f.m f.place ≡ y → FaultTold s o
-        by-test true e y d = let by = decides true e in tell 13 (refusal ∙ rw e refl) refl (rw by.0 refl)
-        by-test false e true d = let by = decides false e in tell 19 (refusal ∙ rw (e, d) refl) refl (rw (by.0, by.1) refl)
-        by-test false e false d = absurd (true≢false (sym f.here.at-fault ∙ or-neither e d))
+      pub told : Faulted s e
+      unfolding at_fault
+      told = by-test (above_limit s f.m f.place) refl (stray_band s f.m f.place) refl
+        where
+          by-test : (x : Bool) → above_limit s f.m f.place ≡ x → (y : Bool) → stray_band s f.m f.place ≡ y → Faulted s e
+          by-test true a y b = let by = decides true a in tell 13 (ap refusal_in answer ∙ rw a refl) (ap position_in answer ∙ rw a refl) refl (rw by.0 refl)
+          by-test false a true b = let by = decides false a in tell 19 (ap refusal_in answer ∙ rw (a, b) refl) (ap position_in answer ∙ rw (a, b) refl) refl (rw (by.0, by.1) refl)
+          by-test false a false b = absurd (true≢false (sym f.here.at-fault ∙ or-neither a b))
 
   -- no number at fault, and neither 13 nor 19
   module _ (none : (m : ℕ) → m < 12 → (p : ℕ) → p < 23 → at_fault s m p ≡ false) where
-    undecided : Past13 s
+    pub undecided : Past13 s
     unfolding refused13 refused19 earliest
     undecided = (
       none_of 12 (λ m. any_below 23 (λ p. earliest s m p && above_limit s m p)) (λ m l. none_of 23 (λ p. earliest s m p && above_limit s m p) (λ p k. rw (none m l p k) refl)),
       none_of 12 (λ m. any_below 23 (λ p. earliest s m p && not (above_limit s m p))) (λ m l. none_of 23 (λ p. earliest s m p && not (above_limit s m p)) (λ p k. rw (none m l p k) refl)),
     )
-
-    pub told_none : (o : Objection) → o ≡ objection_of 0 → FaultTold s o
-    told_none o e =
-        rw e
-        (record {
-          refusal_is = rw (undecided.0, undecided.1) refl;
-          tells = untold s 0 refl;
-        })
 
   -- conversely no number of a sheet past both is at fault
   pub past-none : Past13 s → (m : ℕ) → m < 12 → (p : ℕ) → p < 23 → at_fault s m p ≡ false
@@ -181,24 +178,24 @@ module _ (s : List ℕ) where
       refuted f true e = true≢false (sym (decides f true e).0 ∙ past.0)
       refuted f false e = true≢false (sym (decides f false e).1 ∙ past.1)
 
--- what one number brings, as tested
-pub as-tested : (s : List ℕ) (m p : ℕ) {number refusal : ℕ} {above stray : Bool} → number ≡ word s m p → above ≡ ltb (limit_at p) number → stray ≡ (unused_band s p && not (eqb number 0))
-    → refusal ≡ number_of_fault above stray → refusal ≡ number_of_fault (above_limit s m p) (stray_band s m p)
-unfolding above_limit stray_band
-as-tested s m p n a b r = r ∙ rw (a, b, n) refl
-
-pub no-fault : (s : List ℕ) (m p : ℕ) {n : ℕ} → n ≡ number_of_fault (above_limit s m p) (stray_band s m p) → n ≡ 0 → at_fault s m p ≡ false
+-- what one number brings
+pub no-fault : (s : List ℕ) (m p : ℕ) (at : Position) → Ok tt ≡ answer_to (above_limit s m p) (stray_band s m p) at → at_fault s m p ≡ false
 unfolding at_fault
-no-fault s m p e none = let by = neither (above_limit s m p) (stray_band s m p) (sym e ∙ none) in or-neither by.0 by.1
+no-fault s m p at e = by-test (above_limit s m p) refl (stray_band s m p) refl
+  where
+    by-test : (x : Bool) → above_limit s m p ≡ x → (y : Bool) → stray_band s m p ≡ y → (x || y) ≡ false
+    by-test true a y b = let n : ◌≡◌ {A = ℕ} 0 13 = ap refusal_in e ∙ rw a refl in absurd (omega (arith, n))
+    by-test false a true b = let n : ◌≡◌ {A = ℕ} 0 19 = ap refusal_in e ∙ rw (a, b) refl in absurd (omega (arith, n))
+    by-test false a false b = refl
 
-pub some-fault : (s : List ℕ) (m p : ℕ) {n : ℕ} → n ≡ number_of_fault (above_limit s m p) (stray_band s m p) → (n ≡ 0 → ⊥) → at_fault s m p ≡ true
+pub some-fault : (s : List ℕ) (m p : ℕ) (at : Position) (e : Refusal) → Err e ≡ answer_to (above_limit s m p) (stray_band s m p) at → at_fault s m p ≡ true
 unfolding at_fault
-some-fault s m p e some = by-test (above_limit s m p) refl (stray_band s m p) refl
+some-fault s m p at e answer = by-test (above_limit s m p) refl (stray_band s m p) refl
   where
     by-test : (x : Bool) → above_limit s m p ≡ x → (y : Bool) → stray_band s m p ≡ y → (x || y) ≡ true
     by-test true a y b = refl
     by-test false a true b = refl
-    by-test false a false b = absurd (some (e ∙ rw (a, b) refl))
+    by-test false a false b = let none : ◌≡◌ {A = Result (Unit {0}) Refusal} (Err e) (Ok tt) = answer ∙ rw (a, b) refl in absurd (true≢false (sym (ap is_ok none)))
 
 -- a sheet that brings neither
 pub told-past : (s : List ℕ) (o : Objection) → FaultTold s o → o.refusal ≡ 0 → Past13 s

@@ -1,9 +1,11 @@
 -- What the sheet alone objects to, as a value: 13 or 19 with the position of the number at fault.
-use Rattle.std.specs.Prelude.{ℕ, ◌≤◌, ◌<◌, ◌≡◌, Bool, true, false, cond, List}
-use Rattle.units.specs.Folds.{any_below}
+use Rattle.std.specs.Prelude.{ℕ, ◌≡◌, Bool, true, false, cond, List, Result, Ok, Err}
+use Rattle.refusals.specs.declared.Position.{Position}
+use Rattle.refusals.specs.declared.Refusal.{Refusal}
+use Rattle.refusals.specs.declared.Refusal.TheVariants.{AboveLimit, UnusedBand}
+use Rattle.refusals.specs.Refusals.{number_of, position_of, nowhere}
 use Rattle.sheet.specs.declared.Objection.{Objection}
-use Rattle.sheet.specs.YearSheet.{at_fault, refused13, refused19, Tells}
-use Rattle.refusals.specs.Refusals.{nowhere}
+use Rattle.sheet.specs.YearSheet.{refused13, refused19, Tells}
 
 abbrev pub objection_of : ℕ → Objection
 objection_of refusal = record { refusal = refusal; position = nowhere }
@@ -12,11 +14,16 @@ objection_of refusal = record { refusal = refusal; position = nowhere }
 abbrev pub number_of_fault : (above stray : Bool) → ℕ
 number_of_fault above stray = cond above 13 (cond stray 19 0)
 
--- the first month with a number at fault, 12 for none
-pub record FirstMonth (s : List ℕ) (month : ℕ) : Type 0 where
-  pub to12 : month ≤ 12
-  pub none_before : (m : ℕ) → m < month → (p : ℕ) → p < 23 → at_fault s m p ≡ false
-  pub some : month < 12 → any_below 23 (at_fault s month) ≡ true
+-- the same as an answer, of a number at a position
+abbrev pub answer_to : (above stray : Bool) → Position → Result (Unit {0}) Refusal
+answer_to true stray position = Err (AboveLimit position)
+answer_to false true position = Err (UnusedBand position)
+answer_to false false position = Ok tt
+
+-- by the earliest number at fault, and where it stands
+pub record Faulted (s : List ℕ) (e : Refusal) : Type 0 where
+  pub number_is : number_of e ≡ number_of_fault (refused13 s) (refused19 s)
+  pub tells : Tells s (number_of e) (position_of e)
 
 pub record FaultTold (s : List ℕ) (o : Objection) : Type 0 where
   pub refusal_is : o.refusal ≡ number_of_fault (refused13 s) (refused19 s)

@@ -2,25 +2,69 @@
 // bytes is an ordinary input.
 #![tactic(auto)]
 
-ghost use Rattle.std.specs.Prelude.{◌≡◌, not, ◌&&◌, ◌<◌, eqb, ltb, length};
-ghost use Rattle.units.specs.Units.{user_number, kwh};
+ghost use Rattle.std.specs.Prelude.{◌≡◌, ℕ, true, false, not, ◌&&◌, ◌<◌, eqb, ltb, length, MatchResult};
+ghost use Rattle.units.specs.Units.{user_number};
 ghost use Rattle.units.specs.Folds.{any_below};
-ghost use Rattle.sheet.specs.Objections.{objection_of, number_of_fault, FirstMonth, FaultTold};
+ghost use Rattle.refusals.specs.Refusals.{position_at};
+ghost use Rattle.refusals.specs.declared.Refusal.TheVariants.{SheetForm};
+ghost use Rattle.sheet.specs.Objections.{objection_of, answer_to, Faulted, FaultTold};
 ghost use Rattle.sheet.specs.YearSheet.{sheet_length, sheet_user, sheet_year, withdrawn_reading, injected_reading, word, limit_at};
-ghost use Rattle.sheet.specs.YearSheet.{unused_band, at_fault, header_fits, last_words_fit, form_fits, version_zero, point_zero, refused11};
-ghost use Rattle.sheet.specs.YearSheet.{refused14, month_withdrawn, Past13};
+ghost use Rattle.sheet.specs.YearSheet.{unused_band, at_fault, above_limit, stray_band, header_fits, last_words_fit, form_fits, version_zero};
+ghost use Rattle.sheet.specs.YearSheet.{point_zero, refused11, refused14, month_withdrawn, Past13, SheetPassed};
 
-use refusals::{NOWHERE, Position};
+use refusals::{NOWHERE, Position, Refusal};
 use tariff::MONTHLY_THRESHOLD;
-use units::{Kwh, MAX_KWH, MAX_PRICE, UserNumber};
+use units::{MAX_KWH, MAX_PRICE, UserNumber};
 
 pub const LENGTH: usize = 1184;
 
 pub const HEADER: usize = 32;
 
 pub const MONTHS: usize = 12;
+
 // A month's numbers that have a limit; the one after them is zero.
-const NUMBERS: usize = 23;
+const NUMBERS: u8 = 23;
+
+// The bytes of a sheet, whatever stands in them.
+pub type Sheet = [u8; LENGTH];
+
+// A sheet whose form, version and point are right: it has passed 11.
+#[derive(Clone, Copy)]
+pub struct FormedSheet<'a> {
+    pub bytes: &'a Sheet,
+    ghost past11: { refused11 bytes.now ≡ false },
+}
+
+// A sheet that has passed 11, 13 and 19: each of its numbers is within its limit.
+#[derive(Clone, Copy)]
+pub struct PassedSheet<'a> {
+    pub bytes: &'a Sheet,
+    ghost passed: { SheetPassed bytes.now },
+}
+
+impl<'a> FormedSheet<'a> {
+    // 11.
+    #[tactic(auto, using(crate::proofs::Limits::passed_length))]
+    pub fn new(s: &'a [u8]) -> Result<FormedSheet<'a>, Refusal>
+        ensures { MatchResult result (λ sheet. (refused11 s.now ≡ false) × (sheet.bytes.now ≡ s.now))
+            (λ e. (refused11 s.now ≡ true) × (e ≡ SheetForm)) }
+    {
+        if header_wrong(s) {
+            return Err(Refusal::SheetForm);
+        }
+        let bytes = <&Sheet>::try_from(s).unwrap();
+        Ok(FormedSheet { bytes })
+    }
+
+    // 13 and 19.
+    pub fn passed(self) -> Result<PassedSheet<'a>, Refusal>
+        ensures { MatchResult result (λ sheet. sheet.bytes.now ≡ self.entry.bytes.now) (λ e. Faulted self.entry.bytes.now e) }
+    {
+        let bytes = self.bytes;
+        first_fault(bytes)?;
+        Ok(PassedSheet { bytes })
+    }
+}
 
 // A refusal, 0 for none, and after 13 or 19 where the number at fault stands.
 #[derive(Clone, Copy)]
@@ -61,7 +105,8 @@ pub fn whole<'a>(s: &'a [u8]) -> &'a [u8]
     &s[0..LENGTH]
 }
 
-// The number at a place of a month, both counted from 0: of a sheet of the right length, and of any.
+// The number at a place of a month, both counted from 0: of a sheet of the right length.
+#[tactic(auto, unfolding(crate::specs::YearSheet::word))]
 pub fn number_at(s: &[u8], month: usize, place: usize) -> u32
     requires whole_sheet { length s.now ≡ sheet_length }
     requires month_bound { (month < 12) × (place < 24) }
@@ -70,14 +115,16 @@ pub fn number_at(s: &[u8], month: usize, place: usize) -> u32
     codec::get(s, HEADER + 96 * month + 4 * place)
 }
 
-fn word_at(s: &[u8], month: usize, place: usize) -> u32
-    requires { (month < 12) × (place < 24) }
+// The number at a place of a month, both counted from 0.
+#[tactic(auto, unfolding(crate::specs::YearSheet::word))]
+pub fn number(s: &[u8], month: u8, place: u8) -> u32
     ensures { result ≡ word s.now month place }
 {
-    codec::read(s, HEADER + 96 * month + 4 * place)
+    codec::read(s, HEADER + 96 * usize::from(month) + 4 * usize::from(place))
 }
 
 // 11: a length, a header or a zero word that is wrong. Bytes 8 and 12–15 of the header are parts of their own.
+#[tactic(auto, unfolding(crate::specs::YearSheet::header_fits))]
 fn header_fits(s: &[u8]) -> bool
     ensures { result ≡ header_fits s.now }
 {
@@ -90,21 +137,20 @@ fn last_words_fit(s: &[u8]) -> bool
     ensures { result ≡ last_words_fit s.now }
 {
     let mut zeros = true;
-    for month in 0..MONTHS {
-        zeros = zeros & (word_at(s, month, NUMBERS) == 0);
+    for month in 0..12 {
+        zeros = zeros & (number(s, month, NUMBERS) == 0);
     }
     zeros
 }
 
 // The sheet's form, whatever stands in bytes 8 and 12–15.
+#[tactic(auto, unfolding(crate::specs::YearSheet::form_fits))]
 pub fn form_fits(s: &[u8]) -> bool
     ensures { result ≡ form_fits s.now }
 {
-    if s.len() == LENGTH {
-        let s = whole(s);
-        header_fits(s) & last_words_fit(s)
-    } else {
-        false
+    match <&Sheet>::try_from(s) {
+        Ok(sheet) => header_fits(sheet) & last_words_fit(sheet),
+        Err(_) => false,
     }
 }
 
@@ -120,20 +166,27 @@ fn point_zero(s: &[u8]) -> bool
     codec::zeros(s, 12, 4)
 }
 
+#[tactic(auto, unfolding(crate::specs::YearSheet::refused11))]
 pub fn header_wrong(s: &[u8]) -> bool
     ensures { result ≡ refused11 s.now }
 {
     !(form_fits(s) & (version_zero(s) & point_zero(s)))
 }
 
-fn limit_at(place: usize) -> u64
+#[tactic(auto, unfolding(crate::specs::YearSheet::limit_at))]
+fn limit_at(place: u8) -> u64
     ensures { result ≡ limit_at place }
 {
-    if place < 6 { MAX_KWH as u64 } else { MAX_PRICE }
+    if place < 6 {
+        u64::from(MAX_KWH)
+    } else {
+        MAX_PRICE
+    }
 }
 
 // A single reading stands at F1; its F2 and F3 are unused.
-fn unused_band(s: &[u8], place: usize) -> bool
+#[tactic(auto, unfolding(crate::specs::YearSheet::unused_band))]
+fn unused_band(s: &[u8], place: u8) -> bool
     ensures { result ≡ unused_band s.now place }
 {
     (!(withdrawn_reading(s) == 1) & ((place == 1) | (place == 2)))
@@ -141,29 +194,28 @@ fn unused_band(s: &[u8], place: usize) -> bool
 }
 
 // The tests of a number at its place in a month.
-fn above_limit(number: u32, place: usize) -> bool
+fn above_limit(number: u32, place: u8) -> bool
     ensures { result ≡ ltb (limit_at place) number }
 {
-    limit_at(place) < number as u64
+    limit_at(place) < u64::from(number)
 }
 
-fn stray_band(s: &[u8], number: u32, place: usize) -> bool
+fn stray_band(s: &[u8], number: u32, place: u8) -> bool
     ensures { result ≡ (unused_band s.now place && not (eqb number 0)) }
 {
     unused_band(s, place) & !(number == 0)
 }
 
-fn at_fault(s: &[u8], month: usize, place: usize) -> bool
-    requires { (month < 12) × (place < 24) }
+#[tactic(auto, unfolding(crate::specs::YearSheet::at_fault, crate::specs::YearSheet::above_limit, crate::specs::YearSheet::stray_band))]
+fn at_fault(s: &[u8], month: u8, place: u8) -> bool
     ensures { result ≡ at_fault s.now month place }
 {
-    let number = word_at(s, month, place);
+    let number = number(s, month, place);
     above_limit(number, place) | stray_band(s, number, place)
 }
 
 // Some number of the month is at fault. All are looked at, without a branch.
-fn month_wrong(s: &[u8], month: usize) -> bool
-    requires { month < 12 }
+fn month_wrong(s: &[u8], month: u8) -> bool
     ensures { result ≡ any_below 23 (λ place. at_fault s.now month place) }
 {
     let mut wrong = false;
@@ -184,14 +236,27 @@ pub fn unplaced(refusal: u32) -> Objection
 }
 
 // "Where one number has both faults, 13 goes first."
-fn fault_number(above: bool, stray: bool) -> u32
-    ensures { result ≡ number_of_fault above stray }
+fn answer_to(above: bool, stray: bool, position: Position) -> Result<(), Refusal>
+    ensures { result ≡ answer_to above stray position }
 {
     if above {
-        13
-    } else {
-        if stray { 19 } else { 0 }
+        return Err(Refusal::AboveLimit(position));
     }
+    if stray {
+        return Err(Refusal::UnusedBand(position));
+    }
+    Ok(())
+}
+
+// What the number at a place of a month is refused for.
+#[tactic(auto, unfolding(crate::specs::YearSheet::above_limit, crate::specs::YearSheet::stray_band))]
+fn fault_at(s: &[u8], month: u8, place: u8) -> Result<(), Refusal>
+    ensures { result ≡ answer_to (above_limit s.now month place) (stray_band s.now month place) (position_at month place) }
+{
+    let number = number(s, month, place);
+    let above = above_limit(number, place);
+    let stray = stray_band(s, number, place);
+    answer_to(above, stray, Position::at(month, place))
 }
 
 // Some number of the sheet is at fault. Nothing is kept of the numbers, so that the test of a month stays short.
@@ -199,69 +264,57 @@ fn some_wrong(s: &[u8]) -> bool
     ensures { result ≡ any_below 12 (λ m. any_below 23 (λ place. at_fault s.now m place)) }
 {
     let mut wrong = false;
-    for month in 0..MONTHS {
+    for month in 0..12 {
         wrong = wrong | month_wrong(s, month);
     }
     wrong
 }
 
-// The first month with a number at fault, 12 for none.
-fn wrong_month(s: &[u8]) -> usize
-    ensures { FirstMonth s.now result }
-{
-    for month in 0..MONTHS {
-        if month_wrong(s, month) {
-            return month;
-        }
-    }
-    MONTHS
-}
-
 // 13 or 19 by the earliest number at fault. Only a month at fault is searched.
-pub fn first_fault(s: &[u8]) -> Objection
-    ensures { FaultTold s.now result }
+pub fn first_fault(s: &[u8]) -> Result<(), Refusal>
+    ensures { MatchResult result (λ nothing. Past13 s.now) (λ e. Faulted s.now e) }
 {
     if !some_wrong(s) {
-        return unplaced(0);
+        return Ok(());
     }
-    let month = wrong_month(s);
-    if month == MONTHS {
-        return unplaced(0);
-    }
-    for place in 0..NUMBERS {
-        let number = word_at(s, month, place);
-        let above = above_limit(number, place);
-        let stray = stray_band(s, number, place);
-        let refusal = fault_number(above, stray);
-        if refusal != 0 {
-            let position = Position {
-                month: month as u32 + 1,
-                place: place as u32 + 1,
-            };
-            return Objection { refusal, position };
+    for month in 0..12 {
+        if month_wrong(s, month) {
+            for place in 0..NUMBERS {
+                fault_at(s, month, place)?;
+            }
         }
     }
-    unplaced(0)
+    Ok(())
 }
 
-// Energy withdrawn in a month. No number of a sheet past 13 is above 20,000,000, so that 32 bits hold three of them.
-fn month_withdrawn(s: &[u8], month: usize) -> Kwh
-    requires past13 { Past13 s.now }
-    requires month_bound { month < 12 }
-    ensures { result ≡ kwh (month_withdrawn s.now month) }
+// The same as a number with a position.
+pub fn fault_objection(s: &[u8]) -> Objection
+    ensures { FaultTold s.now result }
 {
-    let bands = word_at(s, month, 0) + word_at(s, month, 1) + word_at(s, month, 2);
-    Kwh(bands)
+    match first_fault(s) {
+        Ok(()) => unplaced(0),
+        Err(refusal) => Objection {
+            refusal: refusal.number(),
+            position: refusal.position(),
+        },
+    }
+}
+
+// Energy withdrawn in a month, of any numbers.
+#[tactic(auto, unfolding(crate::specs::YearSheet::month_withdrawn))]
+fn month_withdrawn(s: &[u8], month: u8) -> u64
+    ensures { result ≡ month_withdrawn s.now month }
+{
+    u64::from(number(s, month, 0)) + u64::from(number(s, month, 1)) + u64::from(number(s, month, 2))
 }
 
 // 14: a domestic user with a month above the threshold of the monthly method.
 pub fn domestic_excess(class: u8, s: &[u8]) -> bool
-    requires { Past13 s.now }
     ensures { result ≡ refused14 class s.now }
 {
     let mut above = false;
-    for month in 0..MONTHS {
-        above = above | (MONTHLY_THRESHOLD < month_withdrawn(s, month).0);
+    for month in 0..12 {
+        above = above | (u64::from(MONTHLY_THRESHOLD) < month_withdrawn(s, month));
     }
     tariff::is_domestic(class) & above
 }

@@ -76,7 +76,7 @@ fn values_of(sheet: &[u8], details: Details) -> Result<YearValues, u32> {
     if sheet::header_wrong(sheet) {
         return Err(11);
     }
-    let fault = sheet::first_fault(sheet);
+    let fault = sheet::fault_objection(sheet);
     if fault.refusal != 0 {
         return Err(fault.refusal);
     }

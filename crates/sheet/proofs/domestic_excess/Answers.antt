@@ -1,7 +1,7 @@
 -- `domestic_excess` is held to `refused14`: the months by a running test.
-use mathlib.Core.Path.{◌≡◌, ap, sym}
+use mathlib.Core.Path.{◌≡◌, ap₂, sym}
 use native.Mathlib.Omega.{arith}
-use Rattle.units.specs.declared.Kwh.{Kwh}
+use Prim.Native.Nat.{ℕ}
 use lib.Dec.{ltb}
 use Rattle.units.proofs.Folds.{any-zero, any_next}
 use Rattle.tariff.specs.Tariff.{monthly_threshold}
@@ -17,8 +17,8 @@ loop-month-preserved c =
     let l = c.loop-month in
     let s = c.args.s.now in (
       search rules,
-      any_next l.month (λ m. ltb monthly_threshold (month_withdrawn s m)) l.invariant.1 (ap (λ (e : Kwh). ltb
-          monthly_threshold e.0) c.month_withdrawn.ensures),
+      any_next l.month (λ m. ltb monthly_threshold (month_withdrawn s m)) l.invariant.1 (ap₂ (λ (t n : ℕ). ltb t n)
+          c.from.ensures c.month_withdrawn.ensures),
     )
 
 pub returns : goal.returns

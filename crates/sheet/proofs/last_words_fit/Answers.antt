@@ -16,7 +16,7 @@ pub loop-month-preserved : goal.loop-month-preserved
 loop-month-preserved c =
     let l = c.loop-month in
     let s = c.args.s.now in
-    (search rules, all-next l.month (λ m. eqb (last_word s m) 0) l.invariant.1 (ap (λ (n : ℕ). eqb n 0) c.word_at.ensures))
+    (search rules, all-next l.month (λ m. eqb (last_word s m) 0) l.invariant.1 (ap (λ (n : ℕ). eqb n 0) c.number.ensures))
 
 pub returns : goal.returns
 unfolding last_words_fit
