@@ -140,3 +140,21 @@ pub fn account_at(book: &[u8], index: RecordIndex) -> Account
 {
     book_records::read_account(book_layout::whole_record(book, index.0 as usize))
 }
+
+impl<'a> User<'a> {
+    /// The account of the user.
+    #[tactic(auto, using(crate::proofs::Users::user_whole))]
+    pub fn account(self) -> Account
+        ensures { result ≡ account_at self.entry.book.bytes.now self.entry.index.0 }
+    {
+        account_at(self.book.bytes, self.index)
+    }
+
+    /// Its newest entry, 0 where it has none.
+    #[tactic(auto)]
+    pub fn first_entry(self) -> RecordIndex
+        ensures { result ≡ record_index (first_entry_of self.entry.book.bytes.now self.entry.index.0) }
+    {
+        first_entry_of(self.book.bytes, self.index)
+    }
+}
