@@ -101,7 +101,10 @@ impl<W: Write> Printer<W> {
 
 /// Tells on standard error why a program stopped before it had answered, if it did: how it is used, or what failed. The status
 /// stays 0.
-pub fn report<E: Write>(err: &mut E, program: &str, usage: &str, outcome: Result<(), Failure>) {
+// Every `main` is this one call: the entry that each program has names it, and a function that took its `run` would be called so too.
+pub fn report<E: Write>(err: &mut E, program: &str, usage: &str, outcome: Result<(), Failure>)
+    ensures quiet { OnOk outcome (err.new ≡ err.old) }
+{
     // Where standard error cannot be written, nothing is left to tell it on.
     let _ = match outcome {
         Ok(()) => Ok(()),
@@ -121,7 +124,8 @@ pub fn only_argument<'a, V: Env>(env: &V, buffer: &'a mut [u8]) -> Option<&'a [u
     buffer.get(..length)
 }
 
-// Whether a program was given an argument at a place, an empty one too. The program's own name stands at 0.
+/// Whether a program was given an argument at a place, an empty one too. The program's own name stands at 0.
+// No clause: of the words that an `Env` has, std tells how many bytes they fill at most and nothing else.
 pub fn has_argument<V: Env>(env: &V, place: usize) -> bool {
     let mut none = [0u8; 0];
     match env.arg(place, &mut none) {
