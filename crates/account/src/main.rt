@@ -13,7 +13,6 @@ ghost use Rattle.account_conserved.specs.Conservation.{Small};
 
 use account_steps::Balance;
 use account_years::{Charges, OfEach, Payments, Year};
-use check_book::Verdict;
 use output::{Failure, Printer};
 use statements::Sums;
 use std::fmt;
@@ -259,10 +258,12 @@ fn say_account(out: &mut Printer, user: User<'_>) -> Result<(), Failure> {
 
 fn answer(out: &mut Printer, book: &[u8], number: UserNumber) -> Result<(), Failure> {
     match check_book::find(book, number) {
-        Verdict::Length => out.line("refused 1"),
-        Verdict::Faulty(_) => out.line("refused 2"),
-        Verdict::Sound(index) if index.0 == 0 => out.line("refused 6"),
-        Verdict::Sound(index) => say_account(out, User { book, index }),
+        Ok((_, Some(user))) => {
+            let index = user.index;
+            say_account(out, User { book, index })
+        }
+        Ok((_, None)) => out.line("refused 6"),
+        Err(refusal) => out.line(format_args!("refused {}", refusal.number())),
     }
 }
 

@@ -5,7 +5,7 @@ ghost use Rattle.std.specs.Prelude.{◌≡◌};
 ghost use Rattle.call_answers.specs.Replies.{refused_with};
 ghost use Rattle.call_answers.specs.InnerLooks.{LookedAt};
 
-use check_book::Verdict;
+use refusals::Refusal;
 use units::{RecordIndex, UserNumber};
 
 // A refusal, 0 for none, and the record that it or the call names.
@@ -36,23 +36,19 @@ pub fn look(book: &[u8], number: UserNumber) -> Looked
     ensures { LookedAt book.now number.0 result.reply.refusal result.reply.record.0 result.user }
 {
     match check_book::find(book, number) {
-        Verdict::Length => Looked {
-            reply: refused(1),
-            user: RecordIndex(0),
+        Ok((_, user)) => Looked {
+            reply: refused(0),
+            user: match user {
+                Some(user) => user.index,
+                None => RecordIndex(0),
+            },
         },
-        Verdict::Faulty(index) => Looked {
+        Err(refusal) => Looked {
             reply: Reply {
-                refusal: 2,
-                record: index,
+                refusal: refusal.number(),
+                record: refusal.faulty_record(),
             },
             user: RecordIndex(0),
-        },
-        Verdict::Sound(user) => Looked {
-            reply: Reply {
-                refusal: 0,
-                record: RecordIndex(0),
-            },
-            user,
         },
     }
 }

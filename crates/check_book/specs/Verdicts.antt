@@ -1,11 +1,15 @@
 -- What each answer of the check says of the book, and what fresh answers and leaves (document 01, "Book" and "Who brings which
 -- number").
-use Rattle.std.specs.Prelude.{ℕ, ◌≤◌, ◌<◌, ◌≡◌, true, false, cond, Option, MatchOption, List, length}
+use Rattle.std.specs.Prelude.{ℕ, ◌≤◌, ◌<◌, ◌≡◌, true, false, cond, Option, Result, MatchOption, MatchResult, List, length}
 use Rattle.units.specs.declared.RecordIndex.{RecordIndex}
 use Rattle.units.specs.Units.{record_index}
 use Rattle.book_rules.specs.Book.{length_fits, fresh_book, used, good_record, sound, smallest_faulty}
 use Rattle.book_rules.specs.Find.{find_user}
-use Rattle.check_book.specs.declared.Verdict.{Verdict}
+use Rattle.book_view.specs.declared.SoundBook.{SoundBook}
+use Rattle.book_view.specs.declared.User.{User}
+use Rattle.check_lookup.specs.Found.{found_user}
+use Rattle.refusals.specs.declared.Refusal.{Refusal}
+use Rattle.refusals.specs.declared.Refusal.TheVariants.{BookLength, FaultyRecord}
 
 -- the records but the head, where u fits: this one is faulty, or it is u; and none before it is faulty
 pub record RecordsJudged (b : List ℕ) (bad : ℕ) : Type 0 where
@@ -29,11 +33,27 @@ pub record Objected (b : List ℕ) (i : ℕ) : Type 0 where
   pub unsound : sound b ≡ false
   pub smallest : i ≡ smallest_faulty b
 
--- what each verdict says of a book and a user number: in a sound book it names the user with the number, 0 for none
-abbrev pub BookJudged : List ℕ → ℕ → Verdict → Type 0
-BookJudged b n Verdict.Length = length_fits b ≡ false
-BookJudged b n (Verdict.Sound i) = Accepted b × (i ≡ record_index (find_user b n))
-BookJudged b n (Verdict.Faulty i) = Objected b i.0
+-- what each refusal says of a book
+abbrev pub BookRefused : List ℕ → Refusal → Type 0
+BookRefused b BookLength = length_fits b ≡ false
+BookRefused b (FaultyRecord i) = Objected b i.0
+BookRefused b other = ⊥
+
+-- what the pass over a book says: it is accepted, with the record of the user that has a number, or it is refused
+abbrev pub BookJudged : List ℕ → ℕ → Result (Option RecordIndex) Refusal → Type 0
+BookJudged b n r = MatchResult r (λ found. Accepted b × (found ≡ found_user b n)) (BookRefused b)
+
+-- the user of a book that has a number, as a view
+abbrev pub UserFound : List ℕ → ℕ → Option User → Type 0
+UserFound b n user = MatchOption user (find_user b n ≡ 0) (λ u. (u.book.bytes.now ≡ b) × (u.index ≡ record_index (find_user b n)))
+
+-- what the look at a book says: the book as a sound one with the user that has a number, or a refusal
+abbrev pub BookFound : List ℕ → ℕ → Result (SoundBook × Option User) Refusal → Type 0
+BookFound b n r = MatchResult r (λ p. (p.0.bytes.now ≡ b) × (Accepted b × UserFound b n p.1)) (BookRefused b)
+
+-- what the check alone says
+abbrev pub BookChecked : List ℕ → Result SoundBook Refusal → Type 0
+BookChecked b r = MatchResult r (λ s. (s.bytes.now ≡ b) × Accepted b) (BookRefused b)
 
 -- "fresh 1": the only refusal of fresh
 unfoldable pub fresh_answer : List ℕ → ℕ

@@ -4,24 +4,15 @@
 
 ghost use Rattle.std.specs.Prelude.{◌≡◌, true, ◌&&◌};
 ghost use Rattle.book_rules.specs.Book.{length_fits, used_fits, good_head, is_entry, owner_fits, number_is_new};
+ghost use Rattle.check_lookup.specs.Found.{found_user};
 ghost use Rattle.check_pass.specs.InnerSteps.{BrokenFirst};
-ghost use Rattle.check_book.specs.Verdicts.{RecordsSearched, BookJudged, fresh_answer, fresh_after};
+ghost use Rattle.refusals.specs.Refusals.{refusal_in};
+ghost use Rattle.check_book.specs.Verdicts.{RecordsSearched, BookJudged, UserFound, BookFound, BookChecked, fresh_answer, fresh_after};
 
-use book_view::{is_entry, is_user, number_of, used};
+use book_view::{SoundBook, User, is_entry, is_user, number_of, used};
 use check_numbers::PLACES;
+use refusals::Refusal;
 use units::{RecordIndex, UserNumber};
-
-// What is said of any bytes: refusal 1; no refusal, with the user that was looked for, 0 for none; refusal 2 with the faulty
-// record that has the smallest index.
-#[derive(Clone, Copy)]
-pub enum Verdict {
-    Length,
-    Sound(RecordIndex),
-    Faulty(RecordIndex),
-}
-
-// Where no user has the number, the verdict names the head.
-const NOBODY: RecordIndex = RecordIndex(0);
 
 fn owned(book: &[u8], index: RecordIndex) -> bool
     ensures { result ≡ (is_entry book.now index.0 && owner_fits book.now index.0) }
@@ -90,7 +81,11 @@ fn faulty_record(book: &[u8], broken: Option<RecordIndex>) -> Option<RecordIndex
 // A book whose chains do not lead to all records is judged record by record, by arrays for which no other book pays.
 #[cold]
 #[inline(never)]
-fn judge(book: &[u8], number: UserNumber, broken: Option<RecordIndex>) -> Verdict
+fn judge(
+    book: &[u8],
+    number: UserNumber,
+    broken: Option<RecordIndex>,
+) -> Result<Option<RecordIndex>, Refusal>
     requires book_length { length_fits book.now ≡ true }
     requires records_used { used_fits book.now ≡ true }
     requires head { good_head book.now ≡ true }
@@ -98,48 +93,78 @@ fn judge(book: &[u8], number: UserNumber, broken: Option<RecordIndex>) -> Verdic
     ensures { BookJudged book.now number.0 result }
 {
     match faulty_record(book, broken) {
-        Some(bad) => Verdict::Faulty(bad),
-        None => Verdict::Sound(check_lookup::find_user(book, number).unwrap_or(NOBODY)),
+        Some(bad) => Err(Refusal::FaultyRecord(bad)),
+        None => Ok(check_lookup::find_user(book, number)),
     }
 }
 
-// Refusals 1 and 2 of every call look at this, and the user that the call names is found with it. One pass over the records tells
-// whether a book is sound, and the smallest record that breaks a rule by itself. Where it is not sound, the records are judged one
-// by one.
-pub fn find(book: &[u8], number: UserNumber) -> Verdict
+// One pass over the records tells whether a book is sound, and the smallest record that breaks a rule by itself. Where it is not
+// sound, the records are judged one by one.
+fn pass(book: &[u8], number: UserNumber) -> Result<Option<RecordIndex>, Refusal>
     ensures { BookJudged book.now number.0 result }
 {
     if !book_rules::length_fits(book) {
-        return Verdict::Length;
+        return Err(Refusal::BookLength);
     }
     if !book_view::used_fits(book) {
-        return Verdict::Faulty(RecordIndex(0));
+        return Err(Refusal::FaultyRecord(RecordIndex(0)));
     }
     if !check_rules::good_head(book) {
-        return Verdict::Faulty(RecordIndex(0));
+        return Err(Refusal::FaultyRecord(RecordIndex(0)));
     }
     match check_pass::find(book, number) {
-        Ok(user) => Verdict::Sound(user.unwrap_or(NOBODY)),
+        Ok(user) => Ok(user),
         Err(broken) => judge(book, number, broken),
     }
 }
 
-// The check alone: no user has the number 0.
-pub fn check(book: &[u8]) -> Verdict
-    ensures { BookJudged book.now 0 result }
+// The user that was found in a sound book, as one of its users.
+#[tactic(auto, using(check_lookup::proofs::Search::found_index, check_lookup::proofs::Search::found_is_user, check_lookup::proofs::Search::found_nobody))]
+fn user_in<'a>(
+    book: SoundBook<'a>,
+    number: UserNumber,
+    found: Option<RecordIndex>,
+) -> Option<User<'a>>
+    requires { found ≡ found_user book.bytes.now number.0 }
+    ensures { UserFound book.entry.bytes.now number.0 result }
 {
-    find(book, UserNumber(0))
+    match found {
+        Some(index) => Some(User { book, index }),
+        None => None,
+    }
 }
 
-// "A fresh book is all zero but u = 1." The answer is 0, or the number of the refusal.
-pub fn fresh(book: &mut [u8]) -> u32
-    ensures answer { result ≡ fresh_answer book.old }
+/// The look with which every call begins: refusal 1, or 2 with the faulty record that has the smallest index; or the book, known to
+/// be sound, and the user with a number, where it has one.
+pub fn find<'a>(
+    book: &'a [u8],
+    number: UserNumber,
+) -> Result<(SoundBook<'a>, Option<User<'a>>), Refusal>
+    ensures { BookFound book.now number.0 result }
+{
+    let found = pass(book, number)?;
+    let book = SoundBook { bytes: book };
+    Ok((book, user_in(book, number, found)))
+}
+
+/// The check alone, of which no user is asked.
+pub fn check<'a>(book: &'a [u8]) -> Result<SoundBook<'a>, Refusal>
+    ensures { BookChecked book.now result }
+{
+    // No user has the number 0.
+    let _nobody = pass(book, UserNumber(0))?;
+    Ok(SoundBook { bytes: book })
+}
+
+/// "A fresh book is all zero but u = 1." Refusal 1 is the only one, and leaves the bytes.
+pub fn fresh(book: &mut [u8]) -> Result<(), Refusal>
+    ensures answer { refusal_in result ≡ fresh_answer book.old }
     ensures after { book.new ≡ fresh_after book.old }
 {
     if !book_rules::length_fits(book) {
-        return 1;
+        return Err(Refusal::BookLength);
     }
     book.fill(0);
     book[0] = 1;
-    0
+    Ok(())
 }

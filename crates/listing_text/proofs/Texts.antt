@@ -1,6 +1,6 @@
 -- The text of a refused book, which text a book has, and that none is longer than `longest_text`.
 use Prim.Native.Nat.{ℕ, ◌+◌, ◌≤◌}
-use mathlib.Core.Path.{◌≡◌, refl, ap, subst, ◌∙◌}
+use mathlib.Core.Path.{◌≡◌, refl, ap, ◌∙◌}
 use mathlib.Core.Bool.{Bool, true, false, cond}
 use mathlib.Core.List.{List, [], ◌∷◌}
 use native.Mathlib.Omega.{arith}
@@ -11,10 +11,10 @@ use Rattle.codec.specs.Bytes.{stored}
 use Rattle.codec.proofs.Stores.{sets-stored, length-stored}
 use Rattle.book_rules.specs.Book.{length_fits, sound}
 use Rattle.book_rules.specs.Chains.{users_of}
-use Rattle.units.specs.declared.RecordIndex.{RecordIndex}
-use Rattle.check_book.specs.declared.Verdict.{Verdict}
-use Rattle.check_book.specs.declared.Verdict.TheVariants.{Length, Sound, Faulty}
-use Rattle.check_book.specs.Verdicts.{BookJudged, Accepted, Objected}
+use Rattle.refusals.specs.declared.Refusal.{Refusal}
+use Rattle.refusals.specs.declared.Refusal.TheVariants.{BookLength, FaultyRecord}
+use Rattle.refusals.specs.Refusals.{number_of}
+use Rattle.check_book.specs.Verdicts.{BookRefused, Accepted, Objected}
 use Rattle.listing_text.specs.Listing.{blank, user_lines, refused, listing}
 use Rattle.listing_text.specs.InnerWritten.{longest_refusal, longest_text, field, AllWritten, TextFirst}
 use Rattle.codec.proofs.Pieces.{stored-then}
@@ -41,24 +41,18 @@ unfolding refused field
 refused-short n = omega (arith, field-short n line_feed)
 
 module _ (b : List ℕ) where
-  pub refused-length : (v : Verdict) → BookJudged b 0 v → v ≡ Length → listing b ≡ refused 1
-  unfolding listing
-  refused-length v h e = let short : length_fits b ≡ false = subst (BookJudged b 0) e h in rw short
-
-  pub accepted : (v : Verdict) {i : RecordIndex} → BookJudged b 0 v → v ≡ Sound i → Accepted b
-  accepted v h e = (subst (BookJudged b 0) e h).0
-
   pub listed : Accepted b → listing b ≡ user_lines b (users_of b)
   unfolding listing
   listed a = let long : length_fits b ≡ true = a.fits in let good : sound b ≡ true = a.is_sound in rw (long, good)
 
-  pub refused-faulty : (v : Verdict) {i : RecordIndex} → BookJudged b 0 v → v ≡ Faulty i → listing b ≡ refused 2
+  pub refused-as : (e : Refusal) → BookRefused b e → listing b ≡ refused (number_of e)
   unfolding listing
-  refused-faulty v {i} h e =
-      let o : Objected b i.0 = subst (BookJudged b 0) e h in
+  refused-as BookLength short = rw short
+  refused-as (FaultyRecord i) o =
       let long : length_fits b ≡ true = o.fits in
       let bad : sound b ≡ false = o.unsound in
       rw (long, bad)
+  refused-as other z = absurd z
 
   -- the text written is the listing
   pub answered : (t s l : List ℕ) (r : ℕ) → listing b ≡ t → TextFirst t s l r → TextFirst (listing b) s l r

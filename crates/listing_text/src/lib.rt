@@ -10,7 +10,6 @@ ghost use Rattle.listing_text.specs.InnerWritten.{longest_field, longest_user_li
 ghost use Rattle.listing_text.specs.InnerWritten.{ListingAnswered, FieldPut, TextFirst};
 
 use account_steps::Account;
-use check_book::Verdict;
 use units::MOST_RECORDS;
 
 // The longest listing: of each user three numbers of at most twenty digits, each with a byte after it.
@@ -95,9 +94,8 @@ fn text_of(book: &[u8], out: &mut [u8]) -> usize
     ensures { TextFirst (listing book.now) out.old out.new result }
 {
     match check_book::check(book) {
-        Verdict::Length => refusal_of(out, 1),
-        Verdict::Sound(_) => lines_of(book, out),
-        Verdict::Faulty(_) => refusal_of(out, 2),
+        Ok(_) => lines_of(book, out),
+        Err(refusal) => refusal_of(out, u64::from(refusal.number())),
     }
 }
 

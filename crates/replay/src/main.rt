@@ -42,8 +42,11 @@ fn say_record(out: &mut Printer, reply: Reply) -> Result<(), Failure> {
     say(out, reply.refusal, reply.record.0)
 }
 
-fn say_fresh(out: &mut Printer, refusal: u32) -> Result<(), Failure> {
-    out.line(refusal)
+fn say_fresh(out: &mut Printer, answer: Result<(), Refusal>) -> Result<(), Failure> {
+    match answer {
+        Ok(()) => out.line(0),
+        Err(refusal) => out.line(refusal.number()),
+    }
 }
 
 fn say_elected(out: &mut Printer, reply: Reply) -> Result<(), Failure> {

@@ -278,7 +278,7 @@ pub fn ssp_fresh(book: &mut [u8]) -> u32
     ensures answer { result ≡ fresh_answer book.old }
     ensures after { book.new ≡ fresh_after book.old }
 {
-    check_book::fresh(book)
+    refusal_in(check_book::fresh(book))
 }
 
 pub fn ssp_enrol(

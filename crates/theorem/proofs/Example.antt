@@ -9,6 +9,7 @@ use borrow.Author.Tests.{ltb-true}
 use lib.Dec.{ltb}
 use lib.ListN.{replicate}
 use Rattle.std.specs.Int.{int_wrap}
+use Rattle.std.specs.Prelude.{Ok}
 use Rattle.units.proofs.Bools.{and_left, and_right}
 use Rattle.units.specs.Folds.{sum_below, all_below, any_below}
 use Rattle.codec.specs.Bytes.{little_endian, bytes_of, part, number, stored, zeros}
@@ -157,4 +158,4 @@ run = subst (λ ms. Runs Calls (fresh_book 480) ms after) answered (possible (fr
 pub user-7-right : Claim (made (enrol 7 details 0) 0 ∷ others) after 7
 unfolding fresh_answer fresh_after length_fits
 user-7-right =
-    (third-demand ([], tt) (lent buffer, tt) 0 (lent (fresh_book 480), tt) (refl, refl) refl (made (enrol 7 details 0) 0 ∷ others) after run).1 7 (here details 0 others)
+    (third-demand ([], tt) (lent buffer, tt) (Ok tt) (lent (fresh_book 480), tt) (refl, refl) refl (made (enrol 7 details 0) 0 ∷ others) after run).1 7 (here details 0 others)

@@ -5,6 +5,7 @@
 -- be made, so that nothing is claimed of no list.
 use Rattle.std.specs.Prelude.{ℕ, ◌≡◌, List}
 use Rattle.std.proofs.Math.Option.{none, some}
+use Rattle.refusals.specs.Refusals.{refusal_in}
 use Rattle.ledger.specs.Ledger.{Ledger}
 use Rattle.ledger.specs.Accounting.{Accounts}
 use Rattle.statements.specs.InnerWalk.{statement_in}
@@ -28,10 +29,10 @@ pub record Claim (ms : List Made) (b : List ℕ) (number : ℕ) : Type 1 where
 
 abbrev pub ThirdDemand : Type 1
 ThirdDemand =
-    (κs : _) (a : _) (r : _) (s : _) → fresh-of.Post κs a r s → r ≡ 0 → (ms : List Made) (b : List ℕ) → Runs Calls s.0.now ms b
+    (κs : _) (a : _) (r : _) (s : _) → fresh-of.Post κs a r s → refusal_in r ≡ 0 → (ms : List Made) (b : List ℕ) → Runs Calls s.0.now ms b
     → NoneDamaged ms × ((number : ℕ) → Enrols number ms → Claim ms b number)
 
 -- "Every list of calls can be made": from any accepted fresh, with arguments as their types hold them
 abbrev pub EveryList : Type 1
 EveryList =
-    (κs : _) (a : _) (r : _) (s : _) → fresh-of.Post κs a r s → r ≡ 0 → (cs : List Call) → AllTyped cs → Performed Calls s.0.now cs
+    (κs : _) (a : _) (r : _) (s : _) → fresh-of.Post κs a r s → refusal_in r ≡ 0 → (cs : List Call) → AllTyped cs → Performed Calls s.0.now cs

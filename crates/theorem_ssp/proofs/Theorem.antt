@@ -1,7 +1,8 @@
 -- THE THIRD DEMAND, over the exported functions: by the same demand over the functions beneath.
 use Prim.Native.Nat.{ℕ}
-use mathlib.Core.Path.{◌≡◌, refl, ap, sym, subst}
+use mathlib.Core.Path.{◌≡◌, refl, ap, sym, subst, ◌∙◌}
 use mathlib.Core.List.{List}
+use Rattle.std.specs.Prelude.{Ok}
 use Rattle.units.specs.Units.{user_number}
 use Rattle.units.specs.declared.UserNumber.{UserNumber}
 use Rattle.ledger.specs.Accounting.{Accounts}
@@ -46,10 +47,10 @@ module _ (ms : List Made) (b : List ℕ) (number : ℕ) (c : beneath.Claim ms b 
 
 pub third-demand : ThirdDemand
 third-demand κs a r s said accepted ms b run =
-    let under = functions.third-demand κs a r s said accepted ms b (lift run) in
+    let under = functions.third-demand κs a (Ok tt) s (sym accepted ∙ said.0, said.1) refl ms b (lift run) in
     (under.0, λ number e. claimed ms b number (under.1 number e))
 
 pub every-list : EveryList
 every-list κs a r s said accepted cs typed =
-    let under = functions.every-list κs a r s said accepted cs typed in
+    let under = functions.every-list κs a (Ok tt) s (sym accepted ∙ said.0, said.1) refl cs typed in
     record { made_as = under.made_as; after = under.after; run = flat under.run; calls = under.calls }

@@ -2,10 +2,10 @@
 // `listings`. A line that does not ask it is answered `error`.
 #![tactic(auto)]
 
-use check_book::Verdict;
 use input::{Line, Lines};
 use listing_text::Listed;
 use output::{Failure, Printer};
+use refusals::Refusal;
 use sheet_values::{Details, YearValues};
 use std::alloc::Global;
 use tariff::UNITS_PER_EURO_MWH;
@@ -138,9 +138,9 @@ fn answer_verdict(out: &mut Printer, alloc: Global, line: &[u8]) -> Result<(), F
         return say_error(out);
     };
     match check_book::check(&book.bytes(alloc)?) {
-        Verdict::Length => say_refused(out, 1),
-        Verdict::Sound(_) => out.line("sound"),
-        Verdict::Faulty(index) => out.line(format_args!("faulty {}", index.0)),
+        Ok(_) => out.line("sound"),
+        Err(Refusal::FaultyRecord(index)) => out.line(format_args!("faulty {}", index.0)),
+        Err(refusal) => say_refused(out, refusal.number()),
     }
 }
 

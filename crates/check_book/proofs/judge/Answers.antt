@@ -1,11 +1,8 @@
 -- The records, then the user.
 use Rattle.std.proofs.Common.{◌≡◌, ℕ, ◌≤◌, ◌<◌, true, not, Option, unwrap_or, List, ap, ◌∙◌, arith}
-use Rattle.units.specs.declared.RecordIndex.{RecordIndex}
-use Rattle.units.specs.Units.{record_index}
 use Rattle.book_rules.specs.Book.{length_fits, used, used_fits, good_head}
 use Rattle.book_rules.proofs.Faults.{faulty-record, faulty-not-sound, good-sound, smallest-record}
 use Rattle.check_book.specs.Verdicts.{RecordsJudged, Accepted, Objected}
-use Rattle.check_lookup.proofs.Search.{found_or_none}
 use Rattle.check_book.proofs.judge.Goals as goal
 
 module _ (b : List ℕ) (fits : length_fits b ≡ true) (u : used_fits b ≡ true) (head : good_head b ≡ true) (bad : ℕ) (judged : RecordsJudged b bad) where
@@ -29,7 +26,4 @@ returns-in-Some c =
 pub returns-in-None : goal.returns-in-None
 returns-in-None c =
     let b = c.args.book.now in
-    let said = c.in-None.ensures in (
-      accepted b c.requires.book_length c.requires.records_used c.requires.head (used b) said (omega arith),
-      c.unwrap_or.ensures ∙ ap (λ (o : Option RecordIndex). unwrap_or o (record_index 0)) c.find_user.ensures ∙ found_or_none b c.args.number.0,
-    )
+    (accepted b c.requires.book_length c.requires.records_used c.requires.head (used b) c.in-None.ensures (omega arith), c.find_user.ensures)

@@ -1,12 +1,9 @@
 -- By the length, the head, then as passed or as judged.
-use Rattle.std.proofs.Common.{◌≡◌, ℕ, Bool, true, not, Option, unwrap_or, List, sym, ap, ◌∙◌}
+use Rattle.std.proofs.Common.{◌≡◌, ℕ, Bool, true, not, List, sym, ap, ◌∙◌}
 use Rattle.book_rules.specs.Book.{length_fits, faulty}
 use Rattle.book_rules.proofs.Faults.{faulty-unfit, faulty-head, faulty-not-sound, smallest-head}
 use Rattle.check_book.specs.Verdicts.{Objected}
-use Rattle.units.specs.declared.RecordIndex.{RecordIndex}
-use Rattle.units.specs.Units.{record_index}
-use Rattle.check_lookup.proofs.Search.{found_or_none}
-use Rattle.check_book.proofs.find.Goals as goal
+use Rattle.check_book.proofs.pass.Goals as goal
 
 -- a test that is passed
 holds : {t u : Bool} → t ≡ u → t ≡ true → u ≡ true
@@ -29,7 +26,5 @@ returns-then-not-good_head c =
 
 pub returns-in-Ok : goal.returns-in-Ok
 returns-in-Ok c =
-    let said = c.in-Ok.ensures in (
-      record { fits = holds c.length_fits.ensures c.if-not-length_fits.false; is_sound = said.is_sound },
-      c.unwrap_or.ensures ∙ ap (λ (o : Option RecordIndex). unwrap_or o (record_index 0)) said.found ∙ found_or_none c.args.book.now c.args.number.0,
-    )
+    let said = c.in-Ok.ensures in
+    (record { fits = holds c.length_fits.ensures c.if-not-length_fits.false; is_sound = said.is_sound }, said.found)
