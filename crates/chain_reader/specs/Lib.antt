@@ -1,1 +1,2 @@
-pub mod InnerLink
+pub mod Entries
+pub mod Steps

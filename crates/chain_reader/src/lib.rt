@@ -1,60 +1,120 @@
 // The chain reader: a struct that holds the book's slice and the current index (document 01, "Book": chains run by a next
-// index, and zero ends the chain). The functions over it are few and thin: the work is done on the plain slice and the index.
+// index, and zero ends the chain). It is an iterator, over the entries of a user or over the users of a book.
 #![tactic(auto)]
 
-ghost use Rattle.std.specs.Prelude.{◌≡◌};
-ghost use Rattle.chain_reader.specs.InnerLink.{link_in, link_at};
+ghost use Rattle.std.specs.Prelude.{◌≡◌, ◌≢◌, true};
+ghost use Rattle.units.specs.Units.{record_index};
+ghost use Rattle.book_rules.specs.Book.{is_user, is_entry, first_user, first_entry_of};
 
+use book_layout::kind;
+use book_records::{AdvanceRecord, ClosingRecord};
+use book_view::{SoundBook, User};
 use units::RecordIndex;
 
-// A place on a chain of a book.
-#[derive(Drop)]
-struct Chain<'a> {
-    book: &'a [u8],
-    at: RecordIndex,
-}
-
-// A link of a chain: the index that follows, and the kind of the record.
+/// An entry of an account, by its kind.
 #[derive(Clone, Copy, Debug, PartialEq, Eq)]
-pub struct Link {
-    pub next: RecordIndex,
-    pub kind: u8,
+pub enum Entry {
+    Advance(AdvanceRecord),
+    Closing(ClosingRecord),
 }
 
-fn link_in(r: &[u8]) -> Link
-    ensures { result ≡ link_in r.now }
-{
-    let next = book_layout::next_of(r);
-    let kind = book_layout::kind_of(r);
-    Link { next, kind }
-}
+impl Entry {
+    ghost use Rattle.chain_reader.specs.Entries.{entry_in};
 
-// A record that the book has whole is read as a part of known length.
-fn link_at(book: &[u8], at: RecordIndex) -> Link
-    ensures { result ≡ link_at book.now at.0 }
-{
-    if book_layout::has_whole(book, at) {
-        link_in(book_layout::whole_record(book, at.0 as usize))
-    } else {
-        link_in(book_layout::record(book, at))
+    // The entry in the bytes of its record: what is no closing is an advance.
+    #[tactic(auto, unfolding(crate::specs::Entries::entry_in))]
+    fn read(r: &[u8]) -> Entry
+        ensures { result ≡ entry_in r.now }
+    {
+        if book_layout::kind_of(r) == kind::CLOSING {
+            Entry::Closing(book_records::closing_of(r))
+        } else {
+            Entry::Advance(book_records::advance_of(r))
+        }
     }
 }
 
-fn chain_at<'a>(book: &'a [u8], at: RecordIndex) -> Chain<'a>
-    ensures { (result.book ≡ book.entry) × (result.at ≡ at) }
-{
-    Chain { book, at }
+/// The entries of a user of a sound book, newest first.
+#[derive(Drop)]
+pub struct Entries<'a> {
+    book: SoundBook<'a>,
+    at: RecordIndex,
+    ghost ahead: { at.0 ≢ 0 → is_entry book.bytes.now at.0 ≡ true },
 }
 
-fn following<'a>(chain: Chain<'a>) -> Link
-    ensures { result ≡ link_at chain.entry.book.now chain.entry.at.0 }
-{
-    link_at(chain.book, chain.at)
+impl<'a> Entries<'a> {
+    /// The entries of a user, newest first.
+    #[tactic(auto, using(crate::proofs::Ahead::first_is_entry), unfolding(book_rules::specs::Book::first_entry_of))]
+    pub fn of(user: User<'a>) -> Entries<'a>
+        ensures { (result.book ≡ user.entry.book) × (result.at ≡ record_index (first_entry_of user.entry.book.bytes.now user.entry.index.0)) }
+    {
+        let book = user.book;
+        let at = book_layout::first_entry_of(book_layout::record(book.bytes, user.index));
+        Entries { book, at }
+    }
 }
 
-// A step along a chain, for callers that hold a plain slice.
-pub fn follow(book: &[u8], at: RecordIndex) -> Link
-    ensures { result ≡ link_at book.now at.0 }
-{
-    following(chain_at(book, at))
+impl<'a> Iterator for Entries<'a> {
+    ghost use Rattle.std.specs.Iterator.{at_most};
+    ghost use Rattle.chain_reader.specs.Steps.{ReadsEntry};
+
+    type Item = Entry;
+
+    ghost next_gives = { ReadsEntry };
+
+    ghost remaining = { λ s. at_most s.at.0 };
+
+    #[tactic(auto, using(crate::proofs::Ahead::entry_stands, crate::proofs::Ahead::entry_falls, crate::proofs::Ahead::entry_leads), unfolding(book_rules::specs::Book::next_of))]
+    fn next(&mut self) -> Option<Entry> {
+        let at = self.at;
+        if at.0 == 0 {
+            return None;
+        }
+        let r = book_layout::whole_record(self.book.bytes, at.0 as usize);
+        self.at = book_layout::next_of(r);
+        Some(Entry::read(r))
+    }
+}
+
+/// The users of a sound book, newest first.
+#[derive(Drop)]
+pub struct Users<'a> {
+    book: SoundBook<'a>,
+    at: RecordIndex,
+    ghost ahead: { at.0 ≢ 0 → is_user book.bytes.now at.0 ≡ true },
+}
+
+impl<'a> Users<'a> {
+    /// The users of a sound book, newest first.
+    #[tactic(auto, using(crate::proofs::Ahead::first_is_user), unfolding(book_rules::specs::Book::first_user))]
+    pub fn of(book: SoundBook<'a>) -> Users<'a>
+        ensures { (result.book ≡ book.entry) × (result.at ≡ record_index (first_user book.entry.bytes.now)) }
+    {
+        let at = book_view::first_user(book.bytes);
+        Users { book, at }
+    }
+}
+
+impl<'a> Iterator for Users<'a> {
+    ghost use Rattle.std.specs.Iterator.{at_most};
+    ghost use Rattle.chain_reader.specs.Steps.{ReadsUser};
+
+    type Item = User<'a>;
+
+    ghost next_gives = { ReadsUser };
+
+    ghost remaining = { λ s. at_most s.at.0 };
+
+    #[tactic(auto, using(crate::proofs::Ahead::user_falls, crate::proofs::Ahead::user_leads), unfolding(book_rules::specs::Book::next_of))]
+    fn next(&mut self) -> Option<User<'a>> {
+        let index = self.at;
+        if index.0 == 0 {
+            return None;
+        }
+        self.at = book_view::next_of(self.book.bytes, index);
+        Some(User {
+            book: self.book,
+            index,
+        })
+    }
 }

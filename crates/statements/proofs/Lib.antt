@@ -1,4 +1,3 @@
-pub mod Steps
 pub mod Joins
 pub mod Toward
 pub mod Walk

@@ -1,14 +1,13 @@
 -- A statement as the program holds it, and the steps of the walk that sums it ("Election and advances").
-use Rattle.std.specs.Prelude.{◌≡◌, ℕ, ◌+◌, ◌^◌, ◌<◌, true, cond, List, pos, ◌+ℤ◌, nat_lt, FitsSigned}
+use Rattle.std.specs.Prelude.{◌+◌, ◌^◌, ◌<◌, cond, pos, ◌+ℤ◌, nat_lt, FitsSigned}
 use Rattle.std.specs.Int.{w64}
 use Rattle.units.specs.Units.{ticks}
 use Rattle.account_steps.specs.declared.Account.{Account}
 use Rattle.account_steps.specs.Account.{balance}
-use Rattle.book_layout.specs.Fields.{record_at}
 use Rattle.book_records.specs.declared.AdvanceRecord.{AdvanceRecord}
 use Rattle.account_steps.specs.declared.ClosingSums.{ClosingSums}
-use Rattle.book_records.specs.Records.{advance_in, closing_in}
-use Rattle.book_rules.specs.Book.{is_advance, is_closing}
+use Rattle.chain_reader.specs.declared.Entry.{Entry}
+use Rattle.chain_reader.specs.declared.Entry.TheVariants.{Advance, Closing}
 use Rattle.ledger.specs.Ledger.{Statement}
 use Rattle.statements.specs.declared.Sums.{Sums}
 
@@ -94,8 +93,9 @@ advance_added a s =
       closed_advances = ticks (s.closed_advances.0 + cond (nat_lt a.year s.open_year) a.ticks.0 0);
     }
 
-unfoldable pub entry_added : List ℕ → ℕ → Sums → Sums
-entry_added b e s = cond (is_closing b e) (closing_added (closing_in (record_at b e)).sums s) (advance_added (advance_in (record_at b e)) s)
+unfoldable pub entry_added : Entry → Sums → Sums
+entry_added (Closing c) s = closing_added c.sums s
+entry_added (Advance a) s = advance_added a s
 
 -- sums that hold one entry more
 pub record ClosingRoom (c : ClosingSums) (s : Sums) : Type 0 where
@@ -111,6 +111,6 @@ pub record AdvanceRoom (a : AdvanceRecord) (s : Sums) : Type 0 where
   pub advances : s.advances.0 + a.ticks.0 < 2 ^ 64
   pub closed_advances : s.closed_advances.0 + a.ticks.0 < 2 ^ 64
 
-pub record EntryRoom (b : List ℕ) (e : ℕ) (s : Sums) : Type 0 where
-  pub closing : is_closing b e ≡ true → ClosingRoom (closing_in (record_at b e)).sums s
-  pub advance : is_advance b e ≡ true → AdvanceRoom (advance_in (record_at b e)) s
+abbrev pub EntryRoom : Entry → Sums → Type 0
+EntryRoom (Closing c) s = ClosingRoom c.sums s
+EntryRoom (Advance a) s = AdvanceRoom a s

@@ -1,17 +1,15 @@
 // A user's statement: a walk over its chain that sums the entries (document 01, "Election and advances").
 #![tactic(auto)]
 
-ghost use Rattle.std.specs.Prelude.{◌≡◌, ◌+◌, ◌*◌, ◌≤◌, true, length};
-ghost use Rattle.units.specs.Limits.{record_length};
-ghost use Rattle.book_rules.specs.Book.{length_fits, sound, is_user, is_entry, kind_at};
+ghost use Rattle.std.specs.Prelude.{◌≡◌};
 ghost use Rattle.chains.specs.Statements.{statement_at};
-ghost use Rattle.statements.specs.InnerWalk.{sums_of, sums_before, entry_added};
-ghost use Rattle.statements.specs.InnerWalk.{EntryRoom};
+ghost use Rattle.statements.specs.InnerWalk.{sums_of, sums_before};
 
 use account_steps::{Account, Balance, ClosingSums};
-use book_layout::kind;
 use book_records::AdvanceRecord;
-use units::{RecordIndex, Ticks};
+use book_view::User;
+use chain_reader::{Entries, Entry};
+use units::Ticks;
 
 /// "Statement: open year, credit, and the sums over the chain of C, O, F, contribution, liquidation, lapsed, balance, all
 /// advances, advances of closed years."
@@ -31,7 +29,18 @@ pub struct Sums {
 }
 
 impl Sums {
-    ghost use Rattle.statements.specs.InnerWalk.{closing_added, advance_added, ClosingRoom, AdvanceRoom};
+    ghost use Rattle.statements.specs.InnerWalk.{closing_added, advance_added, entry_added, ClosingRoom, AdvanceRoom, EntryRoom};
+
+    #[tactic(auto, unfolding(crate::specs::InnerWalk::entry_added))]
+    fn with(self, entry: Entry) -> Sums
+        requires { EntryRoom entry self }
+        ensures { result ≡ entry_added entry self }
+    {
+        match entry {
+            Entry::Closing(closing) => self.with_closing(closing.sums),
+            Entry::Advance(advance) => self.with_advance(advance),
+        }
+    }
 
     #[tactic(auto, unfolding(crate::specs::InnerWalk::closing_added))]
     fn with_closing(mut self, closing: ClosingSums) -> Sums
@@ -61,23 +70,6 @@ impl Sums {
     }
 }
 
-// The sums with the entry at an index, whose kind its link shows.
-fn with_entry(book: &[u8], at: RecordIndex, kind: u8, sums: Sums) -> Sums
-    requires entry_record { is_entry book.now at.0 ≡ true }
-    requires record_kind { kind ≡ kind_at book.now at.0 }
-    requires entry_room { EntryRoom book.now at.0 sums }
-    requires entry_in_book { record_length * at.0 + record_length ≤ length book.now }
-    ensures { result ≡ entry_added book.now at.0 sums }
-{
-    let r = book_layout::whole_record(book, at.0 as usize);
-    if kind == kind::CLOSING {
-        let closing = book_records::read_closing(r);
-        sums.with_closing(closing.sums)
-    } else {
-        sums.with_advance(book_records::read_advance(r))
-    }
-}
-
 // The sums before the first entry.
 #[tactic(auto, unfolding(crate::specs::InnerWalk::sums_before))]
 fn sums_before(account: Account) -> Sums
@@ -98,20 +90,13 @@ fn sums_before(account: Account) -> Sums
     }
 }
 
-/// The statement of a user of a sound book.
-pub fn statement_of(book: &[u8], user: RecordIndex) -> Sums
-    requires book_length { length_fits book.now ≡ true }
-    requires sound_book { sound book.now ≡ true }
-    requires user_record { is_user book.now user.0 ≡ true }
-    ensures { result ≡ sums_of (statement_at book.now user.0) }
+/// The statement of a user.
+pub fn statement_of(user: User<'_>) -> Sums
+    ensures { result ≡ sums_of (statement_at user.entry.book.bytes.now user.entry.index.0) }
 {
-    let r = book_layout::record(book, user);
-    let mut sums = sums_before(book_records::read_account(r));
-    let mut at = book_layout::first_entry_of(r);
-    while at.0 != 0 {
-        let link = chain_reader::follow(book, at);
-        sums = with_entry(book, at, link.kind, sums);
-        at = link.next;
+    let mut sums = sums_before(book_view::account_at(user.book.bytes, user.index));
+    for entry in Entries::of(user) {
+        sums = sums.with(entry);
     }
     sums
 }

@@ -1,80 +1,60 @@
--- The walk of `Walk`: it begins with all entries ahead, each turn adds one, and the measure is the index.
-use Rattle.std.proofs.Common.{◌≡◌, ◌<◌, length, sym, ap, ◌∙◌, subst, subst₂}
-use Rattle.book_layout.proofs.Places.{length-record}
-use Rattle.book_layout.specs.Fields.{get, first_entry_field}
-use Rattle.book_records.specs.Records.{account_in}
-use Rattle.book_rules.specs.Book.{account_at, first_entry_of}
-use Rattle.chain_reader.specs.InnerLink.{link_at}
-use Rattle.statements.specs.InnerWalk.{sums_before}
-use Rattle.chains.proofs.Walks.{user-whole, entry_here, entry_whole, next-falls}
-use Rattle.statements.proofs.Walk.{Walking, starts, entry-room, turned, ends}
+-- The walk of `Walk`: it begins with all entries ahead, each turn adds one, and at the end none is ahead.
+use Rattle.std.proofs.Common.{rules, ◌≡◌, sym, ap, ◌∙◌, subst, subst₂, true}
+use Rattle.book_layout.specs.Fields.{record_at}
+use Rattle.book_rules.specs.Book.{account_at, is_entry}
+use Rattle.chain_reader.specs.Entries.{entry_in}
+use Rattle.chains.specs.Statements.{statement_at}
+use Rattle.chains.proofs.Walks.{user-whole}
+use Rattle.statements.specs.InnerWalk.{sums_of, sums_before, entry_added, EntryRoom}
+use Rattle.statements.proofs.Walk.{Walking, starts, entry_room, turned, ends}
 use Rattle.statements.proofs.statement_of.Goals as goal
-use Rattle.statements.proofs.statement_of.Goals.{After-first_entry_of-at}
 
-sums-begin : (c : goal.After-first_entry_of-at) → c.sums_before-sums.result ≡ sums_before (account_at (c.args.book.now)
-    (c.args.user.0))
-sums-begin c =
-    c.sums_before-sums.ensures
-    ∙ ap sums_before (c.read_account.ensures ∙ ap account_in c.record-r.ensures)
+pub account_at-requires : goal.account_at-requires
+account_at-requires c =
+    let u = c.args.user in
+    user-whole u.book.bytes.now u.index.0 u.book.length u.book.no_fault u.user_record
 
-index-begins : (c : goal.After-first_entry_of-at) → c.first_entry_of-at.result.0 ≡ first_entry_of (c.args.book.now)
-    (c.args.user.0)
-unfolding first_entry_of
-index-begins c =
-    ap (λ k. k.0) c.first_entry_of-at.ensures ∙ ap (get first_entry_field) c.record-r.ensures
+pub loop-entry-init : goal.loop-entry-init
+loop-entry-init c =
+    let u = c.args.user in
+    let of = c.of-entry-items.ensures in
+    let same = c.into_iter-entry-iterator.ensures.into_iter_gives in
+    let book = ap (λ s. s.book) same ∙ of.0 in
+    (
+      tt,
+      tt,
+      book,
+      subst (λ k. Walking k.bytes.now u.index.0 c.sums_before-sums.result c.into_iter-entry-iterator.result.at.0) (sym book)
+      (subst₂ (Walking u.book.bytes.now u.index.0) (sym (c.sums_before-sums.ensures ∙ ap sums_before c.account_at.ensures))
+      (sym (ap (λ s. s.at.0) same ∙ ap (λ k. k.0) of.1))
+      (starts u.book.bytes.now u.index.0 u.book.length u.book.no_fault u.user_record)),
+    )
 
-pub read_account-requires : goal.read_account-requires
-read_account-requires c =
-    let b = c.args.book.now in
-    let i = c.args.user.0 in
-    ap length c.record-r.ensures ∙ length-record b i (user-whole b i c.requires.book_length c.requires.sound_book
-    c.requires.user_record)
+pub with-sums-requires : goal.with-sums-requires
+with-sums-requires c =
+    let l = c.loop-entry in
+    let step = c.in-Some.ensures.steps in
+    subst (λ e. EntryRoom e l.sums) (sym step.1.1)
+    (entry_room l.entry-iterator.book.bytes.now c.args.user.index.0 l.sums l.entry-iterator.at.0 l.invariant.3 step.1.0)
 
-pub loop-at-init : goal.loop-at-init
-loop-at-init c =
-    let given = c.requires in
-    subst₂ (λ s k. Walking (c.args.book.now) s k s k) (sym (sums-begin (goal.at.loop-at-init c).After-first_entry_of-at)) (sym
-    (index-begins (goal.at.loop-at-init c).After-first_entry_of-at))
-    (starts (c.args.book.now) (c.args.user.0) given.book_length given.sound_book given.user_record)
-
-pub with_entry-sums-requires : goal.with_entry-sums-requires
-unfolding link_at
-with_entry-sums-requires c =
-    let l = c.loop-at in
-    let b = c.args.book.now in
-    let s = c.sums_before-sums.result in
-    let f = c.first_entry_of-at.result.0 in record {
-      entry_record = entry_here b l.at.0 l.invariant.ahead c.loop-at-test.true;
-      record_kind = ap (λ k. k.kind) c.follow-link.ensures;
-      entry_room = entry-room b s f l.sums l.at.0 l.invariant
-          c.loop-at-test.true;
-      entry_in_book = entry_whole b l.at.0 l.invariant.ahead c.loop-at-test.true;
-    }
-
-pub loop-at-smaller : goal.loop-at-smaller
-unfolding link_at
-loop-at-smaller c =
-    let l = c.loop-at in
-    let b = c.args.book.now in
-    let s = c.sums_before-sums.result in
-    let f = c.first_entry_of-at.result.0 in
-    subst (λ k. k < l.at.0) (sym (ap (λ k. k.next.0) c.follow-link.ensures))
-    (next-falls b l.at.0 l.invariant.ahead c.loop-at-test.true)
-
-pub loop-at-preserved : goal.loop-at-preserved
-unfolding link_at
-loop-at-preserved c =
-    let l = c.loop-at in
-    let b = c.args.book.now in
-    let s = c.sums_before-sums.result in
-    let f = c.first_entry_of-at.result.0 in
-    subst₂ (Walking b s f) (sym c.with_entry-sums.ensures) (sym (ap (λ k. k.next.0) c.follow-link.ensures))
-    (turned b s f l.sums l.at.0 l.invariant c.loop-at-test.true)
+pub loop-entry-preserved : goal.loop-entry-preserved
+loop-entry-preserved c =
+    let l = c.loop-entry in
+    let i = c.args.user.index.0 in
+    let step = c.in-Some.ensures.steps in
+    (
+      tt,
+      tt,
+      step.0 ∙ l.invariant.2,
+      subst (λ k. Walking k.bytes.now i c.with-sums.result c.next.new.self.at.0) (sym step.0)
+      (subst₂ (Walking l.entry-iterator.book.bytes.now i) (sym (c.with-sums.ensures ∙ ap (λ e. entry_added e l.sums) step.1.1)) (sym (ap (λ k. k.0) step.1.2))
+      (turned l.entry-iterator.book.bytes.now i l.sums l.entry-iterator.at.0 l.invariant.3 step.1.0)),
+    )
 
 pub returns : goal.returns
 returns c =
-    let l = c.loop-at in
-    let b = c.args.book.now in
-    let walked = subst₂ (λ s k. Walking b s k l.sums l.at.0) (sums-begin (goal.at.returns c).After-first_entry_of-at)
-    (index-begins (goal.at.returns c).After-first_entry_of-at) l.invariant in
-    ends b (c.args.user.0) l.sums (rw c.loop-at-test.false at walked)
+    let l = c.loop-entry in
+    let b = l.entry-iterator.book.bytes.now in
+    let i = c.args.user.index.0 in
+    ends b i l.sums (subst (Walking b i l.sums) c.in-None.ensures.steps.1.0 l.invariant.3)
+    ∙ ap (λ k. sums_of (statement_at k.bytes.now i)) l.invariant.2

@@ -1,9 +1,11 @@
--- The walk of `Walk`: it begins with all entries ahead, each turn adds one, and the measure is the index.
+-- The walk of `Walk`: it begins with all entries ahead, and each turn adds one.
+use Rattle.std.proofs.Common.{◌≡◌}
 use Rattle.statements.proofs.Walk.{Walking}
 use Rattle.statements.proofs.statement_of.Given as goal
 
-abbrev pub invariant-loop-at : goal.invariant-loop-at
-invariant-loop-at l = Walking l.book l.initial.sums l.initial.at.0 l.sums l.at.0
-
-abbrev pub decreases-loop-at : goal.decreases-loop-at
-decreases-loop-at l = l.at.0
+abbrev pub invariant-loop-entry : goal.invariant-loop-entry
+invariant-loop-entry l =
+    (goal.iterator-loop-entry).can_next l.entry-iterator
+    × (goal.iterator-loop-entry).is_finite l.entry-iterator
+    × (l.entry-iterator.book ≡ l.user.book)
+    × Walking l.entry-iterator.book.bytes.now l.user.index.0 l.sums l.entry-iterator.at.0
