@@ -3,20 +3,19 @@
 // conserved sum, in euro.
 #![tactic(auto)]
 
-ghost use Rattle.std.specs.Prelude.{◌≡◌, true, false, Some};
+ghost use Rattle.std.specs.Prelude.{◌≡◌, false, Some};
 ghost use Rattle.std.specs.Prelude.{unsigned_abs};
 ghost use Rattle.std.specs.Int.{is_negative};
 ghost use Rattle.account.specs.Amounts.{amount};
-ghost use Rattle.book_rules.specs.Book.{is_user};
-ghost use Rattle.check_book.specs.Verdicts.{Accepted};
 ghost use Rattle.account_conserved.specs.Conservation.{Small};
 
 use account_steps::Balance;
 use account_years::{Charges, OfEach, Payments, Year};
+use book_view::User;
 use output::{Failure, Printer};
 use statements::Sums;
 use std::fmt;
-use units::{RecordIndex, Ticks, UserNumber};
+use units::{Ticks, UserNumber};
 
 const USAGE: &str = "give one user number, 1 to 4294967295, and the book on standard input";
 
@@ -86,15 +85,6 @@ impl fmt::Display for Charge {
     }
 }
 
-// A user of an accepted book.
-#[derive(Clone, Copy)]
-struct User<'a> {
-    book: &'a [u8],
-    index: RecordIndex,
-    ghost accepted: { Accepted book.now },
-    ghost user_record: { is_user book.now index.0 ≡ true },
-}
-
 fn say_headings(out: &mut Printer) -> Result<(), Failure> {
     out.line(format_args!(
         "year option     {:>19}{:>19}{:>19}{:>19}{:>19}{:>19}{:>19}{:>19}{:>19}",
@@ -133,10 +123,13 @@ fn say_year(out: &mut Printer, year: Year) -> Result<(), Failure> {
 
 // The closed years of a user, oldest first.
 fn say_years(out: &mut Printer, user: User<'_>) -> Result<(), Failure> {
-    let activation = book_view::activation_of(user.book, user.index);
-    let open = book_view::open_year_of(user.book, user.index);
+    let activation = book_view::activation_of(user.book.bytes, user.index);
+    let open = book_view::open_year_of(user.book.bytes, user.index);
     for n in 0..open - activation {
-        say_year(out, account_years::closed_year(user.book, user.index, n))?;
+        say_year(
+            out,
+            account_years::closed_year(user.book.bytes, user.index, n),
+        )?;
     }
     Ok(())
 }
@@ -186,10 +179,10 @@ fn say_payments<N: fmt::Display + Drop>(
 
 // The closed years of a user, oldest first.
 fn say_closed_payments(out: &mut Printer, user: User<'_>, each: OfEach) -> Result<(), Failure> {
-    let activation = book_view::activation_of(user.book, user.index);
-    let open = book_view::open_year_of(user.book, user.index);
+    let activation = book_view::activation_of(user.book.bytes, user.index);
+    let open = book_view::open_year_of(user.book.bytes, user.index);
     for year in activation..open {
-        let payments = account_years::payments_of(user.book, user.index, year, year);
+        let payments = account_years::payments_of(user.book.bytes, user.index, year, year);
         say_payments(out, year, each, payments)?;
     }
     Ok(())
@@ -197,11 +190,11 @@ fn say_closed_payments(out: &mut Printer, user: User<'_>, each: OfEach) -> Resul
 
 // The two open years, of which the earlier one takes charges.
 fn say_open_payments(out: &mut Printer, user: User<'_>, charge: Ticks) -> Result<(), Failure> {
-    let open = book_view::open_year_of(user.book, user.index);
-    let payments = account_years::payments_of(user.book, user.index, open, open);
+    let open = book_view::open_year_of(user.book.bytes, user.index);
+    let payments = account_years::payments_of(user.book.bytes, user.index, open, open);
     say_payments(out, open, OfEach::Charged(charge), payments)?;
     let later = open + 1;
-    let payments = account_years::payments_of(user.book, user.index, later, later);
+    let payments = account_years::payments_of(user.book.bytes, user.index, later, later);
     say_payments(out, later, OfEach::Charged(Ticks(0)), payments)
 }
 
@@ -218,11 +211,11 @@ fn say_charges_made(out: &mut Printer, charges: Charges) -> Result<(), Failure> 
 
 fn say_charges(out: &mut Printer, user: User<'_>) -> Result<(), Failure> {
     say_payment_headings(out)?;
-    let charges = account_years::charges_of(user.book, user.index);
+    let charges = account_years::charges_of(user.book.bytes, user.index);
     say_closed_payments(out, user, charges.each)?;
     say_open_payments(out, user, charges.open)?;
     let payments = account_years::payments_of(
-        user.book,
+        user.book.bytes,
         user.index,
         0,
         account_years::LAST_NAMED_YEAR,
@@ -248,7 +241,7 @@ fn say_rest(out: &mut Printer, sums: Sums) -> Result<(), Failure>
 fn say_account(out: &mut Printer, user: User<'_>) -> Result<(), Failure> {
     say_headings(out)?;
     say_years(out, user)?;
-    let sums = statements::statement_of(user.book, user.index);
+    let sums = statements::statement_of(user);
     say_totals(out, sums)?;
     say_charges(out, user)?;
     out.line("")?;
@@ -258,10 +251,7 @@ fn say_account(out: &mut Printer, user: User<'_>) -> Result<(), Failure> {
 
 fn answer(out: &mut Printer, book: &[u8], number: UserNumber) -> Result<(), Failure> {
     match check_book::find(book, number) {
-        Ok((_, Some(user))) => {
-            let index = user.index;
-            say_account(out, User { book, index })
-        }
+        Ok((_, Some(user))) => say_account(out, user),
         Ok((_, None)) => out.line("refused 6"),
         Err(refusal) => out.line(format_args!("refused {}", refusal.number())),
     }

@@ -7,6 +7,7 @@ ghost use Rattle.call_answers.specs.Answers.{Answered};
 ghost use Rattle.call_statement.specs.Stated.{no_statement, sums_stated};
 
 use account_steps::Balance;
+use book_view::{SoundBook, User};
 use call_answers::Reply;
 use statements::Sums;
 use units::{RecordIndex, Ticks, UserNumber};
@@ -61,6 +62,9 @@ pub fn statement(book: &[u8], number: UserNumber) -> Stated
     };
     Stated {
         reply,
-        sums: statements::statement_of(book, user),
+        sums: statements::statement_of(User {
+            book: SoundBook { bytes: book },
+            index: user,
+        }),
     }
 }

@@ -48,9 +48,10 @@ impl<'a> Entries<'a> {
     pub fn of(user: User<'a>) -> Entries<'a>
         ensures { (result.book ≡ user.entry.book) × (result.at ≡ record_index (first_entry_of user.entry.book.bytes.now user.entry.index.0)) }
     {
-        let book = user.book;
-        let at = book_layout::first_entry_of(book_layout::record(book.bytes, user.index));
-        Entries { book, at }
+        Entries {
+            book: user.book,
+            at: user.first_entry(),
+        }
     }
 }
 
@@ -90,8 +91,10 @@ impl<'a> Users<'a> {
     pub fn of(book: SoundBook<'a>) -> Users<'a>
         ensures { (result.book ≡ book.entry) × (result.at ≡ record_index (first_user book.entry.bytes.now)) }
     {
-        let at = book_view::first_user(book.bytes);
-        Users { book, at }
+        Users {
+            book,
+            at: book_view::first_user(book.bytes),
+        }
     }
 }
 

@@ -64,10 +64,10 @@ fn lines_of(book: &[u8], out: &mut [u8]) -> usize
     let mut end = 0;
     let mut user = book_view::first_user(book);
     while user.0 != 0 {
-        let link = chain_reader::follow(book, user);
+        let next = book_view::next_of(book, user);
         let account = book_view::account_at(book, user);
         end = line_at(out, end, account);
-        user = link.next;
+        user = next;
     }
     end
 }

@@ -94,7 +94,7 @@ fn sums_before(account: Account) -> Sums
 pub fn statement_of(user: User<'_>) -> Sums
     ensures { result ≡ sums_of (statement_at user.entry.book.bytes.now user.entry.index.0) }
 {
-    let mut sums = sums_before(book_view::account_at(user.book.bytes, user.index));
+    let mut sums = sums_before(user.account());
     for entry in Entries::of(user) {
         sums = sums.with(entry);
     }

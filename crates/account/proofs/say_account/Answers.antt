@@ -5,4 +5,4 @@ use Rattle.account.proofs.say_account.Goals as goal
 pub say_rest-requires : goal.say_rest-requires
 say_rest-requires c =
     let sums = c.statement_of-sums in
-    sums-fit c.args.user.book.now c.args.user.accepted c.args.user.index.0 c.args.user.user_record sums.result sums.ensures
+    sums-fit c.args.user.book.bytes.now c.args.user.book.length c.args.user.book.no_fault c.args.user.index.0 c.args.user.user_record sums.result sums.ensures

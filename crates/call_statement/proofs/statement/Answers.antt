@@ -24,16 +24,19 @@ returns-then-user-eq0 c =
     c.no_statement-then-user-eq0.result
     c.no_statement-then-user-eq0.ensures in record { reply = all.0; sums = all.1 }
 
-pub statement_of-requires : goal.statement_of-requires
-statement_of-requires c =
+pub invariant_of-statement_of : goal.invariant_of-statement_of
+invariant_of-statement_of c =
     let a = c.args in
     let looked = c.look-looked.ensures in
     let none = c.if-reply-ne0.false in
-    record {
-      book_length = (looked.is-sound none).fits;
-      sound_book = (looked.is-sound none).is_sound;
-      user_record = known-user a.book.now a.number.0 (looked.is-sound none) _ (looked.found none) c.if-user-eq0.false;
-    }
+    record { length = (looked.is-sound none).fits; no_fault = (looked.is-sound none).is_sound }
+
+pub invariant_of-statement_of-2 : goal.invariant_of-statement_of-2
+invariant_of-statement_of-2 c =
+    let a = c.args in
+    let looked = c.look-looked.ensures in
+    let none = c.if-reply-ne0.false in
+    record { user_record = known-user a.book.now a.number.0 (looked.is-sound none) _ (looked.found none) c.if-user-eq0.false }
 
 pub returns : goal.returns
 returns c =

@@ -1,7 +1,6 @@
 -- The walk of `Walk`: it begins with all lines ahead, each turn writes one, and the measure is the index.
 use Prim.Native.Nat.{◌<◌}
 use mathlib.Core.Path.{sym, ap, subst}
-use Rattle.chain_reader.specs.InnerLink.{link_at}
 use Rattle.listing_text.proofs.Walk.{Walking, begins, user-stands, next-falls, goes_on, ends}
 use Rattle.listing_text.proofs.lines_of.Goals as goal
 
@@ -18,24 +17,22 @@ account_at-account-requires c =
     user-stands a.book.now a.out.now l.out l.end l.user.0 l.invariant c.loop-user-test.true
 
 pub loop-user-smaller : goal.loop-user-smaller
-unfolding link_at
 loop-user-smaller c =
     let l = c.loop-user in
     let a = c.args in
-    subst (λ k. k < l.user.0) (sym (ap (λ k. k.next.0) c.follow-link.ensures))
+    subst (λ k. k < l.user.0) (sym (ap (λ k. k.0) c.next_of-next.ensures))
     (next-falls a.book.now a.out.now l.out l.end l.user.0 l.invariant c.loop-user-test.true)
 
 pub loop-user-preserved : goal.loop-user-preserved
-unfolding link_at
 loop-user-preserved c =
     let l = c.loop-user in
     let a = c.args in
-    let n = c.follow-link in
+    let n = c.next_of-next in
     let d = c.account_at-account in
     let t = c.line_at-end in
     goes_on a.book.now a.out.now l.out l.end l.user.0 l.invariant c.loop-user-test.true
-    d.result t.new.out t.result n.result.next.0
-    d.ensures t.ensures.end t.ensures.stands (ap (λ k. k.next.0) n.ensures)
+    d.result t.new.out t.result n.result.0
+    d.ensures t.ensures.end t.ensures.stands (ap (λ k. k.0) n.ensures)
 
 pub returns : goal.returns
 returns c =
