@@ -2,20 +2,24 @@
 // the book reads as 0, so that every string of bytes is an ordinary input.
 #![tactic(auto)]
 
-ghost use Rattle.std.specs.Prelude.{◌≡◌, ◌+◌, ◌*◌, ◌≤◌, min, leb, length};
+ghost use Rattle.std.specs.Prelude.{◌≡◌, ◌+◌, ◌*◌, ◌<◌, ◌≤◌, min, leb, length};
 ghost use Rattle.units.specs.Limits.{record_length};
 ghost use Rattle.units.specs.Units.{user_number, record_index};
 ghost use Rattle.codec.specs.Bytes.{stored};
-ghost use Rattle.book_layout.specs.Fields.{record_at, put_record, get, used_field, first_user_field, next_field, kind_field};
+ghost use Rattle.book_layout.specs.Fields.{record_at, put_record, bytes, get, used_field, first_user_field, next_field, kind_field};
 ghost use Rattle.book_layout.specs.Fields.{number_field, first_entry_field, activation_year_field, open_year_field, year_field};
 ghost use Rattle.book_layout.specs.Fields.{booked_field};
 ghost use Rattle.book_layout.specs.Fields.{owner_field};
-ghost use Rattle.book_layout.specs.Fields.{all_zero, unnamed_of_head, unnamed_of_user, unnamed_of_advance, unnamed_of_closing};
+ghost use Rattle.book_layout.specs.Fields.{all_zero, unnamed_of_head};
 
+use codec::Number;
 use units::{RECORD_LENGTH, RecordIndex, UserNumber};
 
 pub mod kind;
 pub mod place;
+
+/// The bytes of a whole record.
+pub type Record = [u8; RECORD_LENGTH];
 
 fn start_of(index: RecordIndex) -> usize
     ensures { result ≡ record_length * index.0 }
@@ -49,17 +53,19 @@ pub fn whole_record<'a>(book: &'a [u8], index: usize) -> &'a [u8]
     &book[start..start + RECORD_LENGTH]
 }
 
-// A whole record as a part of known length, so that no read of it has to look for its end.
-pub fn whole<'a>(r: &'a [u8]) -> &'a [u8]
-    requires { length r.now ≡ record_length }
-    ensures { result.now ≡ r.now }
+/// A record that the book has whole. Its length is known, so that no read of it has to look for its end.
+#[tactic(auto, unfolding(crate::specs::Fields::record_at, codec::specs::Bytes::part))]
+pub fn whole<'a>(book: &'a [u8], index: RecordIndex) -> &'a Record
+    requires { record_length * index.0 + record_length ≤ length book.now }
+    ensures { result.now ≡ record_at book.now index.0 }
 {
-    &r[0..RECORD_LENGTH]
+    let start = start_of(index);
+    <&Record>::try_from(&book[start..start + RECORD_LENGTH]).unwrap()
 }
 
 // The image goes to its record's place.
 #[tactic(auto, unfolding(crate::specs::Fields::put_record, codec::specs::Bytes::stored))]
-pub fn store(book: &mut [u8], index: RecordIndex, image: [u8; RECORD_LENGTH])
+pub fn store(book: &mut [u8], index: RecordIndex, image: Record)
     requires { record_length * index.0 + record_length ≤ length book.old }
     ensures { book.new ≡ put_record index.0 image book.old }
 {
@@ -67,30 +73,20 @@ pub fn store(book: &mut [u8], index: RecordIndex, image: [u8; RECORD_LENGTH])
     book[start..start + RECORD_LENGTH].copy_from_slice(&image);
 }
 
-// The bytes that no field names, by kind.
-
+/// The head's bytes that no field names are zero.
 pub fn head_rest_zero(r: &[u8]) -> bool
     ensures { result ≡ all_zero unnamed_of_head r.now }
 {
     codec::zeros(r, 8, 72)
 }
 
-pub fn user_rest_zero(r: &[u8]) -> bool
-    ensures { result ≡ all_zero unnamed_of_user r.now }
+/// The number in a field of a record, as wide as its type.
+#[tactic(auto, unfolding(crate::specs::Fields::get))]
+pub fn field<T: Number>(r: &[u8], at: usize) -> T
+    requires { at < record_length }
+    ensures { T.value result ≡ get (bytes at T.WIDTH) r.now }
 {
-    codec::zeros(r, 29, 3) & codec::zeros(r, 72, 8)
-}
-
-pub fn advance_rest_zero(r: &[u8]) -> bool
-    ensures { result ≡ all_zero unnamed_of_advance r.now }
-{
-    codec::zeros(r, 16, 48) & codec::zeros(r, 78, 2)
-}
-
-pub fn closing_rest_zero(r: &[u8]) -> bool
-    ensures { result ≡ all_zero unnamed_of_closing r.now }
-{
-    codec::zeros(r, 76, 4)
+    codec::read(r, at)
 }
 
 #[tactic(auto, unfolding(crate::specs::Fields::get))]

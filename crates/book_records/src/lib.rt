@@ -1,13 +1,13 @@
 // The records of the book by value: read from a record's bytes, and written as a whole image (document 01, "Book").
 #![tactic(auto)]
 
-ghost use Rattle.std.specs.Prelude.{◌≡◌, length};
-ghost use Rattle.units.specs.Limits.{record_length};
+ghost use Rattle.std.specs.Prelude.{◌≡◌};
 ghost use Rattle.book_records.specs.Records.{head_image, user_image, advance_image, closing_image, account_in, advance_in, closing_in};
 
 use account_steps::{Account, Balance, Charge, ClosingSums};
-use book_layout::{kind, place};
-use codec::{put, read};
+use book_layout::kind::Kind;
+use book_layout::{Record, place};
+use codec::{get, put, read};
 use sheet_values::Details;
 use units::{RECORD_LENGTH, RecordIndex, Ticks};
 
@@ -43,51 +43,102 @@ pub struct ClosingRecord {
     pub withheld: Ticks,
 }
 
-// RECORDS OF ANY BYTES
+// READING
+
+// Each reads a whole record, so that no read looks for the record's end.
 
 #[tactic(auto, unfolding(crate::specs::Records::account_in, book_layout::specs::Fields::get))]
-fn read_details(r: &[u8]) -> Details
+fn read_details(r: &Record) -> Details
     ensures { result ≡ (account_in r.now).details }
 {
     Details {
-        class: read(r, place::CLASS),
-        plant: read(r, place::PLANT),
-        power: read(r, place::POWER),
-        year: read(r, place::ACTIVATION_YEAR),
-        month: read(r, place::ACTIVATION_MONTH),
-        island: read(r, place::ISLAND),
+        class: get(r, place::CLASS),
+        plant: get(r, place::PLANT),
+        power: get(r, place::POWER),
+        year: get(r, place::ACTIVATION_YEAR),
+        month: get(r, place::ACTIVATION_MONTH),
+        island: get(r, place::ISLAND),
     }
 }
 
 #[tactic(auto, unfolding(crate::specs::Records::account_in, book_layout::specs::Fields::get))]
-fn read_charge(r: &[u8]) -> Charge
+fn read_charge(r: &Record) -> Charge
     ensures { result ≡ (account_in r.now).charge }
 {
     Charge {
-        made: read(r, place::CHARGED),
-        rest: read(r, place::REST),
+        made: get(r, place::CHARGED),
+        rest: get(r, place::REST),
     }
 }
 
+/// The account that a user record holds.
 #[tactic(auto, unfolding(crate::specs::Records::account_in, book_layout::specs::Fields::get))]
-fn account_of(r: &[u8]) -> Account
+pub fn read_account(r: &Record) -> Account
     ensures { result ≡ account_in r.now }
 {
     Account {
-        number: read(r, place::NUMBER),
+        number: get(r, place::NUMBER),
         details: read_details(r),
-        option: read(r, place::OPTION),
-        open_year: read(r, place::OPEN_YEAR),
-        runs: read(r, place::RUNS),
-        later_runs: read(r, place::LATER_RUNS),
-        credit: read(r, place::CREDIT),
-        advances: read(r, place::ADVANCES),
-        later_advances: read(r, place::LATER_ADVANCES),
-        half1: read(r, place::HALF1),
-        half2: read(r, place::HALF2),
+        option: get(r, place::OPTION),
+        open_year: get(r, place::OPEN_YEAR),
+        runs: get(r, place::RUNS),
+        later_runs: get(r, place::LATER_RUNS),
+        credit: get(r, place::CREDIT),
+        advances: get(r, place::ADVANCES),
+        later_advances: get(r, place::LATER_ADVANCES),
+        half1: get(r, place::HALF1),
+        half2: get(r, place::HALF2),
         charge: read_charge(r),
     }
 }
+
+/// The advance that a record holds.
+#[tactic(auto, unfolding(crate::specs::Records::advance_in, book_layout::specs::Fields::get))]
+pub fn read_advance(r: &Record) -> AdvanceRecord
+    ensures { result ≡ advance_in r.now }
+{
+    AdvanceRecord {
+        next: get(r, place::NEXT),
+        run: get(r, place::RUN),
+        year: get(r, place::YEAR),
+        ticks: get(r, place::TICKS),
+        owner: get(r, place::OWNER),
+        booked: get(r, place::BOOKED),
+        withheld: get(r, place::WITHHELD),
+    }
+}
+
+#[tactic(auto, unfolding(crate::specs::Records::closing_in, book_layout::specs::Fields::get))]
+fn read_sums(r: &Record) -> ClosingSums
+    ensures { result ≡ (closing_in r.now).sums }
+{
+    ClosingSums {
+        value: get(r, place::VALUE),
+        cost: get(r, place::COST),
+        flat_rate: get(r, place::FLAT_RATE),
+        contribution: get(r, place::CONTRIBUTION),
+        liquidation: get(r, place::LIQUIDATION),
+        lapsed: get(r, place::LAPSED),
+        balance: Balance(get::<u64>(r, place::BALANCE).cast_signed()),
+    }
+}
+
+/// The closing that a record holds.
+#[tactic(auto, unfolding(crate::specs::Records::closing_in, book_layout::specs::Fields::get))]
+pub fn read_closing(r: &Record) -> ClosingRecord
+    ensures { result ≡ closing_in r.now }
+{
+    ClosingRecord {
+        next: get(r, place::NEXT),
+        option: get(r, place::CLOSING_OPTION),
+        year: get(r, place::YEAR),
+        sums: read_sums(r),
+        owner: get(r, place::OWNER),
+        withheld: get(r, place::WITHHELD),
+    }
+}
+
+// ANY BYTES
 
 #[tactic(auto, unfolding(crate::specs::Records::advance_in, book_layout::specs::Fields::get))]
 pub fn advance_of(r: &[u8]) -> AdvanceRecord
@@ -133,33 +184,10 @@ pub fn closing_of(r: &[u8]) -> ClosingRecord
     }
 }
 
-// WHOLE RECORDS: read from a part of known length, so that no read looks for the record's end.
-
-pub fn read_account(r: &[u8]) -> Account
-    requires { length r.now ≡ record_length }
-    ensures { result ≡ account_in r.now }
-{
-    account_of(book_layout::whole(r))
-}
-
-pub fn read_advance(r: &[u8]) -> AdvanceRecord
-    requires { length r.now ≡ record_length }
-    ensures { result ≡ advance_in r.now }
-{
-    advance_of(book_layout::whole(r))
-}
-
-pub fn read_closing(r: &[u8]) -> ClosingRecord
-    requires { length r.now ≡ record_length }
-    ensures { result ≡ closing_in r.now }
-{
-    closing_of(book_layout::whole(r))
-}
-
 // IMAGES
 
 #[tactic(auto, unfolding(crate::specs::Records::head_image, book_layout::specs::Fields::written))]
-pub fn head_image(used: u32, first: RecordIndex) -> [u8; RECORD_LENGTH]
+pub fn head_image(used: u32, first: RecordIndex) -> Record
     ensures { result ≡ head_image used first.0 }
 {
     let mut image = [0; RECORD_LENGTH];
@@ -169,7 +197,7 @@ pub fn head_image(used: u32, first: RecordIndex) -> [u8; RECORD_LENGTH]
 }
 
 #[tactic(auto, unfolding(crate::specs::Records::user_image, book_layout::specs::Fields::written))]
-pub fn user_image(user: UserRecord) -> [u8; RECORD_LENGTH]
+pub fn user_image(user: UserRecord) -> Record
     ensures { result ≡ user_image user }
 {
     let account = user.account;
@@ -177,7 +205,7 @@ pub fn user_image(user: UserRecord) -> [u8; RECORD_LENGTH]
     let charge = account.charge;
     let mut image = [0; RECORD_LENGTH];
     put(&mut image, place::NEXT, user.next);
-    put(&mut image, place::KIND, kind::USER);
+    put(&mut image, place::KIND, u8::from(Kind::User));
     put(&mut image, place::CLASS, details.class);
     put(&mut image, place::PLANT, details.plant);
     put(&mut image, place::OPTION, account.option);
@@ -201,12 +229,12 @@ pub fn user_image(user: UserRecord) -> [u8; RECORD_LENGTH]
 }
 
 #[tactic(auto, unfolding(crate::specs::Records::advance_image, book_layout::specs::Fields::written))]
-pub fn advance_image(advance: AdvanceRecord) -> [u8; RECORD_LENGTH]
+pub fn advance_image(advance: AdvanceRecord) -> Record
     ensures { result ≡ advance_image advance }
 {
     let mut image = [0; RECORD_LENGTH];
     put(&mut image, place::NEXT, advance.next);
-    put(&mut image, place::KIND, kind::ADVANCE);
+    put(&mut image, place::KIND, u8::from(Kind::Advance));
     put(&mut image, place::RUN, advance.run);
     put(&mut image, place::YEAR, advance.year);
     put(&mut image, place::TICKS, advance.ticks);
@@ -217,13 +245,13 @@ pub fn advance_image(advance: AdvanceRecord) -> [u8; RECORD_LENGTH]
 }
 
 #[tactic(auto, unfolding(crate::specs::Records::closing_image, book_layout::specs::Fields::written))]
-pub fn closing_image(closing: ClosingRecord) -> [u8; RECORD_LENGTH]
+pub fn closing_image(closing: ClosingRecord) -> Record
     ensures { result ≡ closing_image closing }
 {
     let sums = closing.sums;
     let mut image = [0; RECORD_LENGTH];
     put(&mut image, place::NEXT, closing.next);
-    put(&mut image, place::KIND, kind::CLOSING);
+    put(&mut image, place::KIND, u8::from(Kind::Closing));
     put(&mut image, place::CLOSING_OPTION, closing.option);
     put(&mut image, place::YEAR, closing.year);
     put(&mut image, place::VALUE, sums.value);

@@ -23,9 +23,9 @@ pub uncharged : (a : Account) → a.charge.made ≡ 0 → a.charge.rest.0 ≡ 0 
 unfolding charge_fits
 uncharged a made rest = rw (made, rest) (le-leb 0 (max_charge * (span_of a a.open_year + 0)) (omega arith))
 
-pub nothing-fits : (a : Account) → ((eqb a.runs 0 && eqb a.later_runs 0) && eqb a.charge.made 0) ≡ true
+pub nothing_fits : (a : Account) → ((eqb a.runs 0 && eqb a.later_runs 0) && eqb a.charge.made 0) ≡ true
     → ((eqb a.advances.0 0 && eqb a.later_advances.0 0) && eqb a.charge.rest.0 0) ≡ true → payments_fit a ≡ true
-nothing-fits a none nothing =
+nothing_fits a none nothing =
     let runs = and_left (eqb a.runs 0 && eqb a.later_runs 0) (eqb a.charge.made 0) none in
     let amounts = and_left (eqb a.advances.0 0 && eqb a.later_advances.0 0) (eqb a.charge.rest.0 0) nothing in
     let paid = sym (unpaid a (eqb-true a.runs 0 (and_left (eqb a.runs 0) (eqb a.later_runs 0) runs)))

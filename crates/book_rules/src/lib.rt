@@ -1,8 +1,8 @@
 // The rules of document 01, "Book", on a record by itself, and the length of a book.
 #![tactic(auto)]
 
-ghost use Rattle.std.specs.Prelude.{◌≡◌, true, ◌&&◌, ◌-◌, ◌*◌, ◌<◌, leb, length};
-ghost use Rattle.units.specs.Limits.{record_length, max_year_ticks};
+ghost use Rattle.std.specs.Prelude.{◌≡◌, true, ◌&&◌, ◌-◌, ◌*◌, ◌<◌, leb};
+ghost use Rattle.units.specs.Limits.{max_year_ticks};
 ghost use Rattle.units.specs.InnerWithin.{NumberWithin};
 ghost use Rattle.book_rules.specs.Book.{length_fits, details_fit, open_year_fits, halves_of, is_made, due_if_made, runs_fit, halves_made};
 ghost use Rattle.book_rules.specs.Book.{advances_fit, later_half, later_fits, charge_fits, payments_fit, credit_fits, halves_fit};
@@ -12,7 +12,8 @@ ghost use Rattle.book_layout.specs.Fields.{get, kind_field, all_zero, unnamed_of
 ghost use Rattle.book_records.specs.Records.{account_in};
 
 use account_steps::{Account, Balance};
-use book_layout::kind::{ADVANCE, CLOSING};
+use book_layout::kind::{ADVANCE, CLOSING, Kind};
+use book_layout::{Record, field, place};
 use book_records::{AdvanceRecord, ClosingRecord};
 use calendar::{Halves, JANUARY, JUNE, OCTOBER};
 use sheet_values::Details;
@@ -26,7 +27,7 @@ const SHORTEST: usize = LEAST_RECORDS * RECORD_LENGTH;
 
 pub const LONGEST: usize = MOST_RECORDS * RECORD_LENGTH;
 
-// "balance from −3.6·10^14 to 1.08·10^15"
+// "balance from −3.6·10^14 to 1.08·10^15". Both by `as`: a call has no place in a constant.
 const LEAST_BALANCE: i64 = -(MAX_YEAR as i64);
 
 const MOST_BALANCE: i64 = MAX_CONTRIBUTION as i64;
@@ -65,6 +66,7 @@ fn halves_of(a: Account, run: u8) -> Halves
 }
 
 // Whether a run is among those made of a year.
+#[tactic(auto, unfolding(crate::specs::Book::is_made))]
 pub fn is_made(runs: u8, run: u8) -> bool
     requires { 0 < run }
     ensures { result ≡ is_made runs run }
@@ -85,6 +87,7 @@ fn runs_fit(a: Account) -> bool
     (a.runs < 8) & ((due_if_made(a, JUNE) & due_if_made(a, OCTOBER)) & due_if_made(a, JANUARY))
 }
 
+#[tactic(auto, unfolding(crate::specs::Book::halves_made), using(calendar::proofs::Amounts::halves_at_most))]
 fn halves_made(a: Account, run: u8) -> u64
     requires { 0 < run }
     ensures { NumberWithin (halves_made a run) 2 result }
@@ -104,11 +107,12 @@ fn advances_fit(a: Account) -> bool
 }
 
 // A run of the later year pays one half.
+#[tactic(auto, unfolding(crate::specs::Book::later_half))]
 fn later_half(a: Account, run: u8) -> u64
     requires { 0 < run }
     ensures { NumberWithin (later_half a run) 1 result }
 {
-    if is_made(a.later_runs, run) { 1 } else { 0 }
+    u64::from(is_made(a.later_runs, run))
 }
 
 // Where no run of it is made nothing of it is paid.
@@ -137,7 +141,7 @@ fn paid_fits(a: Account) -> bool
 fn years_between(from: u16, to: u16) -> u64
     ensures { result ≡ to - from }
 {
-    if from < to { (to - from) as u64 } else { 0 }
+    u64::from(to.saturating_sub(from))
 }
 
 // An amount is at most that of a year for each year between two; most amounts here are nothing. None reaches that of 51,241 years.
@@ -149,11 +153,7 @@ fn fits_years(amount: Ticks, from: u16, to: u16) -> bool
         return true;
     }
     let years = years_between(from, to);
-    if years < 51_241 {
-        ticks <= MAX_YEAR * years
-    } else {
-        true
-    }
+    51_241 <= years || ticks <= MAX_YEAR * years
 }
 
 fn credit_fits(a: Account) -> bool
@@ -169,54 +169,41 @@ fn halves_fit(a: Account) -> bool
 }
 
 // A rest of at most a year's charge for each closed year, and for the open one where it is charged.
+#[tactic(auto, unfolding(crate::specs::Book::charge_fits))]
 fn charge_fits(a: Account) -> bool
     ensures { result ≡ charge_fits a }
 {
     let years = years_between(a.details.year, a.open_year);
     let charge = a.charge;
-    (charge.made <= 1) & (charge.rest.0 <= MAX_CHARGE * (years + charge.made as u64))
+    (charge.made <= 1) & (charge.rest.0 <= MAX_CHARGE * (years + u64::from(charge.made)))
 }
 
 // Most users have no run made, nothing paid and nothing charged: that fits.
+#[tactic(auto, unfolding(crate::specs::Book::runs_fit, crate::specs::Book::advances_fit, crate::specs::Book::later_fits, crate::specs::Book::charge_fits), using(crate::proofs::Payments::nothing_fits))]
 fn nothing_paid(a: Account) -> bool
     ensures { result ≡ true → payments_fit a ≡ true }
 {
-    let charge = a.charge;
-    if ((a.runs == 0) & (a.later_runs == 0)) & (charge.made == 0) {
-        return ((a.advances.0 == 0) & (a.later_advances.0 == 0)) & (charge.rest.0 == 0);
-    }
-    false
+    let made = (a.runs == 0) & (a.later_runs == 0) & (a.charge.made == 0);
+    made && (a.advances.0 == 0) & (a.later_advances.0 == 0) & (a.charge.rest.0 == 0)
 }
 
 // What is paid of both open years, and what of the charges is not.
 #[inline(always)]
+#[tactic(auto, using(crate::proofs::Guards::tested))]
 fn payments_fit(a: Account) -> bool
     ensures { result ≡ payments_fit a }
 {
-    if nothing_paid(a) {
-        return true;
-    }
-    if !charge_fits(a) {
-        return false;
-    }
-    paid_fits(a) & later_fits(a)
+    nothing_paid(a) || charge_fits(a) && paid_fits(a) & later_fits(a)
 }
 
 // What is paid is looked at last, where all else fits.
 #[inline(always)]
+#[tactic(auto, unfolding(crate::specs::Book::account_fits))]
 fn account_fits(a: Account) -> bool
     ensures { result ≡ account_fits a }
 {
     let details = !(a.number.0 == 0) & (details_fit(a.details, a.option) & open_year_fits(a));
-    if details & halves_fit(a) {
-        if credit_fits(a) {
-            payments_fit(a)
-        } else {
-            false
-        }
-    } else {
-        false
-    }
+    details & halves_fit(a) && credit_fits(a) && payments_fit(a)
 }
 
 // An owner is known by its activation year and its open year.
@@ -226,22 +213,25 @@ fn year_fits(activation: u16, open_year: u16, year: u16) -> bool
     (activation <= year) & (year <= open_year)
 }
 
+#[tactic(auto, unfolding(crate::specs::Book::is_run))]
 pub fn is_run(run: u8) -> bool
     ensures { result ≡ is_run run }
 {
-    (run == JUNE) | (run == OCTOBER) | (run == JANUARY)
+    matches!(run, JUNE | OCTOBER | JANUARY)
 }
 
+#[tactic(auto, unfolding(crate::specs::Book::level_from))]
 fn level_from(year: u16, booked: u16) -> u16
     ensures { result ≡ level_from year booked }
 {
     if booked == 0 { year } else { booked }
 }
 
+#[tactic(auto, unfolding(crate::specs::Book::booked_fits))]
 fn booked_fits(year: u16, booked: u16) -> bool
     ensures { result ≡ booked_fits year booked }
 {
-    (booked == 0) | (booked as u32 + 1 == year as u32)
+    (booked == 0) | (u32::from(booked) + 1 == u32::from(year))
 }
 
 // Most advances note no year of booking.
@@ -270,10 +260,9 @@ fn balance_fits(balance: Balance) -> bool
 pub fn paid_balance(balance: Balance) -> Ticks
     ensures { result.0 ≡ paid_balance balance.0 }
 {
-    if 0 <= balance.0 && balance.0 <= MOST_BALANCE {
-        Ticks(balance.0 as u64)
-    } else {
-        Ticks(0)
+    match u64::try_from(balance.0) {
+        Ok(paid) if paid <= MAX_CONTRIBUTION => Ticks(paid),
+        _ => Ticks(0),
     }
 }
 
@@ -293,6 +282,7 @@ fn withheld_fits(c: ClosingRecord) -> bool
     withheld - paid.0 <= sums.liquidation.0
 }
 
+#[tactic(auto, unfolding(crate::specs::Book::closing_fits, crate::specs::Book::year_fits))]
 fn closing_fits(activation: u16, open_year: u16, c: ClosingRecord) -> bool
     ensures { (owner : Account) → owner.details.year ≡ activation → owner.open_year ≡ open_year → result ≡ closing_fits owner c }
 {
@@ -310,61 +300,51 @@ fn closing_fits(activation: u16, open_year: u16, c: ClosingRecord) -> bool
 // every record, so that they and what they ask of an account are made part of it.
 
 #[inline(always)]
-pub fn user_record_fits(r: &[u8]) -> bool
-    requires { length r.now ≡ record_length }
+pub fn user_record_fits(r: &Record) -> bool
     ensures { result ≡ (account_fits (account_in r.now) && all_zero unnamed_of_user r.now) }
 {
-    let r = book_layout::whole(r);
-    if book_layout::user_rest_zero(r) {
-        account_fits(book_records::read_account(r))
-    } else {
-        false
-    }
+    Kind::User.rest_is_zero(r) && account_fits(book_records::read_account(r))
 }
 
 #[inline(always)]
-pub fn entry_record_fits(r: &[u8], owner: &[u8]) -> bool
-    requires { length r.now ≡ record_length }
+#[tactic(auto, unfolding(crate::specs::Book::entry_ranges, crate::specs::Book::unnamed_of, book_layout::specs::Kinds::kind_named))]
+pub fn entry_record_fits(r: &Record, owner: &[u8]) -> bool
     ensures { result ≡ (entry_ranges (account_in owner.now) r.now
         && all_zero (unnamed_of (get kind_field r.now)) r.now) }
 {
-    let r = book_layout::whole(r);
-    let activation = book_layout::activation_year_of(owner);
-    let open_year = book_layout::open_year_of(owner);
-    match book_layout::kind_of(r) {
-        ADVANCE => {
-            if advance_fits(activation, open_year, book_records::read_advance(r)) {
-                book_layout::advance_rest_zero(r)
-            } else {
-                false
-            }
+    let activation = field(owner, place::ACTIVATION_YEAR);
+    let open_year = field(owner, place::OPEN_YEAR);
+    match Kind::of(r) {
+        Some(Kind::Advance) => {
+            advance_fits(activation, open_year, book_records::read_advance(r))
+                && Kind::Advance.rest_is_zero(r)
         }
-        CLOSING => {
-            if closing_fits(activation, open_year, book_records::read_closing(r)) {
-                book_layout::closing_rest_zero(r)
-            } else {
-                false
-            }
+        Some(Kind::Closing) => {
+            closing_fits(activation, open_year, book_records::read_closing(r))
+                && Kind::Closing.rest_is_zero(r)
         }
         _ => false,
     }
 }
 
+#[tactic(auto, unfolding(crate::specs::Book::entry_kind))]
 pub fn is_entry_kind(kind: u8) -> bool
     ensures { result ≡ entry_kind kind }
 {
-    (kind == ADVANCE) | (kind == CLOSING)
+    matches!(kind, ADVANCE | CLOSING)
 }
 
 // THE ORDER OF A CHAIN
 
+/// The level of an entry: the year that was open when it was booked.
+#[tactic(auto, unfolding(crate::specs::Book::level_in, book_layout::specs::Kinds::kind_named))]
 pub fn level_of(r: &[u8]) -> u16
     ensures { result ≡ level_in r.now }
 {
-    let year = book_layout::year_of(r);
-    if book_layout::kind_of(r) == CLOSING {
+    let year = field(r, place::YEAR);
+    if Kind::of(r) == Some(Kind::Closing) {
         year
     } else {
-        level_from(year, book_layout::booked_of(r))
+        level_from(year, field(r, place::BOOKED))
     }
 }

@@ -2,7 +2,8 @@
 // book here: an index may lead anywhere, and a record past the end has zeros in all its fields.
 #![tactic(auto)]
 
-ghost use Rattle.std.specs.Prelude.{◌≡◌, true, ◌+◌, ◌*◌, ◌≤◌, length};
+ghost use Rattle.std.specs.Prelude.{◌≡◌, true, ◌+◌, ◌*◌, ◌<◌, ◌≤◌, length};
+ghost use Rattle.book_layout.specs.Fields.{bytes, get, record_at};
 ghost use Rattle.units.specs.Limits.{record_length};
 ghost use Rattle.units.specs.Units.{user_number, record_index};
 ghost use Rattle.book_rules.specs.Book.{first_user, used_fits, kind_at, has_kind, is_user, is_advance, is_closing, is_entry, owner_of};
@@ -13,6 +14,7 @@ ghost use Rattle.book_rules.specs.Book.{used as usedIn};
 use account_steps::Account;
 use book_layout::kind::{ADVANCE, CLOSING, USER};
 use book_layout::record;
+use codec::Number;
 use units::{RECORD_LENGTH, RecordIndex, UserNumber};
 
 /// A book that refusals 1 and 2 pass: of the length of a book, and with no faulty record.
@@ -33,18 +35,21 @@ pub struct User<'a> {
 
 // THE HEAD
 
+#[tactic(auto, unfolding(book_rules::specs::Book::used))]
 pub fn used(book: &[u8]) -> u32
     ensures { result ≡ usedIn book.now }
 {
     book_layout::used_of(record(book, RecordIndex(0)))
 }
 
+#[tactic(auto, unfolding(book_rules::specs::Book::first_user))]
 pub fn first_user(book: &[u8]) -> RecordIndex
     ensures { result ≡ record_index (first_user book.now) }
 {
     book_layout::first_user_of(record(book, RecordIndex(0)))
 }
 
+#[tactic(auto, unfolding(book_rules::specs::Book::used_fits))]
 pub fn used_fits(book: &[u8]) -> bool
     ensures { result ≡ used_fits book.now }
 {
@@ -53,12 +58,14 @@ pub fn used_fits(book: &[u8]) -> bool
 
 // WHAT A RECORD IS
 
+#[tactic(auto, unfolding(book_rules::specs::Book::kind_at))]
 fn kind_at(book: &[u8], index: RecordIndex) -> u8
     ensures { result ≡ kind_at book.now index.0 }
 {
     book_layout::kind_of(record(book, index))
 }
 
+#[tactic(auto, unfolding(book_rules::specs::Book::has_kind))]
 fn has_kind(book: &[u8], kind: u8, index: RecordIndex) -> bool
     ensures { result ≡ has_kind book.now kind index.0 }
 {
@@ -83,6 +90,7 @@ pub fn is_closing(book: &[u8], index: RecordIndex) -> bool
     has_kind(book, CLOSING, index)
 }
 
+#[tactic(auto, unfolding(book_rules::specs::Book::is_entry))]
 pub fn is_entry(book: &[u8], index: RecordIndex) -> bool
     ensures { result ≡ is_entry book.now index.0 }
 {
@@ -91,42 +99,57 @@ pub fn is_entry(book: &[u8], index: RecordIndex) -> bool
 
 // FIELDS OF A RECORD
 
+/// The number in a field of the record at an index, as wide as its type.
+pub fn field<T: Number>(book: &[u8], index: RecordIndex, at: usize) -> T
+    requires { at < record_length }
+    ensures { T.value result ≡ get (bytes at T.WIDTH) (record_at book.now index.0) }
+{
+    book_layout::field(record(book, index), at)
+}
+
+#[tactic(auto, unfolding(book_rules::specs::Book::owner_of))]
 pub fn owner_of(book: &[u8], index: RecordIndex) -> RecordIndex
     ensures { result ≡ record_index (owner_of book.now index.0) }
 {
     book_layout::owner_of(record(book, index))
 }
 
+#[tactic(auto, unfolding(book_rules::specs::Book::next_of))]
 pub fn next_of(book: &[u8], index: RecordIndex) -> RecordIndex
     ensures { result ≡ record_index (next_of book.now index.0) }
 {
     book_layout::next_of(record(book, index))
 }
 
+#[tactic(auto, unfolding(book_rules::specs::Book::first_entry_of))]
 pub fn first_entry_of(book: &[u8], index: RecordIndex) -> RecordIndex
     ensures { result ≡ record_index (first_entry_of book.now index.0) }
 {
     book_layout::first_entry_of(record(book, index))
 }
 
+#[tactic(auto, unfolding(book_rules::specs::Book::number_of))]
 pub fn number_of(book: &[u8], index: RecordIndex) -> UserNumber
     ensures { result ≡ user_number (number_of book.now index.0) }
 {
     book_layout::number_of(record(book, index))
 }
 
+#[tactic(auto, unfolding(book_rules::specs::Book::level_of))]
 pub fn level_of(book: &[u8], index: RecordIndex) -> u16
     ensures { result ≡ level_of book.now index.0 }
 {
     book_rules::level_of(record(book, index))
 }
 
+#[tactic(auto, unfolding(book_rules::specs::Book::activation_of))]
 pub fn activation_of(book: &[u8], index: RecordIndex) -> u16
     ensures { result ≡ activation_of book.now index.0 }
 {
     book_layout::activation_year_of(record(book, index))
 }
 
+#[tactic(auto, unfolding(book_rules::specs::Book::open_year_of))]
 pub fn open_year_of(book: &[u8], index: RecordIndex) -> u16
     ensures { result ≡ open_year_of book.now index.0 }
 {
@@ -138,7 +161,7 @@ pub fn account_at(book: &[u8], index: RecordIndex) -> Account
     requires { record_length * index.0 + record_length ≤ length book.now }
     ensures { result ≡ account_at book.now index.0 }
 {
-    book_records::read_account(book_layout::whole_record(book, index.0 as usize))
+    book_records::read_account(book_layout::whole(book, index))
 }
 
 impl<'a> User<'a> {
@@ -151,7 +174,6 @@ impl<'a> User<'a> {
     }
 
     /// Its newest entry, 0 where it has none.
-    #[tactic(auto)]
     pub fn first_entry(self) -> RecordIndex
         ensures { result ≡ record_index (first_entry_of self.entry.book.bytes.now self.entry.index.0) }
     {

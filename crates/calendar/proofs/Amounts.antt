@@ -21,9 +21,9 @@ paid-at-most : (amount : ℕ) → paid_of amount ≤ amount
 unfolding paid_of
 paid-at-most amount = grind (arith, nat_tests)
 
-pub halves-at-most : (h : Halves) → halves_count h ≤ 2
+pub halves_at_most : (h : Halves) → halves_count h ≤ 2
 unfolding halves_count
-halves-at-most h = grind arith
+halves_at_most h = grind arith
 
 pub half_at_most : {energy price : ℕ} → energy ≤ max_half_kwh → price ≤ max_price → energy * price ≤ max_half_ticks
 half_at_most h k = mul-le-mul h k

@@ -11,7 +11,7 @@ use Rattle.units.specs.Units.{ticks}
 use Rattle.units.specs.Limits.{max_price, max_half_kwh, max_half_ticks, max_year_ticks, last_activation}
 use Rattle.calendar.specs.declared.Halves.{Halves}
 use Rattle.calendar.specs.ElectionAndAdvances.{halves_paid, halves_count, due, amount_of}
-use Rattle.calendar.proofs.Amounts.{half_at_most, halves-at-most, run-of-shares}
+use Rattle.calendar.proofs.Amounts.{half_at_most, halves_at_most, run-of-shares}
 use Rattle.account_steps.specs.declared.Account.{Account}
 use Rattle.account_steps.specs.Account.{runs_in, account_advanced}
 use Rattle.book_rules.specs.Book.{account_fits, is_made, is_run, year_fits, level_from, booked_fits, advance_fits}
@@ -98,7 +98,7 @@ run-booked a year run rate estimate1 estimate2 before opened order =
     let withheld = withheld_from a.charge.rest.0 paid in
     let d = run-due a year run opened in
     let most = run-at-most a year run rate estimate1 estimate2 before order in
-    let two = halves-at-most (halves_paid a.details.year a.details.month year run) in
+    let two = halves_at_most (halves_paid a.details.year a.details.month year run) in
     let w = account-within a before in
     let level = booked-level a year (omega (arith, w.details.from, w.from)) d.year-is in
     let ranges : advance_fits (account_withheld withheld (account_advanced year run paid a)) (advance_record 0 0 year (booked_in a year) run (ticks paid) (ticks withheld)) ≡ true =

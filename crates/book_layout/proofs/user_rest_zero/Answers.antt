@@ -1,8 +1,0 @@
--- `user_rest_zero` is held to `all_zero`: each stretch of zeros of the list.
-use mathlib.Core.Bool.{and-true}
-use Rattle.book_layout.specs.Fields.{all_zero}
-use Rattle.book_layout.proofs.user_rest_zero.Goals as goal
-
-pub returns : goal.returns
-unfolding all_zero
-returns c = simp (and-true, c.zeros.ensures, c.zeros-2.ensures)
