@@ -1,12 +1,12 @@
 -- What is known between two records of the pass: those from `left` on keep their own rules, and what is due below.
-use Rattle.std.proofs.Common.{◌≡◌, ℕ, ◌+◌, ◌≤◌, ◌<◌, true, Option, Some, None, List, length, set, refl, sym, ap, ◌∙◌, arith}
+use Rattle.std.proofs.Common.{◌≡◌, ℕ, ◌+◌, ◌≤◌, ◌<◌, true, Option, Some, None, List, length, set, refl, arith}
 use native.Mathlib.Decide.{dec_lt}
 use lib.ListN.{get_or, length-set}
 use Rattle.units.specs.declared.RecordIndex.{RecordIndex}
 use Rattle.units.specs.Units.{record_index}
 use Rattle.units.proofs.Bools.{and_right}
 use Rattle.book_layout.specs.Fields.{get, next_field, number_field, all_zero, unnamed_of_head, record_at}
-use Rattle.book_rules.specs.Book.{used, used_fits, first_user, is_user, own_rules_fit, good_head}
+use Rattle.book_rules.specs.Book.{used, used_fits, first_user, own_rules_fit, good_head}
 use Rattle.book_rules.proofs.Faults.{used-within}
 use Rattle.check_numbers.specs.InnerHeld.{Inserted}
 use Rattle.check_pass.specs.declared.Due.{Due}

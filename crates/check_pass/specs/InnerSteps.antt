@@ -1,5 +1,5 @@
 -- What the pass keeps of each user, and what it tests where it meets a record.
-use Rattle.std.specs.Prelude.{ℕ, ◌+◌, ◌≤◌, ◌<◌, ◌≡◌, Bool, true, false, cond, Option, Some, None, Result, MatchResult, unwrap_or, List, eqb, length, get_or}
+use Rattle.std.specs.Prelude.{ℕ, ◌+◌, ◌≤◌, ◌<◌, ◌≡◌, true, false, cond, Option, Some, None, Result, MatchResult, unwrap_or, List, eqb, length, get_or}
 use Rattle.book_layout.specs.Fields.{get, kind_field, next_field, first_entry_field, activation_year_field, open_year_field, number_field, owner_field, user_kind}
 use Rattle.book_layout.specs.Fields.{record_at}
 use Rattle.units.specs.declared.RecordIndex.{RecordIndex}

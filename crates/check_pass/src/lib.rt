@@ -10,7 +10,7 @@ ghost use Rattle.check_pass.specs.InnerSteps.{first_due, due_behind, UserLeads, 
 ghost use Rattle.check_pass.specs.InnerSteps.{Followed, BrokenFirst, PassedThrough};
 
 use book_layout::kind::{CLOSING, USER};
-use book_layout::whole_record;
+use book_layout::{Record, whole};
 use check_numbers::PLACES;
 use units::{MOST_RECORDS, RecordIndex, UserNumber};
 
@@ -73,8 +73,8 @@ fn entry_leads(r: &[u8], owner: &[u8], index: RecordIndex, due: Due) -> bool
 // A record that keeps its own rules: a user, or an entry with its owner's index and record.
 #[derive(Clone, Copy)]
 enum Kept<'a> {
-    User(&'a [u8]),
-    Entry(&'a [u8], RecordIndex, &'a [u8]),
+    User(&'a Record),
+    Entry(&'a Record, RecordIndex, &'a Record),
 }
 
 // The record at an index, none where it breaks a rule by itself or its owner is not before it. Where the chains are followed each
@@ -86,7 +86,7 @@ fn kept_at<'a>(book: &'a [u8], index: RecordIndex) -> Option<Kept<'a>>
     ensures { MatchOption result (good_record book.now index.0 ≡ false)
         (KeptRecord book.now index.0) }
 {
-    let r = whole_record(book, index.0 as usize);
+    let r = whole(book, index);
     if book_layout::kind_of(r) == USER {
         if !book_rules::user_record_fits(r) {
             return None;
@@ -97,7 +97,7 @@ fn kept_at<'a>(book: &'a [u8], index: RecordIndex) -> Option<Kept<'a>>
     if home.0 == 0 || index <= home {
         return None;
     }
-    let owner = whole_record(book, home.0 as usize);
+    let owner = whole(book, home);
     if !book_rules::entry_record_fits(r, owner) {
         return None;
     }
@@ -115,11 +115,7 @@ fn last_met(
 ) -> Option<RecordIndex>
     ensures { result ≡ last_met found index number.0 wanted.0 }
 {
-    if number == wanted {
-        Some(index)
-    } else {
-        found
-    }
+    if number == wanted { Some(index) } else { found }
 }
 
 // From the last record down as the chains lead, to the user that is looked for. They are left at the first record that breaks a rule

@@ -1,35 +1,24 @@
 -- A user by its own rules, an entry by its owner's record too.
-use Rattle.std.proofs.Common.{◌≡◌, ℕ, ◌<◌, true, List, length, sym, ap, ◌∙◌, arith}
-use Rattle.units.specs.Limits.{record_length}
+use Rattle.std.proofs.Common.{◌≡◌, sym, ap, ◌∙◌, arith}
 use Rattle.units.specs.declared.RecordIndex.{RecordIndex}
-use Rattle.book_layout.specs.Fields.{record_at}
-use Rattle.book_layout.proofs.Places.{length-record}
-use Rattle.book_rules.specs.Book.{used, used_fits, own_rules_fit}
+use Rattle.book_rules.specs.Book.{own_rules_fit}
 use Rattle.book_rules.proofs.Faults.{used-whole, own-bad}
 use Rattle.check_pass.proofs.OwnRules.{number-some, user-own, entry-own, owner-bad}
 use Rattle.check_pass.proofs.kept_at.Goals as goal
 use Rattle.check_pass.proofs.kept_at.Goals.{After-user_record_fits, After-entry_record_fits, then-home-eq0-via-then-home-eq0, then-home-eq0-via-else-home-eq0+then-le}
 
--- a record in use is whole
-whole : (b : List ℕ) (i : ℕ) → used_fits b ≡ true → i < used b → {r : List ℕ} → r ≡ record_at b i → length r ≡ record_length
-whole b i u h e = ap length e ∙ length-record b i (used-whole b u i h)
-
 -- the own rules, as tested
 user-rules : (c : goal.After-user_record_fits) → own_rules_fit c.args.book.now c.args.index.0 ≡ c.user_record_fits.result
 user-rules c =
-    user-own c.args.book.now c.args.index.0 c.whole_record-r.ensures c.kind_of.ensures c.if-kind_of-eq-USER.true ∙ sym c.user_record_fits.ensures
+    user-own c.args.book.now c.args.index.0 c.whole-r.ensures c.kind_of.ensures c.if-kind_of-eq-USER.true ∙ sym c.user_record_fits.ensures
 
 entry-rules : (c : goal.After-entry_record_fits) → own_rules_fit c.args.book.now c.args.index.0 ≡ c.entry_record_fits.result
 entry-rules c =
-    entry-own c.args.book.now c.args.index.0 c.whole_record-r.ensures c.kind_of.ensures c.if-kind_of-eq-USER.false
-    (ap (λ (k : RecordIndex). k.0) c.owner_of-home.ensures) c.whole_record-owner.ensures ∙ sym c.entry_record_fits.ensures
+    entry-own c.args.book.now c.args.index.0 c.whole-r.ensures c.kind_of.ensures c.if-kind_of-eq-USER.false
+    (ap (λ (k : RecordIndex). k.0) c.owner_of-home.ensures) c.whole-owner.ensures ∙ sym c.entry_record_fits.ensures
 
-pub whole_record-r-requires : goal.whole_record-r-requires
-whole_record-r-requires c = used-whole c.args.book.now c.requires.records_used c.args.index.0 c.requires.index_bound
-
-pub user_record_fits-requires : goal.user_record_fits-requires
-user_record_fits-requires c =
-    whole c.args.book.now c.args.index.0 c.requires.records_used c.requires.index_bound c.whole_record-r.ensures
+pub whole-r-requires : goal.whole-r-requires
+whole-r-requires c = used-whole c.args.book.now c.requires.records_used c.args.index.0 c.requires.index_bound
 
 pub returns-then-not-user_record_fits : goal.returns-then-not-user_record_fits
 returns-then-not-user_record_fits c =
@@ -40,28 +29,24 @@ returns-then-kind_of-eq-USER c =
     record {
       own = user-rules (goal.at.returns-then-kind_of-eq-USER c).After-user_record_fits ∙ c.if-not-user_record_fits.false;
       is = record {
-        bytes = c.whole_record-r.ensures;
+        bytes = c.whole-r.ensures;
         user = sym c.kind_of.ensures ∙ c.if-kind_of-eq-USER.true;
-        numbered = number-some c.whole_record-r.result.now (sym c.user_record_fits.ensures ∙ c.if-not-user_record_fits.false);
+        numbered = number-some c.whole-r.result.now (sym c.user_record_fits.ensures ∙ c.if-not-user_record_fits.false);
       };
     }
 
 pub returns-then-home-eq0 : goal.returns-then-home-eq0
 returns-then-home-eq0 c =
-    owner-bad c.args.book.now c.args.index.0 c.whole_record-r.ensures c.kind_of.ensures c.if-kind_of-eq-USER.false
+    owner-bad c.args.book.now c.args.index.0 c.whole-r.ensures c.kind_of.ensures c.if-kind_of-eq-USER.false
     (ap (λ (k : RecordIndex). k.0) c.owner_of-home.ensures)
     (λ lo hi. elim c.then-home-eq0.branch [
       | then-home-eq0-via-then-home-eq0 w ↦ omega (arith, lo)
       | then-home-eq0-via-else-home-eq0+then-le w ↦ grind (arith, hi)
     ])
 
-pub whole_record-owner-requires : goal.whole_record-owner-requires
-whole_record-owner-requires c =
+pub whole-owner-requires : goal.whole-owner-requires
+whole-owner-requires c =
     used-whole c.args.book.now c.requires.records_used c.owner_of-home.result.0 (grind arith)
-
-pub entry_record_fits-requires : goal.entry_record_fits-requires
-entry_record_fits-requires c =
-    whole c.args.book.now c.args.index.0 c.requires.records_used c.requires.index_bound c.whole_record-r.ensures
 
 pub returns-then-not-entry_record_fits : goal.returns-then-not-entry_record_fits
 returns-then-not-entry_record_fits c =
@@ -72,11 +57,11 @@ returns c =
     record {
       own = entry-rules (goal.at.returns c).After-entry_record_fits ∙ c.if-not-entry_record_fits.false;
       is = record {
-        bytes = c.whole_record-r.ensures;
+        bytes = c.whole-r.ensures;
         other = λ e. c.if-kind_of-eq-USER.false (c.kind_of.ensures ∙ e);
         owned = ap (λ (k : RecordIndex). k.0) c.owner_of-home.ensures;
         from = grind arith;
         below = grind arith;
-        owner-bytes = c.whole_record-owner.ensures;
+        owner-bytes = c.whole-owner.ensures;
       };
     }
