@@ -7,7 +7,7 @@ ghost use Rattle.book_layout.specs.Fields.{bytes, get, record_at};
 ghost use Rattle.units.specs.Limits.{record_length};
 ghost use Rattle.units.specs.Units.{user_number, record_index};
 ghost use Rattle.book_rules.specs.Book.{first_user, used_fits, kind_at, has_kind, is_user, is_advance, is_closing, is_entry, owner_of};
-ghost use Rattle.book_rules.specs.Book.{account_at, length_fits, sound};
+ghost use Rattle.book_rules.specs.Book.{account_at, length_fits, good_head, sound};
 ghost use Rattle.book_rules.specs.Book.{next_of, first_entry_of, number_of, level_of, activation_of, open_year_of};
 ghost use Rattle.book_rules.specs.Book.{used as usedIn};
 
@@ -16,6 +16,21 @@ use book_layout::kind::{ADVANCE, CLOSING, USER};
 use book_layout::record;
 use codec::Number;
 use units::{RECORD_LENGTH, RecordIndex, UserNumber};
+
+/// A book whose u is at least 1 and counts records that the book has.
+#[derive(Clone, Copy)]
+pub struct UsedBook<'a> {
+    pub bytes: &'a [u8],
+    ghost counted: { used_fits bytes.now ≡ true },
+}
+
+/// A book of the length of a book, whose head is not faulty.
+#[derive(Clone, Copy)]
+pub struct HeadedBook<'a> {
+    pub used: UsedBook<'a>,
+    ghost length: { length_fits used.bytes.now ≡ true },
+    ghost head: { good_head used.bytes.now ≡ true },
+}
 
 /// A book that refusals 1 and 2 pass: of the length of a book, and with no faulty record.
 #[derive(Clone, Copy)]
