@@ -68,14 +68,12 @@ fn halves_of(a: Account, run: u8) -> Halves
 // Whether a run is among those made of a year.
 #[tactic(auto, unfolding(crate::specs::Book::is_made))]
 pub fn is_made(runs: u8, run: u8) -> bool
-    requires { 0 < run }
     ensures { result ≡ is_made runs run }
 {
-    runs / run % 2 == 1
+    run != 0 && runs / run % 2 == 1
 }
 
 fn due_if_made(a: Account, run: u8) -> bool
-    requires { 0 < run }
     ensures { result ≡ due_if_made a run }
 {
     !is_made(a.runs, run) | halves_of(a, run).is_due()
@@ -89,7 +87,6 @@ fn runs_fit(a: Account) -> bool
 
 #[tactic(auto, unfolding(crate::specs::Book::halves_made), using(calendar::proofs::Amounts::halves_at_most))]
 fn halves_made(a: Account, run: u8) -> u64
-    requires { 0 < run }
     ensures { NumberWithin (halves_made a run) 2 result }
 {
     if is_made(a.runs, run) {
@@ -109,7 +106,6 @@ fn advances_fit(a: Account) -> bool
 // A run of the later year pays one half.
 #[tactic(auto, unfolding(crate::specs::Book::later_half))]
 fn later_half(a: Account, run: u8) -> u64
-    requires { 0 < run }
     ensures { NumberWithin (later_half a run) 1 result }
 {
     u64::from(is_made(a.later_runs, run))
