@@ -1,5 +1,6 @@
 pub mod Numbers
 pub mod ZeroBytes
+pub mod ZeroWords
 pub mod ByteRanges
 pub mod Parts
 pub mod Stores

@@ -30,7 +30,7 @@ front-value zero s = refl
 front-value (suc w) [] = sym (zeros-value (suc w))
 front-value (suc w) (b ∷ s) = ap (λ (n : ℕ). b + 256 * n) (front-value w s)
 
-number-bytes : (w at : ℕ) (s : List ℕ) → number w at s ≡ little_endian (table w (λ i. get_or s (at + i) 0))
+pub number-bytes : (w at : ℕ) (s : List ℕ) → number w at s ≡ little_endian (table w (λ i. get_or s (at + i) 0))
 unfolding number part
 number-bytes w at s =
     front-value w (drop at s) ∙ ap little_endian (table-cong w (λ i. get_or (drop at s) i 0) (λ i. get_or s (at + i) 0) (λ i l. get_or-drop at s i 0))

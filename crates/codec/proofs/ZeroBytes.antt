@@ -24,7 +24,7 @@ unfolding zeros all_below
 zeros_next from i s a e = rw (add-one) (ap₂ ◌&&◌ a (ap (λ (k : ℕ). eqb k 0) e))
 
 -- in two parts
-zeros-more : (from i n : ℕ) (s : List ℕ) → zeros from (i + n) s ≡ (zeros from i s && zeros (from + i) n s)
+pub zeros-more : (from i n : ℕ) (s : List ℕ) → zeros from (i + n) s ≡ (zeros from i s && zeros (from + i) n s)
 unfolding zeros all_below
 zeros-more from i zero s = rw (add-zero i, and-true (all_below i (λ k. eqb (get_or s (from + k) 0) 0)))
 zeros-more from i (suc n) s =

@@ -233,8 +233,12 @@ pub fn zeros(s: &[u8], from: usize, count: usize) -> bool
 {
     let end = (from + count).min(s.len());
     let first = from.min(end);
+    let (words, rest) = s[first..end].as_chunks::<8>();
     let mut all = true;
-    for b in &s[first..end] {
+    for word in words {
+        all = all & (u64::load(word) == 0);
+    }
+    for b in rest {
         all = all & (*b == 0);
     }
     all
