@@ -124,6 +124,7 @@ fn later_fits(a: Account) -> bool
 }
 
 // Where no run is made nothing is paid.
+#[inline(always)]
 fn paid_fits(a: Account) -> bool
     ensures { result ≡ (runs_fit a && advances_fit a) }
 {
