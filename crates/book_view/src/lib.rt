@@ -4,6 +4,7 @@
 
 ghost use Rattle.std.specs.Prelude.{◌≡◌, true, ◌+◌, ◌*◌, ◌<◌, ◌≤◌, length};
 ghost use Rattle.book_layout.specs.Fields.{bytes, get, record_at};
+ghost use Rattle.book_layout.specs.Kinds.{kind_number};
 ghost use Rattle.units.specs.Limits.{record_length};
 ghost use Rattle.units.specs.Units.{user_number, record_index};
 ghost use Rattle.book_rules.specs.Book.{first_user, used_fits, kind_at, has_kind, is_user, is_advance, is_closing, is_entry, owner_of};
@@ -12,8 +13,8 @@ ghost use Rattle.book_rules.specs.Book.{next_of, first_entry_of, number_of, leve
 ghost use Rattle.book_rules.specs.Book.{used as usedIn};
 
 use account_steps::Account;
-use book_layout::kind::{ADVANCE, CLOSING, USER};
-use book_layout::record;
+use book_layout::kind::Kind;
+use book_layout::{place, record};
 use codec::Number;
 use units::{RECORD_LENGTH, RecordIndex, UserNumber};
 
@@ -54,14 +55,14 @@ pub struct User<'a> {
 pub fn used(book: &[u8]) -> u32
     ensures { result ≡ usedIn book.now }
 {
-    book_layout::used_of(record(book, RecordIndex(0)))
+    field(book, RecordIndex(0), place::USED)
 }
 
 #[tactic(auto, unfolding(book_rules::specs::Book::first_user))]
 pub fn first_user(book: &[u8]) -> RecordIndex
     ensures { result ≡ record_index (first_user book.now) }
 {
-    book_layout::first_user_of(record(book, RecordIndex(0)))
+    field(book, RecordIndex(0), place::FIRST_USER)
 }
 
 #[tactic(auto, unfolding(book_rules::specs::Book::used_fits))]
@@ -73,43 +74,42 @@ pub fn used_fits(book: &[u8]) -> bool
 
 // WHAT A RECORD IS
 
-#[tactic(auto, unfolding(book_rules::specs::Book::kind_at))]
-fn kind_at(book: &[u8], index: RecordIndex) -> u8
-    ensures { result ≡ kind_at book.now index.0 }
+// The index of a record below u that is of a kind.
+#[tactic(auto, unfolding(book_rules::specs::Book::has_kind, book_rules::specs::Book::kind_at))]
+fn has_kind(book: &[u8], kind: Kind, index: RecordIndex) -> bool
+    ensures { result ≡ has_kind book.now (kind_number kind) index.0 }
 {
-    book_layout::kind_of(record(book, index))
-}
-
-#[tactic(auto, unfolding(book_rules::specs::Book::has_kind))]
-fn has_kind(book: &[u8], kind: u8, index: RecordIndex) -> bool
-    ensures { result ≡ has_kind book.now kind index.0 }
-{
-    ((0 < index.0) & (index.0 < used(book))) & (kind_at(book, index) == kind)
+    let number: u8 = field(book, index, place::KIND);
+    ((0 < index.0) & (index.0 < used(book))) & (number == u8::from(kind))
 }
 
 pub fn is_user(book: &[u8], index: RecordIndex) -> bool
     ensures { result ≡ is_user book.now index.0 }
 {
-    has_kind(book, USER, index)
+    has_kind(book, Kind::User, index)
 }
 
 pub fn is_advance(book: &[u8], index: RecordIndex) -> bool
     ensures { result ≡ is_advance book.now index.0 }
 {
-    has_kind(book, ADVANCE, index)
+    has_kind(book, Kind::Advance, index)
 }
 
 pub fn is_closing(book: &[u8], index: RecordIndex) -> bool
     ensures { result ≡ is_closing book.now index.0 }
 {
-    has_kind(book, CLOSING, index)
+    has_kind(book, Kind::Closing, index)
 }
 
-#[tactic(auto, unfolding(book_rules::specs::Book::is_entry))]
+#[tactic(auto, unfolding(book_rules::specs::Book::is_entry, book_rules::specs::Book::kind_at, book_rules::specs::Book::entry_kind, book_layout::specs::Kinds::kind_named))]
 pub fn is_entry(book: &[u8], index: RecordIndex) -> bool
     ensures { result ≡ is_entry book.now index.0 }
 {
-    ((0 < index.0) & (index.0 < used(book))) & book_rules::is_entry_kind(kind_at(book, index))
+    let entry = matches!(
+        Kind::of(record(book, index)),
+        Some(Kind::Advance | Kind::Closing)
+    );
+    ((0 < index.0) & (index.0 < used(book))) & entry
 }
 
 // FIELDS OF A RECORD
@@ -126,28 +126,28 @@ pub fn field<T: Number>(book: &[u8], index: RecordIndex, at: usize) -> T
 pub fn owner_of(book: &[u8], index: RecordIndex) -> RecordIndex
     ensures { result ≡ record_index (owner_of book.now index.0) }
 {
-    book_layout::owner_of(record(book, index))
+    field(book, index, place::OWNER)
 }
 
 #[tactic(auto, unfolding(book_rules::specs::Book::next_of))]
 pub fn next_of(book: &[u8], index: RecordIndex) -> RecordIndex
     ensures { result ≡ record_index (next_of book.now index.0) }
 {
-    book_layout::next_of(record(book, index))
+    field(book, index, place::NEXT)
 }
 
 #[tactic(auto, unfolding(book_rules::specs::Book::first_entry_of))]
 pub fn first_entry_of(book: &[u8], index: RecordIndex) -> RecordIndex
     ensures { result ≡ record_index (first_entry_of book.now index.0) }
 {
-    book_layout::first_entry_of(record(book, index))
+    field(book, index, place::FIRST_ENTRY)
 }
 
 #[tactic(auto, unfolding(book_rules::specs::Book::number_of))]
 pub fn number_of(book: &[u8], index: RecordIndex) -> UserNumber
     ensures { result ≡ user_number (number_of book.now index.0) }
 {
-    book_layout::number_of(record(book, index))
+    field(book, index, place::NUMBER)
 }
 
 #[tactic(auto, unfolding(book_rules::specs::Book::level_of))]
@@ -161,14 +161,14 @@ pub fn level_of(book: &[u8], index: RecordIndex) -> u16
 pub fn activation_of(book: &[u8], index: RecordIndex) -> u16
     ensures { result ≡ activation_of book.now index.0 }
 {
-    book_layout::activation_year_of(record(book, index))
+    field(book, index, place::ACTIVATION_YEAR)
 }
 
 #[tactic(auto, unfolding(book_rules::specs::Book::open_year_of))]
 pub fn open_year_of(book: &[u8], index: RecordIndex) -> u16
     ensures { result ≡ open_year_of book.now index.0 }
 {
-    book_layout::open_year_of(record(book, index))
+    field(book, index, place::OPEN_YEAR)
 }
 
 // Of a record that the book has whole.
