@@ -1,4 +1,5 @@
 -- The answer by the look at the book, the sheet's header, the user found, the rules of the sheet's numbers, then the least addition.
+use Rattle.std.specs.Prelude.{Option}
 use Prim.Native.Nat.{ℕ, ◌-◌}
 use mathlib.Core.Path.{◌≡◌, refl, sym, ◌∙◌}
 use mathlib.Core.Bool.{true, false}
@@ -24,7 +25,7 @@ use Rattle.call_answers.specs.Answers.{AnsweredBy}
 use Rattle.call_answers.specs.InnerLooks.{LookedAt}
 use Rattle.call_answers.specs.Replies.{refused_with}
 use Rattle.call_answers.proofs.Answers.{refused-after, past-look, refuses}
-use Rattle.sheet_more_sun.specs.declared.Addition.{Addition}
+use Rattle.units.specs.declared.Kwh.{Kwh}
 use Rattle.sheet_more_sun.specs.MoreSun.{more_sun}
 use Rattle.call_more_sun.specs.declared.MoreSun.{MoreSun}
 use Rattle.call_more_sun.specs.InnerAnswers.{refused_sun}
@@ -107,7 +108,7 @@ module _ (b s : List ℕ) (month band : ℕ) {user : RecordIndex} {refusal : ℕ
     unfolding test_of
     passed = record { past11 = j.right; past13 = (not-true (refused13 s) (met 13), not-true (refused19 s) (met 19)) }
 
-    pub answers : (account : Account) → account ≡ account_at b user.0 → (added : Addition) → added ≡ more_sun s account.details (month - 1) (band - 1)
+    pub answers : (account : Account) → account ≡ account_at b user.0 → (added : Option Kwh) → added ≡ more_sun s account.details (month - 1) (band - 1)
         → Said b s month band (record { reply = refused_with 0; position = nowhere; addition = added })
     unfolding addition_answered more_sun_order record_named
     answers account read added is = (

@@ -1,13 +1,12 @@
 -- "How much more sun" (document 02, ticket 10) as a call on a book, which it only reads: its order of refusals and its answer.
 -- Months are 1–12 and bands 1–3, as callers count them.
-use Rattle.std.specs.Prelude.{ℕ, ◌-◌, Bool, not, ◌&&◌, ◌||◌, List, [], ◌∷◌, leb, eqb}
+use Rattle.std.specs.Prelude.{ℕ, ◌-◌, Bool, not, ◌&&◌, ◌||◌, List, [], ◌∷◌, leb, eqb, Option, None, cond}
 use Rattle.sheet.specs.YearSheet.{sheet_user, injected_reading, by_bands, refused11, refused13, refused19}
 use Rattle.book_rules.specs.Book.{length_fits, sound}
 use Rattle.call_rules.specs.Rules.{Rule, ◌unless◌}
 use Rattle.call_rules.specs.Refusals.{Look, look_at, present, user_at}
-use Rattle.sheet_more_sun.specs.declared.Addition.{Addition}
-use Rattle.sheet_more_sun.specs.declared.Addition.TheVariants as addition
-use Rattle.sheet_more_sun.specs.MoreSun.{pick, more_sun}
+use Rattle.units.specs.declared.Kwh.{Kwh}
+use Rattle.sheet_more_sun.specs.MoreSun.{more_sun}
 
 -- "a month or band that the reading doesn't have": "For a single reading the band must be the first."
 unfoldable pub has_field : List ℕ → (month band : ℕ) → Bool
@@ -28,6 +27,6 @@ more_sun_order b s month band =
     (1 unless length_fits b) ∷ (2 unless sound b) ∷ more_sun_rules (look_at b (sheet_user s)) s month band
 
 -- the least addition, "priced for the enrolled plant"; none beside a refusal
-unfoldable pub addition_answered : List ℕ → List ℕ → (month band refusal : ℕ) → Addition
+unfoldable pub addition_answered : List ℕ → List ℕ → (month band refusal : ℕ) → Option Kwh
 addition_answered b s month band refusal =
-    pick (eqb refusal 0) (more_sun s (user_at b (sheet_user s)).details (month - 1) (band - 1)) addition.None
+    cond (eqb refusal 0) (more_sun s (user_at b (sheet_user s)).details (month - 1) (band - 1)) None

@@ -12,15 +12,14 @@ ghost use Rattle.call_more_sun.specs.InnerObjections.{FieldObjected};
 use call_answers::Reply;
 use refusals::{NOWHERE, Position};
 use sheet::Objection;
-use sheet_more_sun::Addition;
-use units::RecordIndex;
+use units::{Kwh, RecordIndex};
 
 // The reply, after a refusal 13 or 19 where the number at fault stands, and the least addition.
 #[derive(Clone, Copy, Debug, PartialEq, Eq)]
 pub struct MoreSun {
     pub reply: Reply,
     pub position: Position,
-    pub addition: Addition,
+    pub addition: Option<Kwh>,
 }
 
 // 23: a month or a band that the reading does not have.
@@ -53,7 +52,7 @@ fn nothing_added(reply: Reply, position: Position) -> MoreSun
     MoreSun {
         reply,
         position,
-        addition: Addition::None,
+        addition: None,
     }
 }
 

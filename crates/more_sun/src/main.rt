@@ -6,8 +6,8 @@
 use call_answers::Reply;
 use output::{Failure, Printer};
 use refusals::Position;
-use sheet_more_sun::Addition;
 use std::fmt;
+use units::Kwh;
 
 const USAGE: &str = "give the file of a year sheet, and the book on standard input";
 
@@ -19,13 +19,13 @@ const PATH: usize = 4095;
 
 // The least addition to a band, at the right of its column.
 #[derive(Clone, Copy, Debug, PartialEq, Eq)]
-struct Column(Addition);
+struct Column(Option<Kwh>);
 
 impl fmt::Display for Column {
     fn fmt<W: fmt::Write>(&self, f: &mut fmt::Formatter<W>) -> fmt::Result {
         match self.0 {
-            Addition::Found(added) => write!(f, "{:>11}", added.0),
-            Addition::None => write!(f, "{:>11}", "-"),
+            Some(added) => write!(f, "{:>11}", added.0),
+            None => write!(f, "{:>11}", "-"),
         }
     }
 }

@@ -14,7 +14,6 @@ use listing_text::Listed;
 use output::{Failure, Printer};
 use refusals::{Position, Refusal};
 use replay_script::Request;
-use sheet_more_sun::Addition;
 use sheet_values::Details;
 use std::alloc::Global;
 use std::fmt::Display;
@@ -119,8 +118,8 @@ fn say_more_sun(out: &mut Printer, answer: MoreSun) -> Result<(), Failure> {
         return say_position(out, reply.refusal, answer.position);
     }
     match answer.addition {
-        Addition::Found(added) => say(out, reply.refusal, format_args!("1 {}", added.0)),
-        Addition::None => say(out, reply.refusal, "0 0"),
+        Some(added) => say(out, reply.refusal, format_args!("1 {}", added.0)),
+        None => say(out, reply.refusal, "0 0"),
     }
 }
 

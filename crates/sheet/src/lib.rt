@@ -9,8 +9,8 @@ ghost use Rattle.refusals.specs.Refusals.{position_at};
 ghost use Rattle.refusals.specs.declared.Refusal.TheVariants.{SheetForm};
 ghost use Rattle.sheet.specs.Objections.{objection_of, answer_to, Faulted, FaultTold};
 ghost use Rattle.sheet.specs.YearSheet.{sheet_length, sheet_user, sheet_year, withdrawn_reading, injected_reading, word, limit_at};
-ghost use Rattle.sheet.specs.YearSheet.{unused_band, at_fault, above_limit, stray_band, header_fits, last_words_fit, form_fits, version_zero};
-ghost use Rattle.sheet.specs.YearSheet.{point_zero, refused11, refused14, month_withdrawn, Past13, SheetPassed};
+ghost use Rattle.sheet.specs.YearSheet.{unused_band, at_fault, above_limit, stray_band, header_fits, last_words_fit, form_fits};
+ghost use Rattle.sheet.specs.YearSheet.{version_zero, point_zero, refused11, refused14, month_withdrawn, Past13, SheetPassed};
 
 use refusals::{NOWHERE, Position, Refusal};
 use tariff::MONTHLY_THRESHOLD;

@@ -1,4 +1,5 @@
 -- A sheet's least addition by the numbers that are read from it.
+use Rattle.std.specs.Prelude.{Option}
 use Prim.Native.Nat.{ℕ, ◌+◌, ◌-◌, ◌*◌, ◌≤◌, ◌<◌}
 use mathlib.Core.Path.{◌≡◌, refl, sym, ap, ap₂, ◌∙◌}
 use mathlib.Core.Bool.{Bool, true, false}
@@ -15,7 +16,7 @@ use Rattle.sheet_prices.specs.ValueAndCost.{cost_of, value_of}
 use Rattle.sheet_prices.proofs.SheetRows.{band-price-fits, single-price-fits}
 use Rattle.sheet_values.specs.declared.Details.{Details}
 use Rattle.sheet_values.specs.YearsValues.{on_island, is_photovoltaic}
-use Rattle.sheet_more_sun.specs.declared.Addition.{Addition}
+use Rattle.units.specs.declared.Kwh.{Kwh}
 use Rattle.sheet_more_sun.specs.MoreSun.{additions, covers_cost, more_sun, FieldStands}
 use Rattle.sheet_more_sun.specs.Laws.{IsLeast}
 use Rattle.sheet_more_sun.specs.InnerSteps.{InLimits, comes_to, field_price}
@@ -57,7 +58,7 @@ module _ (s : List ℕ) (passed : SheetPassed s) (d : Details) (m band : ℕ) (s
         ap₂ leb (ap (λ (t : Ticks). t.0) worked.is)
         (ap₂ (λ (v p : ℕ). v + x * p) (ap (λ (t : Ticks). t.0) valued.is) priced.is ∙ sym raised)
 
-    pub answered : (r : Addition) → IsLeast (max_kwh + 1 - field) (comes_to cost.0 value.0 price.0) r → r ≡ more_sun s d m band
+    pub answered : (r : Option Kwh) → IsLeast (max_kwh + 1 - field) (comes_to cost.0 value.0 price.0) r → r ≡ more_sun s d m band
     unfolding more_sun
     answered r h =
         least-is (additions s m band) (covers_cost s d m band) r

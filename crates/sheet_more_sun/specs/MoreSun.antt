@@ -1,6 +1,6 @@
 -- "How much more sun" (document 02, ticket 10): what injection would bring C to O or above. As in the sheet's definitions,
 -- months and bands are counted from 0.
-use Rattle.std.specs.Prelude.{ℕ, ◌+◌, ◌-◌, ◌*◌, ◌<◌, ◌≡◌, Bool, true, false, List, leb}
+use Rattle.std.specs.Prelude.{ℕ, ◌+◌, ◌-◌, ◌*◌, ◌<◌, ◌≡◌, Bool, false, List, leb, Option, Some, None, cond}
 use Rattle.units.specs.Units.{kwh}
 use Rattle.units.specs.Limits.{max_kwh}
 use Rattle.units.specs.Folds.{any_below, first_below}
@@ -9,8 +9,7 @@ use Rattle.sheet.specs.YearSheet.{injected_reading, by_bands, injected}
 use Rattle.sheet_prices.specs.ValueAndCost.{cost_of, value_of}
 use Rattle.sheet_values.specs.declared.Details.{Details}
 use Rattle.sheet_values.specs.YearsValues.{on_island, is_photovoltaic}
-use Rattle.sheet_more_sun.specs.declared.Addition.{Addition}
-use Rattle.sheet_more_sun.specs.declared.Addition.TheVariants as addition
+use Rattle.units.specs.declared.Kwh.{Kwh}
 
 -- "The added energy changes that one field only": the sheet with so many kWh more in the injected field of a month and a band
 unfoldable pub with_more : List ℕ → (m band added : ℕ) → List ℕ
@@ -25,16 +24,12 @@ abbrev pub additions : List ℕ → (m band : ℕ) → ℕ
 additions s m band = max_kwh + 1 - injected s m band
 
 -- the smallest number below n that passes a test, or none
-abbrev pub pick : Bool → Addition → Addition → Addition
-pick true a b = a
-pick false a b = b
-
-unfoldable pub least_below : ℕ → (ℕ → Bool) → Addition
-least_below n test = pick (any_below n test) (addition.Found (kwh (first_below n test))) addition.None
+unfoldable pub least_below : ℕ → (ℕ → Bool) → Option Kwh
+least_below n test = cond (any_below n test) (Some (kwh (first_below n test))) None
 
 -- "For a sheet, a month and a band, we want the least added kWh which does this, or the answer that none does within the
 -- 20,000,000 limit."
-unfoldable pub more_sun : List ℕ → Details → (m band : ℕ) → Addition
+unfoldable pub more_sun : List ℕ → Details → (m band : ℕ) → Option Kwh
 more_sun s d m band = least_below (additions s m band) (covers_cost s d m band)
 
 -- a field that the reading has: "For a single reading the band must be the first."

@@ -10,15 +10,10 @@ ghost use Rattle.sheet_more_sun.specs.MoreSun.{FieldStands, more_sun};
 ghost use Rattle.sheet_more_sun.specs.Laws.{IsLeast};
 ghost use Rattle.sheet_more_sun.specs.InnerSteps.{LeastWorth, InLimits, comes_to, field_price};
 
+use sheet::{PassedSheet, Sheet};
+use sheet_prices::Series;
 use sheet_values::Details;
 use units::{Kwh, MAX_KWH, Rate, Ticks, WideKwh};
-
-// The least addition, or none within the field's limit.
-#[derive(Clone, Copy, Debug, PartialEq, Eq)]
-pub enum Addition {
-    Found(Kwh),
-    None,
-}
 
 // The least energy that is worth an amount at a price.
 fn worth(amount: Ticks, price: Rate) -> WideKwh
@@ -33,47 +28,64 @@ fn room_in(field: Kwh) -> u64
     requires { field.0 ≤ max_kwh }
     ensures { result ≡ max_kwh - field.0 }
 {
-    (MAX_KWH - field.0) as u64
+    u64::from(MAX_KWH - field.0)
 }
 
 // The price of a field, "for the enrolled plant".
-fn price_of(s: &[u8], details: Details, month: usize, band: usize) -> Rate
-    requires sheet_passed { SheetPassed s.now }
-    requires field_stands { FieldStands s.now month band }
-    ensures { NumberWithin (field_price s.now details month band) max_price result.0 }
+fn price_of(sheet: PassedSheet<'_>, details: Details, month: usize, band: usize) -> Rate
+    requires field_stands { FieldStands sheet.bytes.now month band }
+    ensures { NumberWithin (field_price sheet.entry.bytes.now details month band) max_price result.0 }
 {
-    let bands = sheet::injected_reading(s) == 1;
-    let prices = sheet_prices::price_row(s, bands, details.island == 1, details.plant == 1, month);
-    prices[band]
+    let bytes = sheet.bytes;
+    let bands = sheet::injected_reading(bytes) == 1;
+    let series = Series::of(bands, details.island == 1, details.plant == 1);
+    sheet_prices::price_row(bytes, series, month)[band]
 }
 
-// What is to be added to a field at its price, so that C comes to O.
-fn least_addition(cost: Ticks, value: Ticks, price: Rate, field: Kwh) -> Addition
+// The energy to be added to a field at its price, so that C comes to O; none that is within the field's limit does where there is none.
+fn least_for(cost: Ticks, value: Ticks, price: Rate, field: Kwh) -> Option<Kwh>
     requires { InLimits cost.0 value.0 price.0 field.0 }
     ensures { IsLeast (max_kwh + 1 - field.0) (comes_to cost.0 value.0 price.0) result }
 {
-    if cost.0 <= value.0 {
-        return Addition::Found(Kwh(0));
+    if cost <= value {
+        return Some(Kwh(0));
     }
     if price.0 == 0 {
-        return Addition::None;
+        return None;
     }
     let added = worth(Ticks(cost.0 - value.0), price);
     if room_in(field) < added.0 {
-        return Addition::None;
+        return None;
     }
-    Addition::Found(Kwh(added.0 as u32))
+    Some(Kwh(added.0 as u32))
 }
 
-// The least addition to the injected field of a month and a band, for a user with these details.
-pub fn more_sun(s: &[u8], details: Details, month: usize, band: usize) -> Addition
+// The least addition to the injected field of a month and a band, counted from 0, for a user with these details; none where no addition
+// within the field's limit brings C to O.
+pub fn least_addition(
+    sheet: PassedSheet<'_>,
+    details: Details,
+    month: usize,
+    band: usize,
+) -> Option<Kwh>
+    requires field_stands { FieldStands sheet.bytes.now month band }
+    ensures { result ≡ more_sun sheet.entry.bytes.now details month band }
+{
+    let bytes = sheet.bytes;
+    let price = price_of(sheet, details, month, band);
+    let field = Kwh(sheet::number(bytes, month as u8, 3 + band as u8));
+    let cost = sheet_prices::cost(sheet);
+    let value = sheet_prices::value(sheet, details.island == 1, details.plant == 1);
+    least_for(cost, value, price, field)
+}
+
+// The same of the bytes of a sheet that has passed.
+#[tactic(auto, using(sheet::proofs::Limits::passed_length))]
+pub fn more_sun(s: &[u8], details: Details, month: usize, band: usize) -> Option<Kwh>
     requires sheet_passed { SheetPassed s.now }
     requires field_stands { FieldStands s.now month band }
     ensures { result ≡ more_sun s.now details month band }
 {
-    let price = price_of(s, details, month, band);
-    let field = Kwh(sheet::number_at(s, month, 3 + band));
-    let cost = sheet_prices::cost(s);
-    let value = sheet_prices::value(s, details.island == 1, details.plant == 1);
-    least_addition(cost, value, price, field)
+    let bytes = <&Sheet>::try_from(s).unwrap();
+    least_addition(PassedSheet { bytes }, details, month, band)
 }

@@ -1,18 +1,19 @@
 -- The prices of a month as they stand in the parts of the sheet that are lent.
-use Prim.Native.Nat.{ℕ, ◌+◌, ◌-◌, ◌*◌, ◌≤◌, ◌<◌}
-use mathlib.Core.Path.{◌≡◌, ap, ◌∙◌}
-use mathlib.Core.Bool.{Bool, true, false, cond}
+use Prim.Native.Nat.{ℕ, ◌+◌, ◌-◌, ◌*◌, ◌≤◌}
+use mathlib.Core.Path.{◌≡◌, refl, ap, sym, ◌∙◌}
+use mathlib.Core.Bool.{Bool, true, false, true≢false}
+use mathlib.Core.Logic.{◌⊎◌, ⊎_elim}
 use mathlib.Core.List.{List, [], ◌∷◌}
 use native.Mathlib.Omega.{arith}
 use lib.ListN.{take, drop}
-use lib.Dec.{lit<}
 use Rattle.units.specs.declared.Rate.{Rate}
 use Rattle.units.specs.Units.{rate}
 use Rattle.codec.specs.Bytes.{part, number}
 use Rattle.codec.proofs.Numbers.{number-part}
 use Rattle.sheet.specs.YearSheet.{word}
-use Rattle.sheet_prices.specs.ValueAndCost.{band_price, single_price}
-use Rattle.sheet_prices.specs.InnerArrays.{price_row}
+use Rattle.sheet_prices.specs.declared.Series.{Series}
+use Rattle.sheet_prices.specs.declared.Series.TheVariants.{PunBands, PunMean, ZoneBands, ZoneMean, ZoneDayMean}
+use Rattle.sheet_prices.specs.InnerArrays.{series_part, prices_in}
 
 -- where the month's PUN series (places 6–9) begins, and its zone series (places 10–14)
 abbrev pun_from : ℕ → ℕ
@@ -42,31 +43,41 @@ word-in-part s m place n k at o o' h l e =
     ∙ number-part 4 (o + o') n at s (omega arith)
     ∙ ap (λ (i : ℕ). number 4 i s) (let sum : at + (o + o') ≡ 32 + 96 * m + 4 * place = omega arith in sum)
 
-band-price : (s : List ℕ) (island : Bool) (m b : ℕ) → b < 3
-    → number 4 (4 * b) (cond island (part 12 0 (pun_part s m)) (part 12 0 (zone_part s m))) ≡ band_price s island m b
-unfolding band_price
-band-price s true m b h = word-in-part s m (6 + b) 16 12 (pun_from m) 0 (4 * b) (omega arith) (omega arith) (omega arith)
-band-price s false m b h =
-    word-in-part s m (10 + b) 20 12 (zone_from m) 0 (4 * b) (omega arith) (omega arith) (omega arith)
+-- the prices of a series, from the part of it that was lent
+abbrev SeriesPart : List ℕ → Series → ℕ → List ℕ → Type 0
+SeriesPart s series m prices = prices ≡ series_part series (zone_part s m) (pun_part s m)
 
-single-price : (s : List ℕ) (island photovoltaic : Bool) (m : ℕ)
-    → number 4 0 (cond island (part 4 12 (pun_part s m)) (cond photovoltaic (part 4 16 (zone_part s m)) (part 4 12 (zone_part s m))))
-    ≡ single_price s island photovoltaic m
-unfolding single_price
-single-price s true p m = word-in-part s m 9 16 4 (pun_from m) 12 0 (omega arith) (omega arith) (omega arith)
-single-price s false true m = word-in-part s m 14 20 4 (zone_from m) 16 0 (omega arith) (omega arith) (omega arith)
-single-price s false false m = word-in-part s m 13 20 4 (zone_from m) 12 0 (omega arith) (omega arith) (omega arith)
+has_bands : Series → Bool
+has_bands PunBands = true
+has_bands PunMean = false
+has_bands ZoneBands = true
+has_bands ZoneMean = false
+has_bands ZoneDayMean = false
 
--- the row of prices, from the part that was lent
-pub row-by-bands : (s prices : List ℕ) (island photovoltaic : Bool) (m : ℕ) (r₀ r₁ r₂ : Rate)
-    → prices ≡ cond island (part 12 0 (pun_part s m)) (part 12 0 (zone_part s m))
-    → r₀ ≡ rate (number 4 0 prices) → r₁ ≡ rate (number 4 4 prices) → r₂ ≡ rate (number 4 8 prices)
-    → r₀ ∷ r₁ ∷ r₂ ∷ [] ≡ price_row s true island photovoltaic m
-row-by-bands s prices island photovoltaic m r₀ r₁ r₂ e e₀ e₁ e₂ =
-    cc (band-price s island m 0 (lit< tt), band-price s island m 1 (lit< tt), band-price s island m 2 (lit< tt))
+pub row-by-bands : (s prices : List ℕ) (series : Series) (m : ℕ) (r₀ r₁ r₂ : Rate) → (series ≡ PunBands) ⊎ (series ≡ ZoneBands) → SeriesPart s series m prices
+    → r₀ ≡ rate (number 4 (4 * 0) prices) → r₁ ≡ rate (number 4 (4 * 1) prices) → r₂ ≡ rate (number 4 (4 * 2) prices)
+    → r₀ ∷ r₁ ∷ r₂ ∷ [] ≡ prices_in s series m
+unfolding has_bands
+row-by-bands s prices PunBands m r₀ r₁ r₂ is e e₀ e₁ e₂ =
+    cc (
+      word-in-part s m 6 16 12 (pun_from m) 0 0 (omega arith) (omega arith) (omega arith),
+      word-in-part s m 7 16 12 (pun_from m) 0 4 (omega arith) (omega arith) (omega arith),
+      word-in-part s m 8 16 12 (pun_from m) 0 8 (omega arith) (omega arith) (omega arith),
+    )
+row-by-bands s prices ZoneBands m r₀ r₁ r₂ is e e₀ e₁ e₂ =
+    cc (
+      word-in-part s m 10 20 12 (zone_from m) 0 0 (omega arith) (omega arith) (omega arith),
+      word-in-part s m 11 20 12 (zone_from m) 0 4 (omega arith) (omega arith) (omega arith),
+      word-in-part s m 12 20 12 (zone_from m) 0 8 (omega arith) (omega arith) (omega arith),
+    )
+row-by-bands s prices PunMean m r₀ r₁ r₂ is e e₀ e₁ e₂ = absurd (⊎_elim (λ q. true≢false (sym (ap has_bands q))) (λ q. true≢false (sym (ap has_bands q))) is)
+row-by-bands s prices ZoneMean m r₀ r₁ r₂ is e e₀ e₁ e₂ = absurd (⊎_elim (λ q. true≢false (sym (ap has_bands q))) (λ q. true≢false (sym (ap has_bands q))) is)
+row-by-bands s prices ZoneDayMean m r₀ r₁ r₂ is e e₀ e₁ e₂ = absurd (⊎_elim (λ q. true≢false (sym (ap has_bands q))) (λ q. true≢false (sym (ap has_bands q))) is)
 
-pub row-of-one : (s price : List ℕ) (island photovoltaic : Bool) (m : ℕ) (r : Rate)
-    → price ≡ cond island (part 4 12 (pun_part s m)) (cond photovoltaic (part 4 16 (zone_part s m)) (part 4 12 (zone_part s m)))
-    → r ≡ rate (number 4 0 price)
-    → r ∷ rate 0 ∷ rate 0 ∷ [] ≡ price_row s false island photovoltaic m
-row-of-one s price island photovoltaic m r e e' = cc (single-price s island photovoltaic m)
+pub row-of-one : (s prices : List ℕ) (series : Series) (m : ℕ) (r : Rate) → (series ≡ PunBands → ⊥) → (series ≡ ZoneBands → ⊥) → SeriesPart s series m prices
+    → r ≡ rate (number 4 (4 * 0) prices) → r ∷ rate 0 ∷ rate 0 ∷ [] ≡ prices_in s series m
+row-of-one s prices PunBands m r pun zone e e' = absurd (pun refl)
+row-of-one s prices ZoneBands m r pun zone e e' = absurd (zone refl)
+row-of-one s prices PunMean m r pun zone e e' = cc (word-in-part s m 9 16 4 (pun_from m) 12 0 (omega arith) (omega arith) (omega arith))
+row-of-one s prices ZoneMean m r pun zone e e' = cc (word-in-part s m 13 20 4 (zone_from m) 12 0 (omega arith) (omega arith) (omega arith))
+row-of-one s prices ZoneDayMean m r pun zone e e' = cc (word-in-part s m 14 20 4 (zone_from m) 16 0 (omega arith) (omega arith) (omega arith))

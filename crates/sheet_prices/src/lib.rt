@@ -2,106 +2,171 @@
 // 01, "Year's values").
 #![tactic(auto)]
 
-ghost use Rattle.std.specs.Prelude.{◌≡◌, cond, [], ℕ, ◌*◌, ◌<◌, ◌^◌, length, get_or};
+ghost use Rattle.std.specs.Prelude.{◌≡◌, [], ◌*◌, ◌≤◌, ◌<◌, ◌^◌, get_or};
 ghost use Rattle.units.specs.Units.{rate};
 ghost use Rattle.units.specs.Limits.{max_kwh, max_price, max_year_ticks};
 ghost use Rattle.units.specs.Folds.{sum_below};
-ghost use Rattle.codec.specs.Bytes.{part, number};
-ghost use Rattle.sheet.specs.YearSheet.{sheet_length, SheetPassed};
+ghost use Rattle.codec.specs.Bytes.{number};
 ghost use Rattle.units.specs.InnerWithin.{TicksWithin};
 ghost use Rattle.sheet_prices.specs.ValueAndCost.{cost_of, value_of};
-ghost use Rattle.sheet_prices.specs.InnerArrays.{energy_row, EnergyRows, price_row, PriceRows, RowFits, row_value};
+ghost use Rattle.sheet_prices.specs.InnerArrays.{first_place, energy_row, EnergyRows, EnergiesFit, row_value, RowFits};
+ghost use Rattle.sheet_prices.specs.InnerArrays.{series_of, series_part, prices_in, PriceRows, PricesFit};
 
+use sheet::{PassedSheet, Sheet};
 use units::{Kwh, Rate, Ticks};
 
-fn energy_row(s: &[u8], place: usize, month: usize) -> [Kwh; 3]
-    requires whole_sheet { length s.now ≡ sheet_length }
-    requires place_bound { (place < 22) × (month < 12) }
-    ensures { result ≡ energy_row s.now place month }
+// Energy withdrawn from the grid, or injected into it.
+#[derive(Clone, Copy, Debug, PartialEq, Eq)]
+pub enum Reading {
+    Withdrawn,
+    Injected,
+}
+
+// The series whose prices apply to a month's energy: of the whole grid (PUN) or of its zone, by band or as a mean, for a single reading.
+#[derive(Clone, Copy, Debug, PartialEq, Eq)]
+pub enum Series {
+    PunBands,
+    PunMean,
+    ZoneBands,
+    ZoneMean,
+    ZoneDayMean,
+}
+
+// The energies of a year, by month and band, each within its limit.
+#[derive(Clone, Copy, Debug, PartialEq, Eq)]
+pub struct Energies {
+    pub months: [[Kwh; 3]; 12],
+    ghost within: { EnergiesFit months },
+}
+
+// The prices of a year, by month and band, each within its limit.
+#[derive(Clone, Copy, Debug, PartialEq, Eq)]
+struct Prices {
+    months: [[Rate; 3]; 12],
+    ghost within: { PricesFit months },
+}
+
+impl Reading {
+    // The place of its F1 in a month.
+    fn first_place(self) -> u8
+        ensures is { result ≡ first_place self }
+        ensures most { result ≤ 3 }
+    {
+        match self {
+            Reading::Withdrawn => 0,
+            Reading::Injected => 3,
+        }
+    }
+}
+
+fn energy_row(s: &[u8], reading: Reading, month: u8) -> [Kwh; 3]
+    ensures { result ≡ energy_row s.now (first_place reading) month }
 {
+    let place = reading.first_place();
     [
-        Kwh(sheet::number_at(s, month, place)),
-        Kwh(sheet::number_at(s, month, place + 1)),
-        Kwh(sheet::number_at(s, month, place + 2)),
+        Kwh(sheet::number(s, month, place)),
+        Kwh(sheet::number(s, month, place + 1)),
+        Kwh(sheet::number(s, month, place + 2)),
     ]
 }
 
-// The energies of the year, by month and band, from a place of the month on.
-pub fn energies(s: &[u8], place: usize) -> [[Kwh; 3]; 12]
-    requires whole_sheet { length s.now ≡ sheet_length }
-    requires place_bound { place < 22 }
-    ensures { EnergyRows (energy_row s.now place) result }
+// The energies of a reading, by month and band, of any bytes.
+pub fn energy_rows(s: &[u8], reading: Reading) -> [[Kwh; 3]; 12]
+    ensures { EnergyRows (energy_row s.now (first_place reading)) result }
 {
-    let mut rows = [[Kwh(0), Kwh(0), Kwh(0)]; 12];
+    let mut rows = [[Kwh(0); 3]; 12];
     for month in 0..12 {
-        rows[month] = energy_row(s, place, month);
+        rows[usize::from(month)] = energy_row(s, reading, month);
     }
     rows
 }
 
-// The three-band part of the series that applies, of a month's PUN series (bands, mean) and zone series (bands, mean, mean
-// of hours 8–20).
-fn band_part<'a>(zone: &'a [u8], pun: &'a [u8], island: bool) -> &'a [u8]
-    requires { (length zone.now ≡ 20) × (length pun.now ≡ 16) }
-    ensures { result.now ≡ cond island (part 12 0 pun.now) (part 12 0 zone.now) }
-{
-    if island {
-        return &pun[0..12];
+impl Energies {
+    // The energies of a reading.
+    pub fn of(sheet: PassedSheet<'_>, reading: Reading) -> Energies
+        ensures { EnergyRows (energy_row sheet.entry.bytes.now (first_place reading)) result.months }
+    {
+        let bytes = sheet.bytes;
+        let months = energy_rows(bytes, reading);
+        Energies { months }
     }
-    &zone[0..12]
 }
 
-// The price of a single reading, of the same two series.
-fn single_part<'a>(zone: &'a [u8], pun: &'a [u8], island: bool, photovoltaic: bool) -> &'a [u8]
-    requires { (length zone.now ≡ 20) × (length pun.now ≡ 16) }
-    ensures { result.now ≡ cond island (part 4 12 pun.now)
-        (cond photovoltaic (part 4 16 zone.now) (part 4 12 zone.now)) }
-{
-    if island {
-        return &pun[12..16];
+impl Series {
+    // The series for a reading by bands or a single one, on an island, whose energy is priced by its PUN, or off it; the zone's mean of
+    // hours 8–20 is the price of a single photovoltaic plant.
+    pub fn of(bands: bool, island: bool, photovoltaic: bool) -> Series
+        ensures { result ≡ series_of bands island photovoltaic }
+    {
+        match (bands, island, photovoltaic) {
+            (true, true, _) => Series::PunBands,
+            (true, false, _) => Series::ZoneBands,
+            (false, true, _) => Series::PunMean,
+            (false, false, true) => Series::ZoneDayMean,
+            (false, false, false) => Series::ZoneMean,
+        }
     }
-    if photovoltaic {
-        return &zone[16..20];
-    }
-    &zone[12..16]
 }
 
-fn rate_at(s: &[u8], at: usize) -> Rate
-    requires { at < 2 ^ 40 }
-    ensures { result ≡ rate (number 4 at s.now) }
+// The part of a month's zone series (bands, mean, mean of hours 8–20) or PUN series (bands, mean) that applies.
+#[tactic(auto, unfolding(codec::specs::Bytes::part))]
+fn series_part<'a>(zone: &'a [u8; 20], pun: &'a [u8; 16], series: Series) -> &'a [u8]
+    ensures { result.now ≡ series_part series zone.now pun.now }
 {
-    Rate(u64::from(codec::read::<u32>(s, at)))
+    match series {
+        Series::PunBands => &pun[..12],
+        Series::PunMean => &pun[12..],
+        Series::ZoneBands => &zone[..12],
+        Series::ZoneMean => &zone[12..16],
+        Series::ZoneDayMean => &zone[16..],
+    }
+}
+
+fn rate_at(prices: &[u8], band: u8) -> Rate
+    ensures { result ≡ rate (number 4 (4 * band) prices.now) }
+{
+    Rate(u64::from(codec::read::<u32>(prices, 4 * usize::from(band))))
 }
 
 // The prices of a month, by band; the price of a single reading stands at F1.
-pub fn price_row(s: &[u8], bands: bool, island: bool, photovoltaic: bool, month: usize) -> [Rate; 3]
-    requires { (length s.now ≡ sheet_length) × (month < 12) }
-    ensures { result ≡ price_row s.now bands island photovoltaic month }
+pub fn price_row(sheet: &Sheet, series: Series, month: usize) -> [Rate; 3]
+    requires { month < 12 }
+    ensures { result ≡ prices_in sheet.now series month }
 {
-    let from = 32 + 96 * month + 24;
+    let from = sheet::HEADER + 96 * month + 24;
     let middle = from + 16;
     let to = middle + 20;
-    let pun = &s[from..middle];
-    let zone = &s[middle..to];
-    if bands {
-        let prices = band_part(zone, pun, island);
-        [rate_at(prices, 0), rate_at(prices, 4), rate_at(prices, 8)]
-    } else {
-        let price = single_part(zone, pun, island, photovoltaic);
-        [rate_at(price, 0), Rate(0), Rate(0)]
+    let pun = <&[u8; 16]>::try_from(&sheet[from..middle]).unwrap();
+    let zone = <&[u8; 20]>::try_from(&sheet[middle..to]).unwrap();
+    let prices = series_part(zone, pun, series);
+    match series {
+        Series::PunBands | Series::ZoneBands => {
+            [rate_at(prices, 0), rate_at(prices, 1), rate_at(prices, 2)]
+        }
+        _ => [rate_at(prices, 0), Rate(0), Rate(0)],
     }
 }
 
-// The prices of the year, by month and band.
-fn prices(s: &[u8], bands: bool, island: bool, photovoltaic: bool) -> [[Rate; 3]; 12]
-    requires { length s.now ≡ sheet_length }
-    ensures { PriceRows (price_row s.now bands island photovoltaic) result }
+// The prices of a series, by month and band.
+fn price_rows(sheet: &Sheet, series: Series) -> [[Rate; 3]; 12]
+    ensures { PriceRows (prices_in sheet.now series) result }
 {
-    let mut rows = [[Rate(0), Rate(0), Rate(0)]; 12];
+    let mut rows = [[Rate(0); 3]; 12];
     for month in 0..12 {
-        rows[month] = price_row(s, bands, island, photovoltaic, month);
+        rows[month] = price_row(sheet, series, month);
     }
     rows
+}
+
+impl Prices {
+    // The prices of a series.
+    fn of(sheet: PassedSheet<'_>, series: Series) -> Prices
+        ensures { PriceRows (prices_in sheet.entry.bytes.now series) result.months }
+    {
+        let bytes = sheet.bytes;
+        let months = price_rows(bytes, series);
+        Prices { months }
+    }
 }
 
 // Energy times price over the bands of a month.
@@ -112,36 +177,43 @@ fn row_value(energy: [Kwh; 3], prices: [Rate; 3]) -> Ticks
     let f1 = units::priced(energy[0], prices[0]);
     let f2 = units::priced(energy[1], prices[1]);
     let f3 = units::priced(energy[2], prices[2]);
-    Ticks(f1.0 + f2.0 + f3.0)
+    f1 + f2 + f3
 }
 
 // The same over the year.
-fn year_value(energy: [[Kwh; 3]; 12], prices: [[Rate; 3]; 12]) -> Ticks
-    requires { (m : ℕ) → m < 12 → RowFits (get_or energy m []) (get_or prices m []) }
-    ensures { TicksWithin (sum_below 12 (λ m. row_value (get_or energy m []) (get_or prices m []))) max_year_ticks result }
+fn year_value(energies: Energies, prices: Prices) -> Ticks
+    ensures { TicksWithin (sum_below 12 (λ m. row_value (get_or energies.months m []) (get_or prices.months m [])))
+        max_year_ticks result }
 {
-    let mut sum: u64 = 0;
+    let mut sum = Ticks(0);
     for month in 0..12 {
-        let value = row_value(energy[month], prices[month]);
-        sum = sum + value.0;
+        sum += row_value(energies.months[month], prices.months[month]);
     }
-    Ticks(sum)
+    sum
 }
 
 // "O: withdrawn times PUN, by band or by mean, summed over the months."
-pub fn cost(s: &[u8]) -> Ticks
-    requires { SheetPassed s.now }
-    ensures { TicksWithin (cost_of s.now) max_year_ticks result }
+pub fn cost(sheet: PassedSheet<'_>) -> Ticks
+    ensures { TicksWithin (cost_of sheet.entry.bytes.now) max_year_ticks result }
 {
-    let bands = sheet::withdrawn_reading(s) == 1;
-    year_value(energies(s, 0), prices(s, bands, true, false))
+    let bytes = sheet.bytes;
+    let bands = sheet::withdrawn_reading(bytes) == 1;
+    let series = Series::of(bands, true, false);
+    year_value(
+        Energies::of(sheet, Reading::Withdrawn),
+        Prices::of(sheet, series),
+    )
 }
 
 // "C: injected times zone price by band", or its PUN price on an island.
-pub fn value(s: &[u8], island: bool, photovoltaic: bool) -> Ticks
-    requires { SheetPassed s.now }
-    ensures { TicksWithin (value_of s.now island photovoltaic) max_year_ticks result }
+pub fn value(sheet: PassedSheet<'_>, island: bool, photovoltaic: bool) -> Ticks
+    ensures { TicksWithin (value_of sheet.entry.bytes.now island photovoltaic) max_year_ticks result }
 {
-    let bands = sheet::injected_reading(s) == 1;
-    year_value(energies(s, 3), prices(s, bands, island, photovoltaic))
+    let bytes = sheet.bytes;
+    let bands = sheet::injected_reading(bytes) == 1;
+    let series = Series::of(bands, island, photovoltaic);
+    year_value(
+        Energies::of(sheet, Reading::Injected),
+        Prices::of(sheet, series),
+    )
 }

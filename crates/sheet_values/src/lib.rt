@@ -5,13 +5,16 @@ ghost use Rattle.std.specs.Prelude.{◌≡◌, [], ℕ, ◌+◌, ◌*◌, ◌≤
 ghost use Rattle.units.specs.Units.{kwh};
 ghost use Rattle.units.specs.Limits.{max_kwh, max_price, max_tier_rate, max_flat_rate};
 ghost use Rattle.units.specs.Folds.{sum_below, any_below};
-ghost use Rattle.tariff.specs.Tariff.{monthly_threshold, monthly_tiers, annual_tiers, mean_rate, flat_rate_of};
+ghost use Rattle.tariff.specs.Tariff.{monthly_threshold, mean_rate};
 ghost use Rattle.sheet.specs.YearSheet.{SheetPassed, month_withdrawn, word};
 ghost use Rattle.sheet_prices.specs.InnerArrays.{energy_at, row_total};
 ghost use Rattle.units.specs.InnerWithin.{NumberWithin, KwhWithin, RateWithin, TicksWithin};
-ghost use Rattle.sheet_values.specs.YearsValues.{month_injected, month_exchanged, month_rate, annual_rate, month_flat_rate, flat_rate_over};
-ghost use Rattle.sheet_values.specs.InnerArrays.{Months, Rates, ValuesWorked};
+ghost use Rattle.sheet_values.specs.YearsValues.{month_injected, month_exchanged, month_rate, annual_rate, month_flat_rate};
+ghost use Rattle.sheet_values.specs.YearsValues.{annual_flat_rate, flat_rate_over};
+ghost use Rattle.sheet_values.specs.InnerArrays.{Months, MonthsFit, Rates, ValuesWorked, month_energy};
 
+use sheet::{PassedSheet, Sheet};
+use sheet_prices::{Energies, Reading};
 use tariff::{MONTHLY_THRESHOLD, Plant};
 use units::{Kwh, Rate, Ticks};
 
@@ -37,6 +40,55 @@ pub struct YearValues {
     pub half2: Kwh,
 }
 
+// A month of the year, counted from 0.
+#[derive(Clone, Copy, Debug, PartialEq, Eq)]
+struct Month {
+    index: u8,
+    ghost of_year: { index < 12 },
+}
+
+// Months of the year, one after another.
+#[derive(Clone, Copy, Debug, PartialEq, Eq)]
+struct Stretch {
+    from: u8,
+    count: u8,
+    ghost some: { 0 < count },
+    ghost of_year: { from + count ≤ 12 },
+}
+
+const YEAR: Stretch = Stretch { from: 0, count: 12 };
+
+const FIRST_HALF: Stretch = Stretch { from: 0, count: 6 };
+
+const SECOND_HALF: Stretch = Stretch { from: 6, count: 6 };
+
+// A place of a month at which a rate stands.
+#[derive(Clone, Copy, Debug, PartialEq, Eq)]
+struct Column {
+    place: u8,
+    ghost of_rates: { (6 ≤ place) × (place < 23) },
+}
+
+// An energy for each month of the year, none above what three bands hold.
+#[derive(Clone, Copy, Debug, PartialEq, Eq)]
+struct MonthlyKwh {
+    months: [Kwh; 12],
+    ghost within: { MonthsFit months },
+}
+
+// A sheet with its months' energies: withdrawn, injected, and the smaller of the two.
+#[derive(Clone, Copy)]
+struct YearEnergies<'a> {
+    sheet: PassedSheet<'a>,
+    withdrawn: MonthlyKwh,
+    injected: MonthlyKwh,
+    exchanged: MonthlyKwh,
+    ghost withdrawn_are: { Months (month_withdrawn sheet.bytes.now) withdrawn.months },
+    ghost injected_are: { Months (month_injected sheet.bytes.now) injected.months },
+    ghost exchanged_are: { Months (month_exchanged sheet.bytes.now) exchanged.months },
+}
+
+#[tactic(auto, unfolding(sheet_prices::specs::InnerArrays::row_total))]
 fn row_total(energy: [Kwh; 3]) -> Kwh
     requires { (energy_at 0 energy ≤ max_kwh) × ((energy_at 1 energy ≤ max_kwh) × (energy_at 2 energy ≤ max_kwh)) }
     ensures { result ≡ kwh (row_total energy) }
@@ -44,22 +96,17 @@ fn row_total(energy: [Kwh; 3]) -> Kwh
     Kwh(energy[0].0 + energy[1].0 + energy[2].0)
 }
 
-// The energy of each month.
-fn month_totals(energy: [[Kwh; 3]; 12]) -> [Kwh; 12]
-    requires { (m : ℕ) → m < 12
-        → (energy_at 0 (get_or energy m []) ≤ max_kwh)
-        × ((energy_at 1 (get_or energy m []) ≤ max_kwh) × (energy_at 2 (get_or energy m []) ≤ max_kwh)) }
-    ensures { (m : ℕ) → m < 12 → get_or result m (kwh 0) ≡ kwh (row_total (get_or energy m [])) }
+fn totals_of(energies: Energies) -> [Kwh; 12]
+    ensures { (m : ℕ) → m < 12 → get_or result m (kwh 0) ≡ kwh (row_total (get_or energies.months m [])) }
 {
     let mut totals = [Kwh(0); 12];
     for month in 0..12 {
-        totals[month] = row_total(energy[month]);
+        totals[month] = row_total(energies.months[month]);
     }
     totals
 }
 
-// The smaller of withdrawn and injected energy, month by month.
-fn exchanged(withdrawn: [Kwh; 12], injected: [Kwh; 12]) -> [Kwh; 12]
+fn smaller_of(withdrawn: [Kwh; 12], injected: [Kwh; 12]) -> [Kwh; 12]
     ensures { (m : ℕ) → m < 12 → get_or result m (kwh 0) ≡ kwh (min (energy_at m withdrawn) (energy_at m injected)) }
 {
     let mut months = [Kwh(0); 12];
@@ -69,214 +116,219 @@ fn exchanged(withdrawn: [Kwh; 12], injected: [Kwh; 12]) -> [Kwh; 12]
     months
 }
 
-// The energy of a stretch of months.
-fn energy_over(months: [Kwh; 12], from: usize, count: usize) -> Kwh
-    requires { (from + count ≤ 12) × ((m : ℕ) → m < 12 → energy_at m months ≤ 3 * max_kwh) }
-    ensures { KwhWithin (sum_below count (λ i. energy_at (from + i) months)) (3 * max_kwh * count) result }
-{
-    let mut sum: u32 = 0;
-    for i in 0..count {
-        let month = months[from + i];
-        sum = sum + month.0;
+impl MonthlyKwh {
+    // The energy of each month.
+    fn of(sheet: PassedSheet<'_>, reading: Reading) -> MonthlyKwh
+        ensures { Months (month_energy reading sheet.entry.bytes.now) result.months }
+    {
+        let months = totals_of(Energies::of(sheet, reading));
+        MonthlyKwh { months }
     }
-    Kwh(sum)
-}
 
-// The energy withdrawn in each month.
-fn withdrawn(s: &[u8]) -> [Kwh; 12]
-    requires { SheetPassed s.now }
-    ensures { Months (month_withdrawn s.now) result }
-{
-    month_totals(sheet_prices::energies(s, 0))
-}
-
-// The energy injected in each month.
-fn injected(s: &[u8]) -> [Kwh; 12]
-    requires { SheetPassed s.now }
-    ensures { Months (month_injected s.now) result }
-{
-    month_totals(sheet_prices::energies(s, 3))
-}
-
-// "some month's withdrawal is above 4,000,000", in a stretch of months.
-fn some_month_above(months: [Kwh; 12], from: usize, count: usize) -> bool
-    requires { from + count ≤ 12 }
-    ensures { result ≡ any_below count (λ i. ltb monthly_threshold (energy_at (from + i) months)) }
-{
-    let mut above = false;
-    for i in 0..count {
-        let month = months[from + i];
-        above = above | (MONTHLY_THRESHOLD < month.0);
+    fn at(self, month: Month) -> Kwh
+        ensures is { result ≡ get_or self.months month.index (kwh 0) }
+        ensures most { result.0 ≤ 3 * max_kwh }
+    {
+        self.months[usize::from(month.index)]
     }
-    above
+
+    // The energy of a stretch of months.
+    fn over(self, stretch: Stretch) -> Kwh
+        ensures { KwhWithin (sum_below stretch.count (λ i. energy_at (stretch.from + i) self.months)) (3 * max_kwh * stretch.count) result }
+    {
+        let mut sum = 0;
+        for i in 0..stretch.count {
+            sum += self.at(stretch.month(i)).0;
+        }
+        Kwh(sum)
+    }
+
+    // "some month's withdrawal is above 4,000,000", in a stretch of months.
+    fn some_above(self, stretch: Stretch) -> bool
+        ensures { result ≡ any_below stretch.count (λ i. ltb monthly_threshold (energy_at (stretch.from + i) self.months)) }
+    {
+        let mut above = false;
+        for i in 0..stretch.count {
+            above = above | (MONTHLY_THRESHOLD < self.at(stretch.month(i)).0);
+        }
+        above
+    }
 }
 
-// A rate of the sheet, at a place of a month.
-fn rate_at(s: &[u8], month: usize, place: usize) -> Rate
-    requires sheet_passed { SheetPassed s.now }
-    requires month_bound { (month < 12) × ((6 ≤ place) × (place < 23)) }
-    ensures { RateWithin (word s.now month place) max_price result }
+impl Stretch {
+    fn month(self, i: u8) -> Month
+        requires { i < self.count }
+        ensures { result.index ≡ self.from + i }
+    {
+        Month {
+            index: self.from + i,
+        }
+    }
+}
+
+impl Column {
+    // Of a tier, counted from 0.
+    fn net(tier: u8) -> Column
+        requires { tier < 4 }
+        ensures { result.place ≡ 15 + tier }
+    {
+        Column { place: 15 + tier }
+    }
+
+    fn system(tier: u8) -> Column
+        requires { tier < 4 }
+        ensures { result.place ≡ 19 + tier }
+    {
+        Column { place: 19 + tier }
+    }
+}
+
+// A rate of the sheet.
+fn rate_at(sheet: PassedSheet<'_>, month: Month, column: Column) -> Rate
+    ensures { RateWithin (word sheet.entry.bytes.now month.index column.place) max_price result }
 {
-    Rate(sheet::number_at(s, month, place) as u64)
+    let bytes = sheet.bytes;
+    Rate(u64::from(sheet::number(bytes, month.index, column.place)))
 }
 
 // The tier rates of a month.
-fn month_rates(s: &[u8], month: usize, plant: Plant) -> [Rate; 4]
-    requires sheet_passed { SheetPassed s.now }
-    requires month_bound { month < 12 }
-    ensures { Rates (month_rate s.now plant.kind plant.power month) result }
+#[tactic(auto, unfolding(crate::specs::YearsValues::month_rate))]
+fn month_rates(sheet: PassedSheet<'_>, month: Month, plant: Plant) -> [Rate; 4]
+    ensures { Rates (month_rate sheet.entry.bytes.now plant.kind plant.power month.index) result }
 {
     let mut rates = [Rate(0); 4];
     for tier in 0..4 {
-        let net = rate_at(s, month, 15 + tier);
-        let system = rate_at(s, month, 19 + tier);
-        rates[tier] = plant.tier_rate(net, system);
+        let net = rate_at(sheet, month, Column::net(tier));
+        let system = rate_at(sheet, month, Column::system(tier));
+        rates[usize::from(tier)] = plant.tier_rate(net, system);
     }
     rates
 }
 
 // A rate of the sheet, summed over a stretch of months.
-fn rate_over(s: &[u8], place: usize, from: usize, count: usize) -> Rate
-    requires sheet_passed { SheetPassed s.now }
-    requires column_place { (6 ≤ place) × (place < 23) }
-    requires months_of_year { from + count ≤ 12 }
-    ensures { RateWithin (sum_below count (λ i. word s.now (from + i) place)) (max_price * count) result }
+fn rate_over(sheet: PassedSheet<'_>, column: Column, stretch: Stretch) -> Rate
+    ensures { RateWithin (sum_below stretch.count (λ i. word sheet.entry.bytes.now (stretch.from + i) column.place))
+        (max_price * stretch.count) result }
 {
-    let mut sum: u64 = 0;
-    for i in 0..count {
-        let month = rate_at(s, from + i, place);
-        sum = sum + month.0;
+    let mut sum = 0;
+    for i in 0..stretch.count {
+        sum += rate_at(sheet, stretch.month(i), column).0;
     }
     Rate(sum)
 }
 
 // "each annual rate .. is the sum of twelve divided by 12, halves up".
-fn mean_over(s: &[u8], place: usize, from: usize, count: usize) -> Rate
-    requires sheet_passed { SheetPassed s.now }
-    requires column_place { (6 ≤ place) × (place < 23) }
-    requires months_of_year { (0 < count) × (from + count ≤ 12) }
-    ensures { RateWithin (mean_rate count (sum_below count (λ i. word s.now (from + i) place))) max_price result }
+fn mean_over(sheet: PassedSheet<'_>, column: Column, stretch: Stretch) -> Rate
+    ensures { RateWithin (mean_rate stretch.count
+        (sum_below stretch.count (λ i. word sheet.entry.bytes.now (stretch.from + i) column.place))) max_price result }
 {
-    tariff::mean_rate(rate_over(s, place, from, count), count as u64)
+    tariff::mean_rate(rate_over(sheet, column, stretch), u64::from(stretch.count))
 }
 
 // The tier rates of the annual method, "net and system apart".
-fn annual_rates(s: &[u8], from: usize, count: usize, plant: Plant) -> [Rate; 4]
-    requires sheet_passed { SheetPassed s.now }
-    requires months_of_year { (0 < count) × (from + count ≤ 12) }
-    ensures { Rates (annual_rate s.now plant.kind plant.power from count) result }
+#[tactic(auto, unfolding(crate::specs::YearsValues::annual_rate))]
+fn annual_rates(sheet: PassedSheet<'_>, stretch: Stretch, plant: Plant) -> [Rate; 4]
+    ensures { Rates (annual_rate sheet.entry.bytes.now plant.kind plant.power stretch.from stretch.count) result }
 {
     let mut rates = [Rate(0); 4];
     for tier in 0..4 {
-        let net = mean_over(s, 15 + tier, from, count);
-        let system = mean_over(s, 19 + tier, from, count);
-        rates[tier] = plant.tier_rate(net, system);
+        let net = mean_over(sheet, Column::net(tier), stretch);
+        let system = mean_over(sheet, Column::system(tier), stretch);
+        rates[usize::from(tier)] = plant.tier_rate(net, system);
     }
     rates
 }
 
-// "It uses each month's rates": the flat-rate part of a month in the monthly method.
-fn month_flat_rate(s: &[u8], month: usize, withdrawn: Kwh, exchanged: Kwh, plant: Plant) -> Ticks
-    requires sheet_passed { SheetPassed s.now }
-    requires month_bound { month < 12 }
-    requires exchanged_bound { (exchanged.0 ≤ withdrawn.0) × (withdrawn.0 ≤ 3 * max_kwh) }
-    ensures { NumberWithin (flat_rate_of (monthly_tiers withdrawn.0 exchanged.0) (month_rate s.now plant.kind plant.power month))
-        (max_tier_rate * exchanged.0) result.0 }
-{
-    let energies = tariff::monthly_tiers(withdrawn, exchanged);
-    tariff::flat_rate_of(energies, month_rates(s, month, plant))
-}
-
-// The flat-rate part of a stretch of months in the annual method.
-fn annual_flat_rate(
-    s: &[u8],
-    from: usize,
-    count: usize,
-    withdrawn: Kwh,
-    exchanged: Kwh,
-    class: u8,
-    plant: Plant,
-) -> Ticks
-    requires sheet_passed { SheetPassed s.now }
-    requires months_of_year { (0 < count) × (from + count ≤ 12) }
-    requires exchanged_bound { (exchanged.0 ≤ withdrawn.0) × (withdrawn.0 ≤ 36 * max_kwh) }
-    ensures { NumberWithin (flat_rate_of (annual_tiers class withdrawn.0 exchanged.0)
-        (annual_rate s.now plant.kind plant.power from count)) (max_tier_rate * exchanged.0) result.0 }
-{
-    let energies = tariff::annual_tiers(class, withdrawn, exchanged);
-    tariff::flat_rate_of(energies, annual_rates(s, from, count, plant))
-}
-
-// The flat-rate part of a stretch of months in the monthly method.
-fn monthly_flat_rate(
-    s: &[u8],
-    from: usize,
-    count: usize,
-    withdrawn: [Kwh; 12],
-    exchanged: [Kwh; 12],
-    plant: Plant,
-) -> Ticks
-    requires sheet_passed { SheetPassed s.now }
-    requires months_of_year { from + count ≤ 12 }
-    requires months { Months (month_withdrawn s.now) withdrawn × Months (month_exchanged s.now) exchanged }
-    ensures { NumberWithin (sum_below count (λ i. month_flat_rate s.now plant.kind plant.power (from + i)))
-        (max_tier_rate * (3 * max_kwh * count)) result.0 }
-{
-    let mut sum: u64 = 0;
-    for i in 0..count {
-        let month = from + i;
-        let part = month_flat_rate(s, month, withdrawn[month], exchanged[month], plant);
-        sum = sum + part.0;
-    }
-    Ticks(sum)
-}
-
-// F, the flat-rate part, of a stretch of months for a class and a plant, by the months' energies.
-fn flat_rate(
-    s: &[u8],
-    withdrawn: [Kwh; 12],
-    injected: [Kwh; 12],
-    from: usize,
-    count: usize,
-    class: u8,
-    plant: Plant,
-) -> Ticks
-    requires sheet_passed { SheetPassed s.now }
-    requires months_of_year { (0 < count) × (from + count ≤ 12) }
-    requires months { Months (month_withdrawn s.now) withdrawn × Months (month_injected s.now) injected }
-    ensures { TicksWithin (flat_rate_over s.now from count class plant.kind plant.power) max_flat_rate result }
-{
-    if tariff::monthly_method(class, some_month_above(withdrawn, from, count)) {
-        monthly_flat_rate(
-            s,
-            from,
-            count,
+impl<'a> YearEnergies<'a> {
+    fn of(sheet: PassedSheet<'a>) -> YearEnergies<'a>
+        ensures { result.sheet.bytes.now ≡ sheet.entry.bytes.now }
+    {
+        let withdrawn = MonthlyKwh::of(sheet, Reading::Withdrawn);
+        let injected = MonthlyKwh::of(sheet, Reading::Injected);
+        let months = smaller_of(withdrawn.months, injected.months);
+        let exchanged = MonthlyKwh { months };
+        YearEnergies {
+            sheet,
             withdrawn,
-            exchanged(withdrawn, injected),
-            plant,
-        )
-    } else {
-        let total = energy_over(withdrawn, from, count);
-        let shared = total.min(energy_over(injected, from, count));
-        annual_flat_rate(s, from, count, total, shared, class, plant)
+            injected,
+            exchanged,
+        }
+    }
+
+    // "It uses each month's rates": the flat-rate part of a month in the monthly method.
+    fn month_flat_rate(self, month: Month, plant: Plant) -> Ticks
+        ensures { NumberWithin (month_flat_rate self.entry.sheet.bytes.now plant.kind plant.power month.index)
+            (max_tier_rate * (3 * max_kwh)) result.0 }
+    {
+        let withdrawn = self.withdrawn.at(month);
+        let exchanged = self.exchanged.at(month);
+        let energies = tariff::monthly_tiers(withdrawn, exchanged);
+        tariff::flat_rate_of(energies, month_rates(self.sheet, month, plant))
+    }
+
+    // The flat-rate part of a stretch of months in the monthly method.
+    fn monthly_flat_rate(self, stretch: Stretch, plant: Plant) -> Ticks
+        ensures { NumberWithin
+            (sum_below stretch.count
+            (λ i. month_flat_rate self.entry.sheet.bytes.now plant.kind plant.power (stretch.from + i)))
+            (max_tier_rate * (3 * max_kwh) * stretch.count) result.0 }
+    {
+        let mut sum = Ticks(0);
+        for i in 0..stretch.count {
+            sum += self.month_flat_rate(stretch.month(i), plant);
+        }
+        sum
+    }
+
+    // The flat-rate part of a stretch of months in the annual method.
+    fn annual_flat_rate(self, stretch: Stretch, class: u8, plant: Plant) -> Ticks
+        ensures { NumberWithin
+            (annual_flat_rate self.entry.sheet.bytes.now stretch.from stretch.count class plant.kind plant.power)
+            max_flat_rate result.0 }
+    {
+        let withdrawn = self.withdrawn.over(stretch);
+        let exchanged = withdrawn.min(self.injected.over(stretch));
+        let energies = tariff::annual_tiers(class, withdrawn, exchanged);
+        tariff::flat_rate_of(energies, annual_rates(self.sheet, stretch, plant))
+    }
+
+    // F, the flat-rate part, of a stretch of months for a class and a plant.
+    fn flat_rate(self, stretch: Stretch, class: u8, plant: Plant) -> Ticks
+        ensures { TicksWithin
+            (flat_rate_over self.entry.sheet.bytes.now stretch.from stretch.count class plant.kind plant.power)
+            max_flat_rate result }
+    {
+        if tariff::monthly_method(class, self.withdrawn.some_above(stretch)) {
+            self.monthly_flat_rate(stretch, plant)
+        } else {
+            self.annual_flat_rate(stretch, class, plant)
+        }
     }
 }
 
-// All values of a sheet that has passed 11, 13 and 14, for a user with these details.
+impl YearValues {
+    // All values of a sheet that has passed 11, 13 and 14, for a user with these details.
+    pub fn of(sheet: PassedSheet<'_>, details: Details) -> YearValues
+        ensures { ValuesWorked sheet.entry.bytes.now details result }
+    {
+        let year = YearEnergies::of(sheet);
+        let plant = Plant::new(details.plant, details.power);
+        YearValues {
+            value: sheet_prices::value(sheet, details.island == 1, details.plant == 1),
+            cost: sheet_prices::cost(sheet),
+            flat_rate: year.flat_rate(YEAR, details.class, plant),
+            half1: year.exchanged.over(FIRST_HALF),
+            half2: year.exchanged.over(SECOND_HALF),
+        }
+    }
+}
+
+// The same of the bytes of a sheet that has passed.
+#[tactic(auto, using(sheet::proofs::Limits::passed_length))]
 pub fn year_values(s: &[u8], details: Details) -> YearValues
     requires { SheetPassed s.now }
     ensures { ValuesWorked s.now details result }
 {
-    let withdrawn = withdrawn(s);
-    let injected = injected(s);
-    let months = exchanged(withdrawn, injected);
-    let class = details.class;
-    let plant = Plant::new(details.plant, details.power);
-    YearValues {
-        value: sheet_prices::value(s, details.island == 1, details.plant == 1),
-        cost: sheet_prices::cost(s),
-        flat_rate: flat_rate(s, withdrawn, injected, 0, 12, class, plant),
-        half1: energy_over(months, 0, 6),
-        half2: energy_over(months, 6, 6),
-    }
+    let bytes = <&Sheet>::try_from(s).unwrap();
+    YearValues::of(PassedSheet { bytes }, details)
 }

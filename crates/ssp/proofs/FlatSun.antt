@@ -1,17 +1,18 @@
 -- A flat answer to how much more sun says what the answer beneath it says.
+use Rattle.std.specs.Prelude.{Option}
 use Prim.Native.Nat.{ℕ}
 use mathlib.Core.Path.{◌≡◌, ap, sym, subst}
 use mathlib.Core.List.{List}
 use Rattle.refusals.specs.declared.Position.{Position}
 use Rattle.sheet.specs.YearSheet.{Tells}
 use Rattle.call_answers.specs.Answers.{AnsweredBy}
-use Rattle.sheet_more_sun.specs.declared.Addition.{Addition}
+use Rattle.units.specs.declared.Kwh.{Kwh}
 use Rattle.call_more_sun.specs.Asked.{more_sun_order, addition_answered}
 use Rattle.ssp.specs.declared.Sun.{Sun}
 use Rattle.ssp.specs.Flat.{position_of}
 use Rattle.ssp.specs.FlatSun.{flat_sun}
 
-pub sun-flat : (b sheet : List ℕ) (month band refusal named : ℕ) (p : Position) (x : Addition) (r : Sun) → r ≡ flat_sun refusal named p x
+pub sun-flat : (b sheet : List ℕ) (month band refusal named : ℕ) (p : Position) (x : Option Kwh) (r : Sun) → r ≡ flat_sun refusal named p x
     → AnsweredBy b (more_sun_order b sheet month band) 0 refusal named × (Tells sheet refusal p × (x ≡ addition_answered b sheet month band refusal))
     → AnsweredBy b (more_sun_order b sheet month band) 0 r.refusal r.«record»
     × (Tells sheet r.refusal (position_of r.month r.place)

@@ -23,7 +23,6 @@ ghost use Rattle.ssp.specs.Flat.{interface_number, details_of, position_of, flat
 ghost use Rattle.ssp.specs.FlatSun.{flat_sun};
 
 use refusals::Refusal;
-use sheet_more_sun::Addition;
 use sheet_values::Details;
 use units::{Rate, UserNumber, WideKwh};
 
@@ -248,7 +247,7 @@ fn flat_sun(answer: call_more_sun::MoreSun) -> Sun
 {
     let addition = answer.addition;
     match addition {
-        Addition::Found(added) => Sun {
+        Some(added) => Sun {
             refusal: answer.reply.refusal,
             record: answer.reply.record.0,
             month: answer.position.month,
@@ -256,7 +255,7 @@ fn flat_sun(answer: call_more_sun::MoreSun) -> Sun
             found: 1,
             added: added.0,
         },
-        Addition::None => Sun {
+        None => Sun {
             refusal: answer.reply.refusal,
             record: answer.reply.record.0,
             month: answer.position.month,

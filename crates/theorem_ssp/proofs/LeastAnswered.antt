@@ -1,4 +1,5 @@
 -- What the exported function says, and that what it says is the least.
+use Rattle.std.specs.Prelude.{Option, Some, None}
 use Prim.Native.Nat.{ℕ, ◌-◌, ◌<◌}
 use mathlib.Core.Path.{◌≡◌, sym, ap, ◌∙◌}
 use mathlib.Core.Bool.{Bool, true, false}
@@ -7,7 +8,7 @@ use native.Mathlib.Omega.{arith}
 use Rattle.refusals.specs.declared.Position.{Position}
 use Rattle.sheet.specs.YearSheet.{sheet_user}
 use Rattle.call_rules.specs.Refusals.{user_at}
-use Rattle.sheet_more_sun.specs.declared.Addition.{Addition}
+use Rattle.units.specs.declared.Kwh.{Kwh}
 use Rattle.sheet_more_sun.specs.MoreSun.{additions}
 use Rattle.sheet_more_sun.specs.Laws.{IsLeast}
 use Rattle.sheet_more_sun.proofs.Least.{answers-least}
@@ -20,16 +21,16 @@ use Rattle.theorem_ssp.specs.MoreSun.{reaches_for, AdditionFits, LeastAnswered}
 
 -- a least addition, by its two numbers
 module _ (n : ℕ) (test : ℕ → Bool) where
-  is_found : (x : Addition) → IsLeast n test x → found_in x ≡ 1 → (added_in x < n) × ((test (added_in x) ≡ true) × ((y : ℕ) → y < added_in x → test y ≡ false))
-  is_found (Addition.Found x) h e = h
-  is_found Addition.None h e = let z : ⊥ = omega (arith, e) in absurd z
+  is_found : (x : Option Kwh) → IsLeast n test x → found_in x ≡ 1 → (added_in x < n) × ((test (added_in x) ≡ true) × ((y : ℕ) → y < added_in x → test y ≡ false))
+  is_found (Some x) h e = h
+  is_found None h e = let z : ⊥ = omega (arith, e) in absurd z
 
-  is_none : (x : Addition) → IsLeast n test x → found_in x ≡ 0 → (y : ℕ) → y < n → test y ≡ false
-  is_none (Addition.Found x) h e = let z : ⊥ = omega (arith, e) in absurd z
-  is_none Addition.None h e = h
+  is_none : (x : Option Kwh) → IsLeast n test x → found_in x ≡ 0 → (y : ℕ) → y < n → test y ≡ false
+  is_none (Some x) h e = let z : ⊥ = omega (arith, e) in absurd z
+  is_none None h e = h
 
 module _ (b s : List ℕ) (month band : ℕ) (p : Position) (r : Sun) (flat : r ≡ flat_sun r.refusal r.«record» p (addition_answered b s month band r.refusal)) (accepted : r.refusal ≡ 0) where
-  abbrev answer : Addition
+  abbrev answer : Option Kwh
   answer = addition_answered b s month band r.refusal
 
   found-is : r.found ≡ found_in answer

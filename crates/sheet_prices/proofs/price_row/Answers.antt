@@ -1,20 +1,22 @@
 -- The prices of the part that applies.
-use Rattle.sheet_prices.proofs.PriceParts.{row-by-bands, row-of-one}
+use mathlib.Core.Path.{◌≡◌}
+use Rattle.std.proofs.Common.{rules}
+use Rattle.sheet_prices.proofs.PriceParts.{pun_part, zone_part, row-by-bands, row-of-one}
+use Rattle.sheet_prices.specs.InnerArrays.{series_part}
 use Rattle.sheet_prices.proofs.price_row.Goals as goal
 
-pub returns-then-bands : goal.returns-then-bands
-returns-then-bands c =
+pub returns-in-PunBands : goal.returns-in-PunBands
+returns-in-PunBands c =
     let a = c.args in
-    let s = a.s.now in
-    let lent = c.band_part-prices in
-    rw c.if-bands.true
-    (row-by-bands s lent.result.now a.island a.photovoltaic a.month _ _ _ lent.ensures c.rate_at.ensures
-    c.rate_at-then-bands.ensures c.rate_at-then-bands-2.ensures)
+    let s = a.sheet.now in
+    let lent : c.series_part-prices.result.now ≡ series_part a.series (zone_part s a.month) (pun_part s a.month) = search rules in
+    row-by-bands s c.series_part-prices.result.now a.series a.month _ _ _ c.in-PunBands.is lent c.rate_at.ensures
+    c.rate_at-in-PunBands.ensures c.rate_at-in-PunBands-2.ensures
 
-pub returns-else-bands : goal.returns-else-bands
-returns-else-bands c =
+pub returns-in_default : goal.returns-in_default
+returns-in_default c =
     let a = c.args in
-    let s = a.s.now in
-    let lent = c.single_part-price in
-    rw c.if-bands.false
-    (row-of-one s lent.result.now a.island a.photovoltaic a.month _ lent.ensures c.rate_at-else-bands.ensures)
+    let s = a.sheet.now in
+    let lent : c.series_part-prices.result.now ≡ series_part a.series (zone_part s a.month) (pun_part s a.month) = search rules in
+    row-of-one s c.series_part-prices.result.now a.series a.month _ c.in_default.not-PunBands c.in_default.not-ZoneBands lent
+    c.rate_at-in_default.ensures

@@ -1,40 +1,18 @@
 -- `value` is held to `value_of`: the rows of the sheet, month by month.
 use Prim.Native.Nat.{ℕ}
-use mathlib.Core.Path.{ap, ◌∙◌}
-use lib.Dec.{eqb, lit≤}
+use mathlib.Core.Path.{◌≡◌, ap, ◌∙◌}
+use lib.Dec.{eqb}
 use Rattle.units.specs.Units.{ticks}
 use Rattle.sheet.specs.YearSheet.{by_bands, injected_reading}
-use Rattle.sheet.proofs.Limits.{passed_length}
-use Rattle.sheet_prices.specs.InnerArrays.{PriceRows, price_row}
-use Rattle.sheet_prices.proofs.SheetRows.{rows-value, rows_fit}
+use Rattle.sheet_prices.specs.InnerArrays.{PriceRows, prices_in, series_of}
+use Rattle.sheet_prices.proofs.SheetRows.{rows-value}
 use Rattle.sheet_prices.proofs.value.Goals as goal
-
-pub energies-requires : goal.energies-requires
-energies-requires c =
-    record { whole_sheet = passed_length c.args.s.now c.requires.past11; place_bound = lit≤ tt }
-
-pub prices-requires : goal.prices-requires
-prices-requires c =
-    passed_length c.args.s.now c.requires.past11
-
-pub year_value-requires : goal.year_value-requires
-year_value-requires c =
-    let a = c.args in
-    rows_fit a.s.now c.requires 3 (lit≤ tt) (eqb c.injected_reading-bands.result 1) a.island a.photovoltaic c.energies.result
-    c.prices.result
-    c.energies.ensures c.prices.ensures
 
 pub returns : goal.returns
 returns c =
-    let a = c.args in
-    let s = a.s.now in
-    let rows = c.energies in
-    let prices = c.prices in
-    let by = ap (λ (n : ℕ). eqb n 1) c.injected_reading-bands.ensures in
-    let priced : PriceRows (price_row s (by_bands (injected_reading s)) a.island a.photovoltaic) prices.result = rw by at
-    prices.ensures in
-    record {
-      is = c.year_value.ensures.is ∙ ap ticks (rows-value s a.island a.photovoltaic rows.result prices.result rows.ensures
-          priced);
-      most = c.year_value.ensures.most;
-    }
+    let s = c.args.sheet.bytes.now in
+    let reading = ap (λ (n : ℕ). series_of (eqb n 1) c.args.island c.args.photovoltaic) c.injected_reading-bands.ensures in
+    let series : c.of-series.result ≡ series_of (by_bands (injected_reading s)) c.args.island c.args.photovoltaic = c.of-series.ensures ∙ reading in
+    let priced : PriceRows (prices_in s (series_of (by_bands (injected_reading s)) c.args.island c.args.photovoltaic)) c.of-2.result.months = rw series at c.of-2.ensures in
+    let value = c.year_value.ensures in
+    record { is = value.is ∙ ap ticks (rows-value s c.args.island c.args.photovoltaic c.of.result.months c.of-2.result.months c.of.ensures priced); most = value.most }

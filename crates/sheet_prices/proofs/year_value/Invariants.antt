@@ -9,7 +9,7 @@ use Rattle.sheet_prices.proofs.year_value.Given as goal
 
 abbrev pub invariant-loop-month : goal.invariant-loop-month
 invariant-loop-month l =
-    Summing (λ m. row_value (get_or l.energy m []) (get_or l.prices m [])) 12 (3 * (max_kwh * max_price) * l.month) l.month l.sum
+    Summing (λ m. row_value (get_or l.energies.months m []) (get_or l.prices.months m [])) 12 (3 * (max_kwh * max_price) * l.month) l.month l.sum.0
 
 abbrev pub decreases-loop-month : goal.decreases-loop-month
 decreases-loop-month l = 12 - l.month

@@ -1,5 +1,5 @@
 -- The mean of a sum within its limit.
-use mathlib.Core.Path.{ap, ◌∙◌}
+use mathlib.Core.Path.{◌≡◌, refl, ap, ◌∙◌}
 use Rattle.units.specs.declared.Rate.{Rate}
 use Rattle.units.specs.Units.{rate}
 use Rattle.units.specs.Limits.{max_price}
@@ -9,9 +9,10 @@ use Rattle.sheet_values.proofs.mean_over.Goals as goal
 
 pub returns : goal.returns
 returns c =
-    let n = c.args.count in
-    let sum = c.rate_over in record {
-      is = c.mean_rate.ensures ∙ ap (λ (x : Rate). rate (mean_rate n x.0)) sum.ensures.is;
-      most = rw c.mean_rate.ensures
-          (mean-rate-capped n sum.result.0 max_price c.requires.months_of_year.0 sum.ensures.most);
+    let n = c.args.stretch.count in
+    let sum = c.rate_over in
+    let mean : c.mean_rate.result ≡ rate (mean_rate n sum.result.0) = c.mean_rate.ensures ∙ rw c.from.ensures refl in
+    record {
+      is = mean ∙ ap (λ (x : Rate). rate (mean_rate n x.0)) sum.ensures.is;
+      most = rw mean (mean-rate-capped n sum.result.0 max_price c.args.stretch.some sum.ensures.most);
     }

@@ -7,7 +7,7 @@ use Rattle.sheet_values.proofs.month_rates.Given as goal
 
 abbrev pub invariant-loop-tier : goal.invariant-loop-tier
 invariant-loop-tier l =
-    Filling (rate 0) (λ t. rate (month_rate l.s l.plant.kind l.plant.power l.month t)) 4 l.tier l.rates
+    Filling (rate 0) (λ t. rate (month_rate l.sheet.bytes.now l.plant.kind l.plant.power l.month.index t)) 4 l.tier l.rates
 
 abbrev pub decreases-loop-tier : goal.decreases-loop-tier
 decreases-loop-tier l = 4 - l.tier

@@ -1,8 +1,7 @@
 -- `rate_over` is held to `sum_below`: a running sum.
 use Prim.Native.Nat.{◌+◌}
-use mathlib.Core.Path.{ap, sym}
+use mathlib.Core.Path.{◌≡◌, sym}
 use native.Mathlib.Omega.{arith}
-use Rattle.units.specs.declared.Rate.{Rate}
 use Rattle.units.proofs.Folds.{sum-zero, sum-next}
 use Rattle.sheet.specs.YearSheet.{word}
 use Rattle.std.proofs.Common.{rules}
@@ -12,16 +11,16 @@ pub loop-i-init : goal.loop-i-init
 loop-i-init c = record {
   within = search rules;
   bounded = search rules;
-  sums = sym (sum-zero (λ j. word c.args.s.now (c.args.from + j) c.args.place));
+  sums = sym (sum-zero (λ j. word c.args.sheet.bytes.now (c.args.stretch.from + j) c.args.column.place));
 }
 
 pub loop-i-preserved : goal.loop-i-preserved
 loop-i-preserved c =
     let l = c.loop-i in
     let a = c.args in
+    let is : c.rate_at-sum.result.0 ≡ word a.sheet.bytes.now (a.stretch.from + l.i) a.column.place = search rules in
     record {
       within = search rules;
       bounded = omega arith;
-      sums = sum-next l.i (λ j. word a.s.now (a.from + j) a.place) l.invariant.sums (ap (λ (x : Rate). x.0)
-          c.rate_at-month.ensures.is);
+      sums = sum-next l.i (λ j. word a.sheet.bytes.now (a.stretch.from + j) a.column.place) l.invariant.sums is;
     }

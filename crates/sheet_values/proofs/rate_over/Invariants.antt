@@ -6,7 +6,7 @@ use Rattle.sheet.specs.YearSheet.{word}
 use Rattle.sheet_values.proofs.rate_over.Given as goal
 
 abbrev pub invariant-loop-i : goal.invariant-loop-i
-invariant-loop-i l = Summing (λ j. word l.s (l.from + j) l.place) l.count (max_price * l.i) l.i l.sum
+invariant-loop-i l = Summing (λ j. word l.sheet.bytes.now (l.stretch.from + j) l.column.place) l.stretch.count (max_price * l.i) l.i l.sum
 
 abbrev pub decreases-loop-i : goal.decreases-loop-i
-decreases-loop-i l = l.count - l.i
+decreases-loop-i l = l.stretch.count - l.i

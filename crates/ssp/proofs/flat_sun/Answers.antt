@@ -3,11 +3,11 @@ use mathlib.Core.Path.{sym, ap}
 use Rattle.ssp.specs.FlatSun.{flat_sun}
 use Rattle.ssp.proofs.flat_sun.Goals as goal
 
-pub returns-in-Found : goal.returns-in-Found
+pub returns-in-Some : goal.returns-in-Some
 unfolding flat_sun
-returns-in-Found c =
+returns-in-Some c =
     let a = c.args.answer in
-    sym (ap (flat_sun a.reply.refusal a.reply.record.0 a.position) c.in-Found.is)
+    sym (ap (flat_sun a.reply.refusal a.reply.record.0 a.position) c.in-Some.is)
 
 pub returns-in-None : goal.returns-in-None
 unfolding flat_sun

@@ -1,0 +1,12 @@
+-- `price_rows` is held to `PriceRows`: the rows are filled month by month.
+use Prim.Native.Nat.{◌-◌}
+use mathlib.Core.List.{[]}
+use Rattle.units.proofs.Filled.{Filling}
+use Rattle.sheet_prices.specs.InnerArrays.{prices_in}
+use Rattle.sheet_prices.proofs.price_rows.Given as goal
+
+abbrev pub invariant-loop-month : goal.invariant-loop-month
+invariant-loop-month l = Filling [] (prices_in l.sheet l.series) 12 l.month l.rows
+
+abbrev pub decreases-loop-month : goal.decreases-loop-month
+decreases-loop-month l = 12 - l.month
