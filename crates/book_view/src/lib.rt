@@ -14,7 +14,7 @@ ghost use Rattle.book_rules.specs.Book.{used as usedIn};
 
 use account_steps::Account;
 use book_layout::kind::Kind;
-use book_layout::{place, record};
+use book_layout::{Record, place, record};
 use codec::Number;
 use units::{RECORD_LENGTH, RecordIndex, UserNumber};
 
@@ -47,6 +47,16 @@ pub struct User<'a> {
     pub book: SoundBook<'a>,
     pub index: RecordIndex,
     ghost user_record: { is_user book.bytes.now index.0 ≡ true },
+}
+
+impl<'a> UsedBook<'a> {
+    /// The record at an index below u.
+    pub fn whole(self, index: RecordIndex) -> &'a Record
+        requires { index.0 < usedIn self.bytes.now }
+        ensures { result.now ≡ record_at self.entry.bytes.now index.0 }
+    {
+        book_layout::whole(self.bytes, index)
+    }
 }
 
 // THE HEAD

@@ -9,7 +9,7 @@ ghost use Rattle.check_pass.specs.InnerSteps.{BrokenFirst};
 ghost use Rattle.refusals.specs.Refusals.{refusal_in};
 ghost use Rattle.check_book.specs.Verdicts.{RecordsSearched, BookJudged, UserFound, BookFound, BookChecked, fresh_answer, fresh_after};
 
-use book_view::{SoundBook, User, is_entry, is_user, number_of, used};
+use book_view::{HeadedBook, SoundBook, UsedBook, User, is_entry, is_user, number_of, used};
 use check_numbers::PLACES;
 use refusals::Refusal;
 use units::{RecordIndex, UserNumber};
@@ -35,15 +35,14 @@ fn is_new(book: &[u8], user: RecordIndex, known: bool) -> bool
 // an entry stands before the entry. Each record is looked at once: the entries of a user are linked beforehand, and its number is
 // new where a table of the numbers of all users before it takes it in. An entry has no number.
 #[tactic(auto, using(check_pass::proofs::Counted::counted))]
-fn faulty_record(book: &[u8], broken: Option<RecordIndex>) -> Option<RecordIndex>
-    requires book_length { length_fits book.now ≡ true }
-    requires records_used { used_fits book.now ≡ true }
-    requires broken { BrokenFirst book.now broken }
-    ensures { RecordsSearched book.now result }
+fn faulty_record(book: HeadedBook<'_>, broken: Option<RecordIndex>) -> Option<RecordIndex>
+    requires { BrokenFirst book.used.bytes.now broken }
+    ensures { RecordsSearched book.entry.used.bytes.now result }
 {
+    let book = book.used;
     let counts = check_pointers::counts(book);
     let entries = check_owners::by_owner(book);
-    let records = used(book);
+    let records = used(book.bytes);
     let mut seen = [0; PLACES];
     let mut all_seen = true;
     let mut bad = broken.unwrap_or(RecordIndex(records)).0;
@@ -52,9 +51,9 @@ fn faulty_record(book: &[u8], broken: Option<RecordIndex>) -> Option<RecordIndex
             break 'users;
         }
         let home = RecordIndex(i);
-        if is_user(book, home) {
-            all_seen = all_seen & check_numbers::insert(&mut seen, number_of(book, home));
-            let new = is_new(book, home, all_seen);
+        if is_user(book.bytes, home) {
+            all_seen = all_seen & check_numbers::insert(&mut seen, number_of(book.bytes, home));
+            let new = is_new(book.bytes, home, all_seen);
             if !check_rules::good_record(book, home, counts[i as usize], new) {
                 bad = i;
                 break 'users;
@@ -70,7 +69,7 @@ fn faulty_record(book: &[u8], broken: Option<RecordIndex>) -> Option<RecordIndex
                 }
                 next = entries.later[e as usize];
             }
-        } else if !owned(book, home) {
+        } else if !owned(book.bytes, home) {
             bad = i;
             break 'users;
         }
@@ -82,19 +81,16 @@ fn faulty_record(book: &[u8], broken: Option<RecordIndex>) -> Option<RecordIndex
 #[cold]
 #[inline(never)]
 fn judge(
-    book: &[u8],
+    book: HeadedBook<'_>,
     number: UserNumber,
     broken: Option<RecordIndex>,
 ) -> Result<Option<RecordIndex>, Refusal>
-    requires book_length { length_fits book.now ≡ true }
-    requires records_used { used_fits book.now ≡ true }
-    requires head { good_head book.now ≡ true }
-    requires broken { BrokenFirst book.now broken }
-    ensures { BookJudged book.now number.0 result }
+    requires { BrokenFirst book.used.bytes.now broken }
+    ensures { BookJudged book.entry.used.bytes.now number.0 result }
 {
     match faulty_record(book, broken) {
         Some(bad) => Err(Refusal::FaultyRecord(bad)),
-        None => Ok(check_lookup::find_user(book, number)),
+        None => Ok(check_lookup::find_user(book.used.bytes, number)),
     }
 }
 
@@ -112,6 +108,8 @@ fn pass(book: &[u8], number: UserNumber) -> Result<Option<RecordIndex>, Refusal>
     if !check_rules::good_head(book) {
         return Err(Refusal::FaultyRecord(RecordIndex(0)));
     }
+    let used = UsedBook { bytes: book };
+    let book = HeadedBook { used };
     match check_pass::find(book, number) {
         Ok(user) => Ok(user),
         Err(broken) => judge(book, number, broken),

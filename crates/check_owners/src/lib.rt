@@ -2,11 +2,12 @@
 // others. Any bytes are a book here, as long as u is 1 to capacity and no more than a book can have: an owner may be no user.
 #![tactic(auto)]
 
-ghost use Rattle.std.specs.Prelude.{◌≡◌, true, ◌≤◌};
-ghost use Rattle.book_rules.specs.Book.{used, used_fits};
+ghost use Rattle.std.specs.Prelude.{◌≤◌};
+ghost use Rattle.book_rules.specs.Book.{used};
 ghost use Rattle.units.specs.Limits.{most_records};
 ghost use Rattle.check_owners.specs.InnerOwners.{Linked};
 
+use book_view::UsedBook;
 use units::{MOST_RECORDS, RecordIndex};
 
 // The first entry of each owner, and of each entry the next one that has the same owner.
@@ -18,16 +19,15 @@ pub struct Entries {
 
 // The records but the head are passed from the last one down, and each is read once. An entry whose owner is no record of the book
 // stands in no list.
-pub fn by_owner(book: &[u8]) -> Entries
-    requires records_bound { used book.now ≤ most_records }
-    requires records_used { used_fits book.now ≡ true }
-    ensures { Linked book.now result }
+pub fn by_owner(book: UsedBook<'_>) -> Entries
+    requires { used book.bytes.now ≤ most_records }
+    ensures { Linked book.entry.bytes.now result }
 {
     let mut first = [None; MOST_RECORDS];
     let mut later = [None; MOST_RECORDS];
-    let records = book_view::used(book);
+    let records = book_view::used(book.bytes);
     for e in (1..records).rev() {
-        let r = book_layout::whole_record(book, e as usize);
+        let r = book.whole(RecordIndex(e));
         let owner = book_layout::owner_of(r).0;
         if book_rules::is_entry_kind(book_layout::kind_of(r)) & (owner < records) {
             later[e as usize] = first[owner as usize];

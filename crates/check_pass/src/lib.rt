@@ -9,8 +9,9 @@ ghost use Rattle.book_rules.specs.Book.{length_fits, used, used_fits, good_head,
 ghost use Rattle.check_pass.specs.InnerSteps.{first_due, due_behind, UserLeads, EntryLeads, KeptRecord, last_met, Tables, KeptAfter};
 ghost use Rattle.check_pass.specs.InnerSteps.{Followed, BrokenFirst, PassedThrough};
 
+use book_layout::Record;
 use book_layout::kind::{CLOSING, USER};
-use book_layout::{Record, whole};
+use book_view::{HeadedBook, UsedBook};
 use check_numbers::PLACES;
 use units::{MOST_RECORDS, RecordIndex, UserNumber};
 
@@ -80,13 +81,12 @@ enum Kept<'a> {
 // The record at an index, none where it breaks a rule by itself or its owner is not before it. Where the chains are followed each
 // record comes here, so that a call would cost.
 #[inline(always)]
-fn kept_at<'a>(book: &'a [u8], index: RecordIndex) -> Option<Kept<'a>>
-    requires records_used { used_fits book.now ≡ true }
-    requires index_bound { index.0 < used book.now }
-    ensures { MatchOption result (good_record book.now index.0 ≡ false)
-        (KeptRecord book.now index.0) }
+fn kept_at<'a>(book: UsedBook<'a>, index: RecordIndex) -> Option<Kept<'a>>
+    requires { index.0 < used book.bytes.now }
+    ensures { MatchOption result (good_record book.entry.bytes.now index.0 ≡ false)
+        (KeptRecord book.entry.bytes.now index.0) }
 {
-    let r = whole(book, index);
+    let r = book.whole(index);
     if book_layout::kind_of(r) == USER {
         if !book_rules::user_record_fits(r) {
             return None;
@@ -97,7 +97,7 @@ fn kept_at<'a>(book: &'a [u8], index: RecordIndex) -> Option<Kept<'a>>
     if home.0 == 0 || index <= home {
         return None;
     }
-    let owner = whole(book, home);
+    let owner = book.whole(home);
     if !book_rules::entry_record_fits(r, owner) {
         return None;
     }
@@ -122,22 +122,19 @@ fn last_met(
 // or to which they do not lead, or at the head where the users' chain does not end. What is due is kept of each user of which an
 // entry was met, and all the numbers that were seen.
 fn follow_chains(
-    book: &[u8],
+    book: HeadedBook<'_>,
     wanted: UserNumber,
     dues: &mut [Option<Due>],
     seen: &mut [u32],
 ) -> Result<Option<RecordIndex>, RecordIndex>
-    requires book_length { length_fits book.now ≡ true }
-    requires records_used { used_fits book.now ≡ true }
-    requires head { good_head book.now ≡ true }
-    requires pass_tables { Tables (used book.now) dues.old seen.old }
-    ensures { Followed book.now wanted.0 result }
+    requires { Tables (used book.used.bytes.now) dues.old seen.old }
+    ensures { Followed book.entry.used.bytes.now wanted.0 result }
 {
     let mut found = None;
-    let mut expected = book_view::first_user(book);
-    for i in (1..book_view::used(book)).rev() {
+    let mut expected = book_view::first_user(book.used.bytes);
+    for i in (1..book_view::used(book.used.bytes)).rev() {
         let index = RecordIndex(i);
-        match kept_at(book, index).ok_or(index)? {
+        match kept_at(book.used, index).ok_or(index)? {
             Kept::User(r) => {
                 let due = dues[i as usize].unwrap_or(Due::first(r));
                 let number = book_layout::number_of(r);
@@ -169,10 +166,9 @@ fn follow_chains(
 // The smallest record that breaks a rule by itself, of those up to the one where the chains were left.
 #[cold]
 #[inline(never)]
-fn first_broken(book: &[u8], left: RecordIndex) -> Option<RecordIndex>
-    requires records_used { used_fits book.now ≡ true }
-    requires kept_after { KeptAfter book.now left.0 }
-    ensures { BrokenFirst book.now result }
+fn first_broken(book: UsedBook<'_>, left: RecordIndex) -> Option<RecordIndex>
+    requires { KeptAfter book.bytes.now left.0 }
+    ensures { BrokenFirst book.entry.bytes.now result }
 {
     for i in 1..=left.0 {
         let index = RecordIndex(i);
@@ -186,22 +182,19 @@ fn first_broken(book: &[u8], left: RecordIndex) -> Option<RecordIndex>
 // With tables for so many records, and for the numbers of their users: a small book pays for small ones alone.
 #[inline(never)]
 fn with_tables<const RECORDS: usize, const NUMBERS: usize>(
-    book: &[u8],
+    book: HeadedBook<'_>,
     wanted: UserNumber,
 ) -> Result<Option<RecordIndex>, Option<RecordIndex>>
-    requires book_length { length_fits book.now ≡ true }
-    requires records_used { used_fits book.now ≡ true }
-    requires head { good_head book.now ≡ true }
-    requires room { used book.now ≤ RECORDS }
+    requires room { used book.used.bytes.now ≤ RECORDS }
     requires most { RECORDS ≤ most_records }
     requires places { (0 < NUMBERS) × (NUMBERS ≤ places) }
-    ensures { PassedThrough book.now wanted.0 result }
+    ensures { PassedThrough book.entry.used.bytes.now wanted.0 result }
 {
     let mut dues = [None; RECORDS];
     let mut seen = [0; NUMBERS];
     match follow_chains(book, wanted, &mut dues, &mut seen) {
         Ok(user) => Ok(user),
-        Err(left) => Err(first_broken(book, left)),
+        Err(left) => Err(first_broken(book.used, left)),
     }
 }
 
@@ -209,13 +202,13 @@ fn with_tables<const RECORDS: usize, const NUMBERS: usize>(
 // by itself, if one does. Tables for the records that the book uses: those for 800 take longer to clear than a small book to pass
 // over.
 #[tactic(auto, using(crate::proofs::Counted::counted))]
-pub fn find(book: &[u8], wanted: UserNumber) -> Result<Option<RecordIndex>, Option<RecordIndex>>
-    requires book_length { length_fits book.now ≡ true }
-    requires records_used { used_fits book.now ≡ true }
-    requires head { good_head book.now ≡ true }
-    ensures { PassedThrough book.now wanted.0 result }
+pub fn find(
+    book: HeadedBook<'_>,
+    wanted: UserNumber,
+) -> Result<Option<RecordIndex>, Option<RecordIndex>>
+    ensures { PassedThrough book.entry.used.bytes.now wanted.0 result }
 {
-    let records = book_view::used(book) as usize;
+    let records = book_view::used(book.used.bytes) as usize;
     if records <= SMALL_BOOK {
         with_tables::<SMALL_BOOK, SMALL_PLACES>(book, wanted)
     } else if records <= MIDDLING_BOOK {

@@ -5,10 +5,11 @@
 
 ghost use Rattle.std.specs.Prelude.{◌≡◌, true, ℕ, ◌+◌, ◌≤◌, ◌<◌, get_or, length};
 ghost use Rattle.units.specs.Limits.{most_records};
-ghost use Rattle.book_rules.specs.Book.{pointers_to, used, used_fits};
+ghost use Rattle.book_rules.specs.Book.{pointers_to, used};
 ghost use Rattle.check_pointers.specs.InnerPointers.{PointerCounted};
 
 use book_layout::kind::USER;
+use book_view::UsedBook;
 use units::{MOST_RECORDS, RecordIndex};
 
 // Counts a pointer at the record that it leads to. One that leads past the records of any book is not counted.
@@ -24,16 +25,15 @@ fn count(counts: &mut [u16; MOST_RECORDS], pointer: RecordIndex)
 }
 
 // A null pointer counts for the head, which nothing looks at. Each record is read once; a record of no known kind points nowhere.
-pub fn counts(book: &[u8]) -> [u16; MOST_RECORDS]
-    requires records_bound { used book.now ≤ most_records }
-    requires records_used { used_fits book.now ≡ true }
-    ensures { (m : ℕ) → 1 ≤ m → m < most_records → get_or result m 0 ≡ pointers_to book.now m }
+pub fn counts(book: UsedBook<'_>) -> [u16; MOST_RECORDS]
+    requires { used book.bytes.now ≤ most_records }
+    ensures { (m : ℕ) → 1 ≤ m → m < most_records → get_or result m 0 ≡ pointers_to book.entry.bytes.now m }
 {
     let mut counts = [0; MOST_RECORDS];
-    let records = book_view::used(book);
-    count(&mut counts, book_view::first_user(book));
+    let records = book_view::used(book.bytes);
+    count(&mut counts, book_view::first_user(book.bytes));
     for j in 1..records {
-        let r = book_layout::whole_record(book, j as usize);
+        let r = book.whole(RecordIndex(j));
         let kind = book_layout::kind_of(r);
         if kind == USER {
             count(&mut counts, book_layout::next_of(r));

@@ -3,7 +3,7 @@
 
 ghost use Rattle.std.specs.Prelude.{◌≡◌, true, ◌&&◌, ◌<◌, eqb};
 ghost use Rattle.book_layout.specs.Fields.{user_kind};
-ghost use Rattle.book_rules.specs.Book.{used, used_fits, kind_at, is_user, number_of, own_rules_fit, user_next_fits, number_is_new};
+ghost use Rattle.book_rules.specs.Book.{used, kind_at, is_user, number_of, own_rules_fit, user_next_fits, number_is_new};
 ghost use Rattle.book_rules.specs.Book.{first_entry_fits};
 ghost use Rattle.book_rules.specs.Book.{entry_next_fits, owner_fits, pointers_to, in_order, first_in_order, next_in_order, links_fit};
 ghost use Rattle.book_rules.specs.Book.{good_record};
@@ -11,10 +11,10 @@ ghost use Rattle.book_rules.specs.Book.{good_head};
 ghost use Rattle.check_rules.specs.InnerFollows.{follows_entry};
 
 use book_layout::kind::{ADVANCE, CLOSING, USER};
-use book_layout::{record, whole_record};
+use book_layout::record;
 use book_view::{
-    activation_of, first_entry_of, first_user, is_advance, is_closing, is_entry, is_user, level_of,
-    next_of, number_of, open_year_of, owner_of,
+    UsedBook, activation_of, first_entry_of, first_user, is_advance, is_closing, is_entry, is_user,
+    level_of, next_of, number_of, open_year_of, owner_of,
 };
 use units::{RecordIndex, UserNumber};
 
@@ -107,18 +107,17 @@ fn follows(r: &[u8], owner: RecordIndex, level: u16) -> bool
 
 // Owner, next and order together: each of the records that they name is read once, and only where its index is below the entry's.
 #[tactic(auto, unfolding(book_rules::specs::Book::owner_fits, book_rules::specs::Book::entry_next_fits, book_rules::specs::Book::next_in_order, book_rules::specs::Book::in_order, book_rules::specs::Book::has_kind, book_rules::specs::Book::is_entry, book_rules::specs::Book::kind_at, book_rules::specs::Book::owner_of, book_rules::specs::Book::next_of, book_rules::specs::Book::level_of, book_rules::specs::Book::activation_of, book_rules::specs::Book::entry_kind, crate::specs::InnerFollows::follows_entry))]
-fn entry_links_fit(book: &[u8], index: RecordIndex) -> bool
-    requires records_used { used_fits book.now ≡ true }
-    requires index_bound { index.0 < used book.now }
-    ensures { result ≡ ((owner_fits book.now index.0 && entry_next_fits book.now index.0)
-        && next_in_order book.now index.0) }
+fn entry_links_fit(book: UsedBook<'_>, index: RecordIndex) -> bool
+    requires index_bound { index.0 < used book.bytes.now }
+    ensures { result ≡ ((owner_fits book.entry.bytes.now index.0 && entry_next_fits book.entry.bytes.now index.0)
+        && next_in_order book.entry.bytes.now index.0) }
 {
-    let r = whole_record(book, index.0 as usize);
+    let r = book.whole(index);
     let owner = book_layout::owner_of(r);
     if owner.0 == 0 || index <= owner {
         return false;
     }
-    let home = whole_record(book, owner.0 as usize);
+    let home = book.whole(owner);
     if book_layout::kind_of(home) != USER {
         return false;
     }
@@ -130,22 +129,21 @@ fn entry_links_fit(book: &[u8], index: RecordIndex) -> bool
     if index <= next {
         return false;
     }
-    follows(whole_record(book, next.0 as usize), owner, level)
+    follows(book.whole(next), owner, level)
 }
 
 // FAULTS
 
 // Whether a user's number is new comes from the caller, who knows it of all users.
 #[tactic(auto, unfolding(book_rules::specs::Book::links_fit, book_rules::specs::Book::kind_at))]
-fn links_fit(book: &[u8], index: RecordIndex, new: bool) -> bool
-    requires new_number { kind_at book.now index.0 ≡ user_kind → new ≡ number_is_new book.now index.0 }
-    requires records_used { used_fits book.now ≡ true }
-    requires index_bound { index.0 < used book.now }
-    ensures { result ≡ links_fit book.now index.0 }
+fn links_fit(book: UsedBook<'_>, index: RecordIndex, new: bool) -> bool
+    requires new_number { kind_at book.bytes.now index.0 ≡ user_kind → new ≡ number_is_new book.bytes.now index.0 }
+    requires index_bound { index.0 < used book.bytes.now }
+    ensures { result ≡ links_fit book.entry.bytes.now index.0 }
 {
-    if book_layout::kind_of(whole_record(book, index.0 as usize)) == USER {
-        let user = user_next_fits(book, index) & new;
-        user & (first_entry_fits(book, index) & first_in_order(book, index))
+    if book_layout::kind_of(book.whole(index)) == USER {
+        let user = user_next_fits(book.bytes, index) & new;
+        user & (first_entry_fits(book.bytes, index) & first_in_order(book.bytes, index))
     } else {
         entry_links_fit(book, index)
     }
@@ -154,13 +152,12 @@ fn links_fit(book: &[u8], index: RecordIndex, new: bool) -> bool
 // A record that keeps its own rules is judged with the number of pointers that lead to it and, if it is a user, with whether its
 // number is new: both are known of all records together at less cost than of each by itself.
 #[tactic(auto, unfolding(book_rules::specs::Book::good_record, book_rules::specs::Book::pointed_once))]
-pub fn good_record(book: &[u8], index: RecordIndex, pointers: u16, new: bool) -> bool
-    requires pointer_count { pointers ≡ pointers_to book.now index.0 }
-    requires new_number { kind_at book.now index.0 ≡ user_kind → new ≡ number_is_new book.now index.0 }
-    requires own_rules { own_rules_fit book.now index.0 ≡ true }
-    requires records_used { used_fits book.now ≡ true }
-    requires index_bound { index.0 < used book.now }
-    ensures { result ≡ good_record book.now index.0 }
+pub fn good_record(book: UsedBook<'_>, index: RecordIndex, pointers: u16, new: bool) -> bool
+    requires pointer_count { pointers ≡ pointers_to book.bytes.now index.0 }
+    requires new_number { kind_at book.bytes.now index.0 ≡ user_kind → new ≡ number_is_new book.bytes.now index.0 }
+    requires own_rules { own_rules_fit book.bytes.now index.0 ≡ true }
+    requires index_bound { index.0 < used book.bytes.now }
+    ensures { result ≡ good_record book.entry.bytes.now index.0 }
 {
     links_fit(book, index, new) & (pointers == 1)
 }

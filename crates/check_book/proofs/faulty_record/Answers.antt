@@ -23,8 +23,8 @@ unwrapped n (Some i) = refl
 
 pub users-init : goal.users-init
 users-init c =
-    let b = c.args.book.now in
-    let p = c.requires.broken in
+    let b = c.args.book.used.bytes.now in
+    let p = c.requires in
     let same : c.unwrap_or-bad.result.0 ≡ index_or (used b) c.args.broken =
     ap (λ (k : RecordIndex). k.0) c.unwrap_or-bad.ensures ∙ unwrapped c.used-records.result c.args.broken ∙ ap (λ (n : ℕ). index_or n c.args.broken) c.used-records.ensures in
     rw same (record {
@@ -43,36 +43,35 @@ insert-all_seen-requires-clause-number_nonzero c =
     let own = s.own c.users.i s.from (omega (arith, s.before, c.if-i-bad.false)) in
     omega (
       arith,
-      has-number c.args.book.now c.users.i (sym c.is_user.ensures ∙ c.if-is_user.true) own,
+      has-number c.args.book.used.bytes.now c.users.i (sym c.is_user.ensures ∙ c.if-is_user.true) own,
       ap (λ (n : UserNumber). n.0) c.number_of.ensures,
     )
 
 pub is_new-new-requires : goal.is_new-new-requires
 is_new-new-requires c =
-    seen-new c.args.book.now c.users.i c.users.all_seen c.insert-all_seen.result c.users.invariant.seen (ap (λ (n : UserNumber). n.0) c.number_of.ensures)
+    seen-new c.args.book.used.bytes.now c.users.i c.users.all_seen c.insert-all_seen.result c.users.invariant.seen (ap (λ (n : UserNumber). n.0) c.number_of.ensures)
     c.insert-all_seen.ensures.inserted
 
 -- the entry that is met
-met-here : (c : goal.In-Some) → EntriesMet c.args.book.now c.users.bad c.users.i (Some c.in-Some.field-0)
+met-here : (c : goal.In-Some) → EntriesMet c.args.book.used.bytes.now c.users.bad c.users.i (Some c.in-Some.field-0)
 met-here c = rw c.in-Some.is at c.entries.invariant.1
 
 pub good_record-requires-in-Some : goal.good_record-requires-in-Some
 good_record-requires-in-Some c =
-    let b = c.args.book.now in
+    let b = c.args.book.used.bytes.now in
     let e = c.in-Some.field-0.0 in
     let met = met-here (goal.at.good_record-requires-in-Some c).In-Some in
     let at = entry_place b c.users.bad c.users.i e met in
     record {
-      pointer_count = c.counts-counts.ensures e at.0 (omega (arith, at.1, used-counted b c.requires.records_used c.requires.book_length));
+      pointer_count = c.counts-counts.ensures e at.0 (omega (arith, at.1, used-counted b c.args.book.used.counted c.args.book.length));
       new_number = λ user. absurd (entry-no-user b e (entry_here b c.users.bad c.users.i e met) user);
       own_rules = c.users.invariant.own e at.0 (omega (arith, c.if-bad-e.false, c.entries.invariant.0));
-      records_used = c.requires.records_used;
       index_bound = at.1;
     }
 
 pub entries-smaller : goal.entries-smaller
 entries-smaller c =
-    let b = c.args.book.now in
+    let b = c.args.book.used.bytes.now in
     let e = c.in-Some.field-0.0 in
     let met = met-here (goal.at.entries-smaller c).In-Some in
     let inside : c.users.i < used b = omega (arith, c.users-test.true, c.used-records.ensures) in
@@ -80,7 +79,7 @@ entries-smaller c =
 
 pub users-preserved : goal.users-preserved
 users-preserved c =
-    let b = c.args.book.now in
+    let b = c.args.book.used.bytes.now in
     let i = c.users.i in
     let bad = c.users.bad in
     let s = c.users.invariant in
@@ -114,7 +113,7 @@ users-preserved c =
 -- by the way that the users were left
 pub returns : goal.returns
 returns c =
-    let b = c.args.book.now in
+    let b = c.args.book.used.bytes.now in
     let i = c.users.i in
     let s = c.users.invariant in
     let to = s.is.to in

@@ -21,9 +21,9 @@ module _ (b : List ℕ) (fits : length_fits b ≡ true) (u : used_fits b ≡ tru
 pub returns-in-Some : goal.returns-in-Some
 returns-in-Some c =
     let said = c.in-Some.ensures in
-    objected c.args.book.now c.requires.book_length c.requires.records_used c.requires.head c.in-Some.bad.0 said.1 said.0
+    objected c.args.book.used.bytes.now c.args.book.length c.args.book.used.counted c.args.book.head c.in-Some.bad.0 said.1 said.0
 
 pub returns-in-None : goal.returns-in-None
 returns-in-None c =
-    let b = c.args.book.now in
-    (accepted b c.requires.book_length c.requires.records_used c.requires.head (used b) c.in-None.ensures (omega arith), c.find_user.ensures)
+    let b = c.args.book.used.bytes.now in
+    (accepted b c.args.book.length c.args.book.used.counted c.args.book.head (used b) c.in-None.ensures (omega arith), c.find_user.ensures)

@@ -13,7 +13,6 @@ use Rattle.units.specs.declared.RecordIndex.{RecordIndex}
 use Rattle.units.specs.Units.{record_index}
 use Rattle.book_layout.specs.Fields.{get, record_at, kind_field, owner_field}
 use Rattle.book_rules.specs.Book.{used, kind_at, entry_kind, is_entry, owner_of}
-use Rattle.book_rules.proofs.Faults.{used-whole}
 use Rattle.check_owners.proofs.Lists.{LinkedFrom, linked-none, linked-entry, linked-other, linked-all}
 use Rattle.std.proofs.Common.{rules}
 use Rattle.check_owners.proofs.by_owner.Goals as goal
@@ -47,13 +46,13 @@ found_here c =
 
 -- what is read of the record
 read_here : (c : goal.After-is_entry_kind)
-    → (c.is_entry_kind.result ≡ is_entry c.args.book.now (c.loop-e.e - 1))
+    → (c.is_entry_kind.result ≡ is_entry c.args.book.bytes.now (c.loop-e.e - 1))
     × (c.owner_of-owner.result.0
-    ≡ owner_of c.args.book.now (c.loop-e.e - 1))
+    ≡ owner_of c.args.book.bytes.now (c.loop-e.e - 1))
 read_here c =
-    let b = c.args.book.now in
+    let b = c.args.book.bytes.now in
     let n = c.loop-e.e - 1 in
-    let whole = c.whole_record-r.ensures in (
+    let whole = c.whole-r.ensures in (
       entry_here b n whole (omega arith) (omega arith) c.kind_of.ensures c.is_entry_kind.ensures,
       owner_here b n whole
           c.owner_of-owner.ensures,
@@ -65,17 +64,13 @@ loop-e-init c =
       within = search rules;
       firsts = refl;
       laters = refl;
-      linked = linked-none c.args.book.now _ _ c.used-records.ensures
-          c.requires.records_bound;
+      linked = linked-none c.args.book.bytes.now _ _ c.used-records.ensures
+          c.requires;
     }
-
-pub whole_record-r-requires : goal.whole_record-r-requires
-whole_record-r-requires c =
-    used-whole c.args.book.now c.requires.records_used (c.loop-e.e - 1) (omega arith)
 
 pub loop-e-preserved-then-is_entry_kind-owner : goal.loop-e-preserved-then-is_entry_kind-owner
 loop-e-preserved-then-is_entry_kind-owner c =
-    let b = c.args.book.now in
+    let b = c.args.book.bytes.now in
     let f = found_here (goal.at.loop-e-preserved-then-is_entry_kind-owner c).Then-is_entry_kind-owner in
     let is = read_here (goal.at.loop-e-preserved-then-is_entry_kind-owner c).After-is_entry_kind in
     let linked = one_down b c.loop-e.e _ _ c.loop-e-test.true c.loop-e.invariant.linked in
@@ -88,7 +83,7 @@ loop-e-preserved-then-is_entry_kind-owner c =
 
 pub loop-e-preserved : goal.loop-e-preserved
 loop-e-preserved c =
-    let b = c.args.book.now in
+    let b = c.args.book.bytes.now in
     let is = read_here (goal.at.loop-e-preserved c).After-is_entry_kind in
     let linked = one_down b c.loop-e.e _ _ c.loop-e-test.true c.loop-e.invariant.linked in
     record {
@@ -100,4 +95,4 @@ loop-e-preserved c =
 
 pub returns : goal.returns
 returns c =
-    linked-all c.args.book.now c.loop-e.e _ (omega (arith, c.loop-e-test.false)) c.loop-e.invariant.linked
+    linked-all c.args.book.bytes.now c.loop-e.e _ (omega (arith, c.loop-e-test.false)) c.loop-e.invariant.linked

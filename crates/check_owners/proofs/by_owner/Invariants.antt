@@ -16,4 +16,4 @@ pub record Linking (book : List ℕ) (records : ℕ) (first later : List (Option
   pub linked : LinkedFrom book left first later
 
 abbrev pub invariant-loop-e : goal.invariant-loop-e
-invariant-loop-e l = Linking l.book l.records l.first l.later l.e
+invariant-loop-e l = Linking l.book.bytes.now l.records l.first l.later l.e

@@ -9,12 +9,12 @@ use Rattle.check_pass.proofs.follow_chains.Goals as goal
 
 pub loop-i-init : goal.loop-i-init
 loop-i-init c =
-    first c.args.book.now c.args.wanted.0 c.requires.records_used c.requires.pass_tables c.used-i.ensures
+    first c.args.book.used.bytes.now c.args.wanted.0 c.args.book.used.counted c.requires c.used-i.ensures
     (ap (λ (i : RecordIndex). i.0) c.first_user-expected.ensures)
 
 pub loop-i-preserved-in-User : goal.loop-i-preserved-in-User
 loop-i-preserved-in-User c =
-    let b = c.args.book.now in
+    let b = c.args.book.used.bytes.now in
     let was : c.kept_at.result ≡ Some (User c.in-User.r) = cc (c.in_ok-r.ensures.ok_part) in
     let met = MatchOption-at_some _ _ _ was c.kept_at.ensures in
     rw c.last_met-found.ensures
@@ -24,13 +24,13 @@ loop-i-preserved-in-User c =
 
 pub loop-i-preserved : goal.loop-i-preserved
 loop-i-preserved c =
-    let b = c.args.book.now in
+    let b = c.args.book.used.bytes.now in
     let was : c.kept_at.result ≡ Some (Entry c.in-Entry.r c.in-Entry.home c.in-Entry.owner) = cc (c.in_ok-r.ensures.ok_part) in
     let met = MatchOption-at_some _ _ _ was c.kept_at.ensures in
     rw c.behind.ensures
-    (entry-passed b c.loop-i.invariant (c.loop-i.i - 1) (omega arith) (omega arith) met.own c.requires.pass_tables.room met.is
+    (entry-passed b c.loop-i.invariant (c.loop-i.i - 1) (omega arith) (omega arith) met.own c.requires.room met.is
     (rw c.first-in-Entry.ensures at c.unwrap_or-due-in-Entry.ensures) (c.entry_leads.ensures c.if-not-entry_leads.false))
 
 pub returns-then-expected-eq0 : goal.returns-then-expected-eq0
 returns-then-expected-eq0 c =
-    joined c.args.book.now c.loop-i.invariant (omega arith) c.requires.records_used c.requires.head c.if-expected-eq0.true
+    joined c.args.book.used.bytes.now c.loop-i.invariant (omega arith) c.args.book.used.counted c.args.book.head c.if-expected-eq0.true

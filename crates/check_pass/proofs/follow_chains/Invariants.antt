@@ -5,4 +5,4 @@ use Rattle.check_pass.proofs.follow_chains.Given as goal
 
 abbrev pub invariant-loop-i : goal.invariant-loop-i
 invariant-loop-i l =
-    Following l.book l.wanted.0 (length l.initial.dues) (length l.initial.seen) l.i l.expected.0 l.found l.dues l.seen
+    Following l.book.used.bytes.now l.wanted.0 (length l.initial.dues) (length l.initial.seen) l.i l.expected.0 l.found l.dues l.seen

@@ -8,21 +8,18 @@ use Rattle.check_pass.proofs.kept_at.Goals as goal
 use Rattle.check_pass.proofs.kept_at.Goals.{After-user_record_fits, After-entry_record_fits, then-home-eq0-via-then-home-eq0, then-home-eq0-via-else-home-eq0+then-le}
 
 -- the own rules, as tested
-user-rules : (c : goal.After-user_record_fits) → own_rules_fit c.args.book.now c.args.index.0 ≡ c.user_record_fits.result
+user-rules : (c : goal.After-user_record_fits) → own_rules_fit c.args.book.bytes.now c.args.index.0 ≡ c.user_record_fits.result
 user-rules c =
-    user-own c.args.book.now c.args.index.0 c.whole-r.ensures c.kind_of.ensures c.if-kind_of-eq-USER.true ∙ sym c.user_record_fits.ensures
+    user-own c.args.book.bytes.now c.args.index.0 c.whole-r.ensures c.kind_of.ensures c.if-kind_of-eq-USER.true ∙ sym c.user_record_fits.ensures
 
-entry-rules : (c : goal.After-entry_record_fits) → own_rules_fit c.args.book.now c.args.index.0 ≡ c.entry_record_fits.result
+entry-rules : (c : goal.After-entry_record_fits) → own_rules_fit c.args.book.bytes.now c.args.index.0 ≡ c.entry_record_fits.result
 entry-rules c =
-    entry-own c.args.book.now c.args.index.0 c.whole-r.ensures c.kind_of.ensures c.if-kind_of-eq-USER.false
+    entry-own c.args.book.bytes.now c.args.index.0 c.whole-r.ensures c.kind_of.ensures c.if-kind_of-eq-USER.false
     (ap (λ (k : RecordIndex). k.0) c.owner_of-home.ensures) c.whole-owner.ensures ∙ sym c.entry_record_fits.ensures
-
-pub whole-r-requires : goal.whole-r-requires
-whole-r-requires c = used-whole c.args.book.now c.requires.records_used c.args.index.0 c.requires.index_bound
 
 pub returns-then-not-user_record_fits : goal.returns-then-not-user_record_fits
 returns-then-not-user_record_fits c =
-    own-bad c.args.book.now c.args.index.0 (user-rules (goal.at.returns-then-not-user_record_fits c).After-user_record_fits ∙ c.if-not-user_record_fits.true)
+    own-bad c.args.book.bytes.now c.args.index.0 (user-rules (goal.at.returns-then-not-user_record_fits c).After-user_record_fits ∙ c.if-not-user_record_fits.true)
 
 pub returns-then-kind_of-eq-USER : goal.returns-then-kind_of-eq-USER
 returns-then-kind_of-eq-USER c =
@@ -37,20 +34,16 @@ returns-then-kind_of-eq-USER c =
 
 pub returns-then-home-eq0 : goal.returns-then-home-eq0
 returns-then-home-eq0 c =
-    owner-bad c.args.book.now c.args.index.0 c.whole-r.ensures c.kind_of.ensures c.if-kind_of-eq-USER.false
+    owner-bad c.args.book.bytes.now c.args.index.0 c.whole-r.ensures c.kind_of.ensures c.if-kind_of-eq-USER.false
     (ap (λ (k : RecordIndex). k.0) c.owner_of-home.ensures)
     (λ lo hi. elim c.then-home-eq0.branch [
       | then-home-eq0-via-then-home-eq0 w ↦ omega (arith, lo)
       | then-home-eq0-via-else-home-eq0+then-le w ↦ grind (arith, hi)
     ])
 
-pub whole-owner-requires : goal.whole-owner-requires
-whole-owner-requires c =
-    used-whole c.args.book.now c.requires.records_used c.owner_of-home.result.0 (grind arith)
-
 pub returns-then-not-entry_record_fits : goal.returns-then-not-entry_record_fits
 returns-then-not-entry_record_fits c =
-    own-bad c.args.book.now c.args.index.0 (entry-rules (goal.at.returns-then-not-entry_record_fits c).After-entry_record_fits ∙ c.if-not-entry_record_fits.true)
+    own-bad c.args.book.bytes.now c.args.index.0 (entry-rules (goal.at.returns-then-not-entry_record_fits c).After-entry_record_fits ∙ c.if-not-entry_record_fits.true)
 
 pub returns : goal.returns
 returns c =

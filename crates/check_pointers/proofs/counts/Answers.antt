@@ -6,7 +6,7 @@ use lib.ListN.{get_or, get_or-replicate}
 use Rattle.units.specs.Limits.{most_records}
 use Rattle.units.specs.Folds.{sum_below}
 use Rattle.book_rules.specs.Book.{used, pointers_from, pointers_to}
-use Rattle.book_rules.proofs.Faults.{used-within, used-whole}
+use Rattle.book_rules.proofs.Faults.{used-within}
 use Rattle.book_rules.proofs.Hits.{hits-at-most}
 use Rattle.check_pointers.proofs.Counted.{counted-bound, counted-head, counted-user, counted-entry, counted-unknown}
 use Rattle.std.proofs.Common.{rules}
@@ -17,7 +17,7 @@ use Rattle.check_pointers.proofs.counts.Goals.{else-kind-eq-USER+then-is_entry_k
 -- there is room for two more in each count
 room : (c : goal.In-loop-j) (m : ℕ) → m < most_records → get_or c.loop-j.counts m 0 < 65534
 room c m h =
-    omega (arith, c.requires.records_bound, c.loop-j.invariant.counted m h, counted-bound c.args.book.now m c.loop-j.j)
+    omega (arith, c.requires, c.loop-j.invariant.counted m h, counted-bound c.args.book.bytes.now m c.loop-j.j)
 
 pub count-requires : goal.count-requires
 count-requires c = record {
@@ -31,17 +31,13 @@ count-requires c = record {
 
 pub loop-j-init : goal.loop-j-init
 loop-j-init c =
-    let b = c.args.book.now in record {
+    let b = c.args.book.bytes.now in record {
       from = omega arith;
-      within = omega (arith, (used-within b c.requires.records_used).0, c.used-records.ensures);
+      within = omega (arith, (used-within b c.args.book.counted).0, c.used-records.ensures);
       long = c.count.ensures.size;
       counted = λ m h. counted-head b m c.first_user.ensures (get_or-replicate most_records m 0 0 h) (c.count.ensures.counted m
           h);
     }
-
-pub whole_record-r-requires : goal.whole_record-r-requires
-whole_record-r-requires c =
-    used-whole c.args.book.now c.requires.records_used c.loop-j.j (omega arith)
 
 pub count-requires-then-kind-eq-USER : goal.count-requires-then-kind-eq-USER
 count-requires-then-kind-eq-USER c =
@@ -81,10 +77,10 @@ count-requires-then-is_entry_kind c =
 
 pub loop-j-preserved : goal.loop-j-preserved
 loop-j-preserved c =
-    let b = c.args.book.now in
+    let b = c.args.book.bytes.now in
     let j = c.loop-j.j in
     let inv = c.loop-j.invariant in
-    let whole = c.whole_record-r.ensures in
+    let whole = c.whole-r.ensures in
     let kind = c.kind_of-kind.ensures in
     elim c.if-kind-eq-USER.branch [
       | then-kind-eq-USER w ↦ rw w.counts-is (record {
@@ -114,6 +110,6 @@ loop-j-preserved c =
 pub returns : goal.returns
 unfolding pointers_to
 returns c = λ m p h.
-    let b = c.args.book.now in
+    let b = c.args.book.bytes.now in
     let end : c.loop-j.j ≡ used b = omega arith in
     c.loop-j.invariant.counted m h ∙ ap (λ (j : ℕ). sum_below j (pointers_from b m)) end

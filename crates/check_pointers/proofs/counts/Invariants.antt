@@ -15,5 +15,4 @@ pub record Counting (book : List ℕ) (records : ℕ) (counts : List ℕ) (j : �
   pub counted : (m : ℕ) → m < most_records → get_or counts m 0 ≡ sum_below j (pointers_from book m)
 
 abbrev pub invariant-loop-j : goal.invariant-loop-j
-invariant-loop-j l = Counting l.book l.records l.counts l.j
-
+invariant-loop-j l = Counting l.book.bytes.now l.records l.counts l.j
