@@ -133,7 +133,6 @@ fn contribution_of(option: u8, credit: Ticks, values: YearValues) -> Ticks
 }
 
 /// What a closing does with the credit before it.
-#[tactic(auto, unfolding(crate::specs::Account::outcome_of, crate::specs::Closing::liquidation_of, crate::specs::Closing::lapsed_of, crate::specs::Closing::credit_after))]
 pub fn outcome_of(option: u8, credit: Ticks, value: Ticks, cost: Ticks) -> Outcome
     requires { credit.0 + value.0 < 2 ^ 64 }
     ensures { result ≡ outcome_of option credit.0 value.0 cost.0 }
@@ -210,7 +209,7 @@ pub fn withheld_from(rest: Ticks, payment: Ticks) -> Ticks
 }
 
 /// What of a rest is withheld at a closing: first from the balance if that is positive, then from the liquidation.
-#[tactic(auto, using(crate::proofs::Charges::positive_balance), unfolding(crate::specs::Charges::withheld_at_closing, crate::specs::Charges::withheld_from))]
+#[tactic(auto, unfolding(crate::specs::Charges::withheld_at_closing, crate::specs::Charges::withheld_from))]
 pub fn withheld_at_closing(
     rest: Ticks,
     contribution: Ticks,

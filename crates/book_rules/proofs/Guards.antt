@@ -1,16 +1,12 @@
 -- A test that is made only where another one passes; and the tests of an entry by its owner's years.
 use Prim.Native.Nat.{ℕ, ◌≤◌, ◌<◌}
-use mathlib.Core.Path.{◌≡◌, refl, sym}
-use mathlib.Core.Bool.{Bool, true, false, ◌&&◌, ◌||◌, and-true, and-false}
-use mathlib.Core.List.{List}
+use mathlib.Core.Path.{◌≡◌}
+use mathlib.Core.Bool.{Bool, true, false, ◌&&◌, ◌||◌, and-true}
 use native.Mathlib.Decide.{dec_lt}
 use native.Mathlib.Omega.{arith}
 use borrow.Author.Tests.{eq-eqb, ne_eqb, eqb-false, le-leb, lt-leb, leb-false}
 use lib.Dec.{eqb, leb}
-use Rattle.units.proofs.Bools.{and_left, and_right, or_left, or_right}
-use Rattle.account_steps.specs.declared.Account.{Account}
-use Rattle.book_layout.specs.Fields.{get, activation_year_field, open_year_field}
-use Rattle.book_records.specs.Records.{account_in}
+use Rattle.units.proofs.Bools.{or_left, or_right}
 
 pub tested : {s t r : Bool} → s ≡ true → r ≡ t → r ≡ (t && s)
 tested {s} {t} e p = rw (e, and-true t) p

@@ -182,7 +182,7 @@ fn charge_fits(a: Account) -> bool
 }
 
 // Most users have no run made, nothing paid and nothing charged: that fits.
-#[tactic(auto, unfolding(crate::specs::Book::runs_fit, crate::specs::Book::advances_fit, crate::specs::Book::later_fits, crate::specs::Book::charge_fits), using(crate::proofs::Payments::nothing_fits))]
+#[tactic(auto, using(crate::proofs::Payments::nothing_fits))]
 fn nothing_paid(a: Account) -> bool
     ensures { result ≡ true → payments_fit a ≡ true }
 {
