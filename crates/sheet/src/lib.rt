@@ -2,8 +2,8 @@
 // bytes is an ordinary input.
 #![tactic(auto)]
 
-ghost use Rattle.std.specs.Prelude.{◌≡◌, true, false, not, ◌&&◌, ◌<◌, eqb, ltb, length, MatchResult};
-ghost use Rattle.units.specs.Units.{user_number};
+ghost use Rattle.std.specs.Prelude.{◌≡◌, ◌-◌, ◌^◌, min, true, false, not, ◌&&◌, ◌<◌, eqb, ltb, length, MatchResult};
+ghost use Rattle.units.specs.Units.{user_number, kwh};
 ghost use Rattle.units.specs.Folds.{any_below};
 ghost use Rattle.refusals.specs.Refusals.{position_at};
 ghost use Rattle.refusals.specs.declared.Refusal.TheVariants.{SheetForm};
@@ -14,7 +14,7 @@ ghost use Rattle.sheet.specs.YearSheet.{version_zero, point_zero, refused11, ref
 
 use refusals::{NOWHERE, Position, Refusal};
 use tariff::MONTHLY_THRESHOLD;
-use units::{MAX_KWH, MAX_PRICE, UserNumber};
+use units::{Kwh, MAX_KWH, MAX_PRICE, UserNumber};
 
 pub const LENGTH: usize = 1184;
 
@@ -290,12 +290,14 @@ pub fn fault_objection(s: &[u8]) -> Objection
     }
 }
 
-// Energy withdrawn in a month, of any numbers.
+// Energy withdrawn in a month. No number of a sheet past 13 is above 20,000,000, so that 32 bits hold three of them; of other bytes it is
+// the most that 32 bits hold where the sum is above that.
 #[tactic(auto, unfolding(crate::specs::YearSheet::month_withdrawn))]
-fn month_withdrawn(s: &[u8], month: u8) -> u64
-    ensures { result ≡ month_withdrawn s.now month }
+fn month_withdrawn(s: &[u8], month: u8) -> Kwh
+    ensures { result ≡ kwh (min (month_withdrawn s.now month) (2 ^ 32 - 1)) }
 {
-    u64::from(number(s, month, 0)) + u64::from(number(s, month, 1)) + u64::from(number(s, month, 2))
+    let bands = number(s, month, 0).saturating_add(number(s, month, 1));
+    Kwh(bands.saturating_add(number(s, month, 2)))
 }
 
 // 14: a domestic user with a month above the threshold of the monthly method.
@@ -304,7 +306,7 @@ pub fn domestic_excess(class: u8, s: &[u8]) -> bool
 {
     let mut above = false;
     for month in 0..12 {
-        above = above | (u64::from(MONTHLY_THRESHOLD) < month_withdrawn(s, month));
+        above = above | (MONTHLY_THRESHOLD < month_withdrawn(s, month).0);
     }
     tariff::is_domestic(class) & above
 }
