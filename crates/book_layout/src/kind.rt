@@ -1,15 +1,9 @@
 // What the kind byte of a record says (document 01, "Book").
-ghost use Rattle.std.specs.Prelude.{◌≡◌};
+ghost use Rattle.std.specs.Prelude.{◌≡◌, eqb};
 ghost use Rattle.book_layout.specs.Fields.{get, kind_field, all_zero};
 ghost use Rattle.book_layout.specs.Kinds.{kind_number, kind_named, unnamed_in};
 
 use crate::place;
-
-pub const USER: u8 = 1;
-
-pub const ADVANCE: u8 = 2;
-
-pub const CLOSING: u8 = 3;
 
 /// What a record is.
 #[derive(Clone, Copy, Debug, PartialEq, Eq)]
@@ -43,6 +37,14 @@ impl Kind {
             3 => Some(Kind::Closing),
             _ => None,
         }
+    }
+
+    /// Whether a record is of this kind.
+    #[tactic(auto, unfolding(crate::specs::Fields::get))]
+    pub fn is_of(self, r: &[u8]) -> bool
+        ensures { result ≡ eqb (get kind_field r.now) (kind_number self) }
+    {
+        codec::read::<u8>(r, place::KIND) == u8::from(self)
     }
 
     /// Whether the bytes that no field of a record of this kind names are zero.

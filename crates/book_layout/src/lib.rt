@@ -4,15 +4,12 @@
 
 ghost use Rattle.std.specs.Prelude.{◌≡◌, ◌+◌, ◌*◌, ◌<◌, ◌≤◌, min, length};
 ghost use Rattle.units.specs.Limits.{record_length};
-ghost use Rattle.units.specs.Units.{user_number, record_index};
 ghost use Rattle.codec.specs.Bytes.{stored};
-ghost use Rattle.book_layout.specs.Fields.{record_at, put_record, bytes, get, next_field, kind_field};
-ghost use Rattle.book_layout.specs.Fields.{number_field, first_entry_field, activation_year_field, open_year_field};
-ghost use Rattle.book_layout.specs.Fields.{owner_field};
+ghost use Rattle.book_layout.specs.Fields.{record_at, put_record, bytes, get};
 ghost use Rattle.book_layout.specs.Fields.{all_zero, unnamed_of_head};
 
 use codec::Number;
-use units::{RECORD_LENGTH, RecordIndex, UserNumber};
+use units::{RECORD_LENGTH, RecordIndex};
 
 pub mod kind;
 pub mod place;
@@ -34,15 +31,6 @@ pub fn record<'a>(book: &'a [u8], index: RecordIndex) -> &'a [u8]
     let from = start.min(book.len());
     let to = (start + RECORD_LENGTH).min(book.len());
     &book[from..to]
-}
-
-// The bytes of a record that the book has whole.
-pub fn whole_record<'a>(book: &'a [u8], index: usize) -> &'a [u8]
-    requires { record_length * index + record_length ≤ length book.now }
-    ensures { result.now ≡ record_at book.now index }
-{
-    let start = RECORD_LENGTH * index;
-    &book[start..start + RECORD_LENGTH]
 }
 
 /// A record that the book has whole. Its length is known, so that no read of it has to look for its end.
@@ -79,53 +67,4 @@ pub fn field<T: Number>(r: &[u8], at: usize) -> T
     ensures { T.value result ≡ get (bytes at T.WIDTH) r.now }
 {
     codec::read(r, at)
-}
-
-#[tactic(auto, unfolding(crate::specs::Fields::get))]
-pub fn next_of(r: &[u8]) -> RecordIndex
-    ensures { result ≡ record_index (get next_field r.now) }
-{
-    RecordIndex(codec::read(r, place::NEXT))
-}
-
-#[tactic(auto, unfolding(crate::specs::Fields::get))]
-pub fn kind_of(r: &[u8]) -> u8
-    ensures { result ≡ get kind_field r.now }
-{
-    codec::read(r, place::KIND)
-}
-
-#[tactic(auto, unfolding(crate::specs::Fields::get))]
-pub fn number_of(r: &[u8]) -> UserNumber
-    ensures { result ≡ user_number (get number_field r.now) }
-{
-    UserNumber(codec::read(r, place::NUMBER))
-}
-
-#[tactic(auto, unfolding(crate::specs::Fields::get))]
-pub fn first_entry_of(r: &[u8]) -> RecordIndex
-    ensures { result ≡ record_index (get first_entry_field r.now) }
-{
-    RecordIndex(codec::read(r, place::FIRST_ENTRY))
-}
-
-#[tactic(auto, unfolding(crate::specs::Fields::get))]
-pub fn activation_year_of(r: &[u8]) -> u16
-    ensures { result ≡ get activation_year_field r.now }
-{
-    codec::read(r, place::ACTIVATION_YEAR)
-}
-
-#[tactic(auto, unfolding(crate::specs::Fields::get))]
-pub fn open_year_of(r: &[u8]) -> u16
-    ensures { result ≡ get open_year_field r.now }
-{
-    codec::read(r, place::OPEN_YEAR)
-}
-
-#[tactic(auto, unfolding(crate::specs::Fields::get))]
-pub fn owner_of(r: &[u8]) -> RecordIndex
-    ensures { result ≡ record_index (get owner_field r.now) }
-{
-    RecordIndex(codec::read(r, place::OWNER))
 }

@@ -12,7 +12,7 @@ ghost use Rattle.book_layout.specs.Fields.{get, kind_field, all_zero, unnamed_of
 ghost use Rattle.book_records.specs.Records.{account_in};
 
 use account_steps::{Account, Balance};
-use book_layout::kind::{ADVANCE, CLOSING, Kind};
+use book_layout::kind::Kind;
 use book_layout::{Record, field, place};
 use book_records::{AdvanceRecord, ClosingRecord};
 use calendar::{Halves, JANUARY, JUNE, OCTOBER};
@@ -344,21 +344,22 @@ pub fn entry_record_fits(r: &Record, owner: &[u8]) -> bool
 }
 
 #[tactic(auto, unfolding(crate::specs::Book::entry_kind))]
-pub fn is_entry_kind(kind: u8) -> bool
-    ensures { result ≡ entry_kind kind }
+/// Whether a record is an entry.
+pub fn is_entry_record(r: &[u8]) -> bool
+    ensures { result ≡ entry_kind (get kind_field r.now) }
 {
-    matches!(kind, ADVANCE | CLOSING)
+    Kind::Advance.is_of(r) | Kind::Closing.is_of(r)
 }
 
 // THE ORDER OF A CHAIN
 
 /// The level of an entry: the year that was open when it was booked.
-#[tactic(auto, unfolding(crate::specs::Book::level_in, book_layout::specs::Kinds::kind_named))]
+#[tactic(auto, unfolding(crate::specs::Book::level_in))]
 pub fn level_of(r: &[u8]) -> u16
     ensures { result ≡ level_in r.now }
 {
     let year = field(r, place::YEAR);
-    if Kind::of(r) == Some(Kind::Closing) {
+    if Kind::Closing.is_of(r) {
         year
     } else {
         level_from(year, field(r, place::BOOKED))

@@ -89,8 +89,7 @@ pub fn used_fits(book: &[u8]) -> bool
 fn has_kind(book: &[u8], kind: Kind, index: RecordIndex) -> bool
     ensures { result ≡ has_kind book.now (kind_number kind) index.0 }
 {
-    let number: u8 = field(book, index, place::KIND);
-    ((0 < index.0) & (index.0 < used(book))) & (number == u8::from(kind))
+    ((0 < index.0) & (index.0 < used(book))) & kind.is_of(record(book, index))
 }
 
 pub fn is_user(book: &[u8], index: RecordIndex) -> bool
@@ -111,14 +110,11 @@ pub fn is_closing(book: &[u8], index: RecordIndex) -> bool
     has_kind(book, Kind::Closing, index)
 }
 
+#[tactic(auto, unfolding(book_rules::specs::Book::is_entry, book_rules::specs::Book::kind_at))]
 pub fn is_entry(book: &[u8], index: RecordIndex) -> bool
     ensures { result ≡ is_entry book.now index.0 }
 {
-    let entry = matches!(
-        Kind::of(record(book, index)),
-        Some(Kind::Advance | Kind::Closing)
-    );
-    ((0 < index.0) & (index.0 < used(book))) & entry
+    ((0 < index.0) & (index.0 < used(book))) & book_rules::is_entry_record(record(book, index))
 }
 
 // FIELDS OF A RECORD

@@ -6,7 +6,8 @@ ghost use Rattle.std.specs.Prelude.{◌≡◌, ◌≢◌, true};
 ghost use Rattle.units.specs.Units.{record_index};
 ghost use Rattle.book_rules.specs.Book.{is_user, is_entry, first_user, first_entry_of};
 
-use book_layout::kind;
+use book_layout::kind::Kind;
+use book_layout::{Record, place};
 use book_records::{AdvanceRecord, ClosingRecord};
 use book_view::{SoundBook, User};
 use units::RecordIndex;
@@ -21,15 +22,14 @@ pub enum Entry {
 impl Entry {
     ghost use Rattle.chain_reader.specs.Entries.{entry_in};
 
-    // The entry in the bytes of its record: what is no closing is an advance.
-    #[tactic(auto, unfolding(crate::specs::Entries::entry_in))]
-    fn read(r: &[u8]) -> Entry
+    // The entry that a record holds: what is no closing is an advance.
+    #[tactic(auto, unfolding(crate::specs::Entries::entry_in, book_layout::specs::Kinds::kind_named))]
+    fn read(r: &Record) -> Entry
         ensures { result ≡ entry_in r.now }
     {
-        if book_layout::kind_of(r) == kind::CLOSING {
-            Entry::Closing(book_records::closing_of(r))
-        } else {
-            Entry::Advance(book_records::advance_of(r))
+        match Kind::of(r) {
+            Some(Kind::Closing) => Entry::Closing(book_records::read_closing(r)),
+            _ => Entry::Advance(book_records::read_advance(r)),
         }
     }
 }
@@ -71,8 +71,8 @@ impl<'a> Iterator for Entries<'a> {
         if at.0 == 0 {
             return None;
         }
-        let r = book_layout::whole_record(self.book.bytes, at.0 as usize);
-        self.at = book_layout::next_of(r);
+        let r = book_layout::whole(self.book.bytes, at);
+        self.at = book_layout::field(r, place::NEXT);
         Some(Entry::read(r))
     }
 }
@@ -114,7 +114,7 @@ impl<'a> Iterator for Users<'a> {
         if index.0 == 0 {
             return None;
         }
-        self.at = book_view::next_of(self.book.bytes, index);
+        self.at = book_view::field(self.book.bytes, index, place::NEXT);
         Some(User {
             book: self.book,
             index,

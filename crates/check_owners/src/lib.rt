@@ -7,6 +7,7 @@ ghost use Rattle.book_rules.specs.Book.{used};
 ghost use Rattle.units.specs.Limits.{most_records};
 ghost use Rattle.check_owners.specs.InnerOwners.{Linked};
 
+use book_layout::place;
 use book_view::UsedBook;
 use units::{MOST_RECORDS, RecordIndex};
 
@@ -28,8 +29,8 @@ pub fn by_owner(book: UsedBook<'_>) -> Entries
     let records = book_view::used(book.bytes);
     for e in (1..records).rev() {
         let r = book.whole(RecordIndex(e));
-        let owner = book_layout::owner_of(r).0;
-        if book_rules::is_entry_kind(book_layout::kind_of(r)) & (owner < records) {
+        let owner: u32 = book_layout::field(r, place::OWNER);
+        if book_rules::is_entry_record(r) & (owner < records) {
             later[e as usize] = first[owner as usize];
             first[owner as usize] = Some(RecordIndex(e));
         }

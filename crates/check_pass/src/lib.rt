@@ -9,8 +9,8 @@ ghost use Rattle.book_rules.specs.Book.{length_fits, used, used_fits, good_head,
 ghost use Rattle.check_pass.specs.InnerSteps.{first_due, due_behind, UserLeads, EntryLeads, KeptRecord, last_met, Tables, KeptAfter};
 ghost use Rattle.check_pass.specs.InnerSteps.{Followed, BrokenFirst, PassedThrough};
 
-use book_layout::Record;
-use book_layout::kind::{CLOSING, USER};
+use book_layout::{Record, field, place};
+use book_layout::kind::Kind;
 use book_view::{HeadedBook, UsedBook};
 use check_numbers::PLACES;
 use units::{MOST_RECORDS, RecordIndex, UserNumber};
@@ -37,8 +37,8 @@ impl Due {
         ensures { result ≡ first_due user.now }
     {
         Due {
-            entry: book_layout::first_entry_of(user),
-            year: book_layout::open_year_of(user),
+            entry: field(user, place::FIRST_ENTRY),
+            year: field(user, place::OPEN_YEAR),
         }
     }
 
@@ -47,7 +47,7 @@ impl Due {
         ensures { result ≡ due_behind entry.now }
     {
         Due {
-            entry: book_layout::next_of(entry),
+            entry: field(entry, place::NEXT),
             year: book_rules::level_of(entry),
         }
     }
@@ -57,7 +57,7 @@ impl Due {
 fn user_leads(r: &[u8], index: RecordIndex, expected: RecordIndex, due: Due) -> bool
     ensures { result ≡ true → UserLeads r.now index.0 expected.0 due }
 {
-    let opened = due.year == book_layout::activation_year_of(r);
+    let opened = due.year == field(r, place::ACTIVATION_YEAR);
     (expected == index) & ((due.entry.0 == 0) & opened)
 }
 
@@ -66,9 +66,9 @@ fn user_leads(r: &[u8], index: RecordIndex, expected: RecordIndex, due: Due) -> 
 fn entry_leads(r: &[u8], owner: &[u8], index: RecordIndex, due: Due) -> bool
     ensures { result ≡ true → EntryLeads r.now owner.now index.0 due }
 {
-    let ended = u32::from(book_layout::kind_of(r) == CLOSING);
+    let ended = u32::from(Kind::Closing.is_of(r));
     let dated = u32::from(book_rules::level_of(r)) + ended == u32::from(due.year);
-    (due.entry == index) & ((book_layout::kind_of(owner) == USER) & dated)
+    (due.entry == index) & (Kind::User.is_of(owner) & dated)
 }
 
 // A record that keeps its own rules: a user, or an entry with its owner's index and record.
@@ -87,13 +87,13 @@ fn kept_at<'a>(book: UsedBook<'a>, index: RecordIndex) -> Option<Kept<'a>>
         (KeptRecord book.entry.bytes.now index.0) }
 {
     let r = book.whole(index);
-    if book_layout::kind_of(r) == USER {
+    if Kind::User.is_of(r) {
         if !book_rules::user_record_fits(r) {
             return None;
         }
         return Some(Kept::User(r));
     }
-    let home = book_layout::owner_of(r);
+    let home: RecordIndex = field(r, place::OWNER);
     if home.0 == 0 || index <= home {
         return None;
     }
@@ -137,7 +137,7 @@ fn follow_chains(
         match kept_at(book.used, index).ok_or(index)? {
             Kept::User(r) => {
                 let due = dues[i as usize].unwrap_or(Due::first(r));
-                let number = book_layout::number_of(r);
+                let number = field(r, place::NUMBER);
                 if !user_leads(r, index, expected, due) {
                     return Err(index);
                 }
@@ -145,7 +145,7 @@ fn follow_chains(
                     return Err(index);
                 }
                 found = last_met(found, index, number, wanted);
-                expected = book_layout::next_of(r);
+                expected = field(r, place::NEXT);
             }
             Kept::Entry(r, home, owner) => {
                 let due = dues[home.0 as usize].unwrap_or(Due::first(owner));

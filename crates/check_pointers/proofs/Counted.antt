@@ -48,13 +48,13 @@ module _ (b : List ℕ) (m : ℕ) where
     step : {y : ℕ} → y ≡ x + pointers_from b m j → y ≡ sum_below (j + 1) (pointers_from b m)
     step e = let s = sum_step j (pointers_from b m) in omega arith
 
-    next_here : {next : RecordIndex} → next ≡ record_index (get next_field r) → hits next.0 m ≡ hits (next_of b j) m
+    next_here : {next : RecordIndex} → next.0 ≡ get next_field r → hits next.0 m ≡ hits (next_of b j) m
     unfolding next_of
-    next_here n = ap (λ (i : RecordIndex). hits i.0 m) n ∙ ap (λ (l : List ℕ). hits (get next_field l) m) whole
+    next_here n = ap (λ (i : ℕ). hits i m) n ∙ ap (λ (l : List ℕ). hits (get next_field l) m) whole
 
-    first-here : {first : RecordIndex} → first ≡ record_index (get first_entry_field r) → hits first.0 m ≡ hits (first_entry_of b j) m
+    first-here : {first : RecordIndex} → first.0 ≡ get first_entry_field r → hits first.0 m ≡ hits (first_entry_of b j) m
     unfolding first_entry_of
-    first-here f = ap (λ (i : RecordIndex). hits i.0 m) f ∙ ap (λ (l : List ℕ). hits (get first_entry_field l) m) whole
+    first-here f = ap (λ (i : ℕ). hits i m) f ∙ ap (λ (l : List ℕ). hits (get first_entry_field l) m) whole
 
     of-user : kind ≡ user_kind → pointers_from b m j ≡ hits (next_of b j) m + hits (first_entry_of b j) m
     unfolding pointers_from
@@ -68,11 +68,11 @@ module _ (b : List ℕ) (m : ℕ) where
     unfolding pointers_from
     of-unknown u e = rw (ne_eqb j 0 not-head, kind-here, ne_eqb kind user_kind u, e)
 
-    pub counted-user : {next first : RecordIndex} {y z : ℕ} → kind ≡ user_kind → next ≡ record_index (get next_field r) → first ≡ record_index (get first_entry_field r)
+    pub counted-user : {next first : RecordIndex} {y z : ℕ} → kind ≡ user_kind → next.0 ≡ get next_field r → first.0 ≡ get first_entry_field r
         → y ≡ x + hits next.0 m → z ≡ y + hits first.0 m → z ≡ sum_below (j + 1) (pointers_from b m)
     counted-user u n f p q = let a = next_here n in let c = first-here f in let w = of-user u in step (omega arith)
 
-    pub counted-entry : {entry : Bool} {next : RecordIndex} {y : ℕ} → (kind ≡ user_kind → ⊥) → entry ≡ entry_kind kind → entry ≡ true → next ≡ record_index (get next_field r)
+    pub counted-entry : {entry : Bool} {next : RecordIndex} {y : ℕ} → (kind ≡ user_kind → ⊥) → entry ≡ entry_kind kind → entry ≡ true → next.0 ≡ get next_field r
         → y ≡ x + hits next.0 m → y ≡ sum_below (j + 1) (pointers_from b m)
     counted-entry u e t n p = let a = next_here n in let w = of_entry u (sym e ∙ t) in step (omega arith)
 

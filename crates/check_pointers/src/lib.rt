@@ -8,7 +8,8 @@ ghost use Rattle.units.specs.Limits.{most_records};
 ghost use Rattle.book_rules.specs.Book.{pointers_to, used};
 ghost use Rattle.check_pointers.specs.InnerPointers.{PointerCounted};
 
-use book_layout::kind::USER;
+use book_layout::kind::Kind;
+use book_layout::{field, place};
 use book_view::UsedBook;
 use units::{MOST_RECORDS, RecordIndex};
 
@@ -34,12 +35,11 @@ pub fn counts(book: UsedBook<'_>) -> [u16; MOST_RECORDS]
     count(&mut counts, book_view::first_user(book.bytes));
     for j in 1..records {
         let r = book.whole(RecordIndex(j));
-        let kind = book_layout::kind_of(r);
-        if kind == USER {
-            count(&mut counts, book_layout::next_of(r));
-            count(&mut counts, book_layout::first_entry_of(r));
-        } else if book_rules::is_entry_kind(kind) {
-            count(&mut counts, book_layout::next_of(r));
+        if Kind::User.is_of(r) {
+            count(&mut counts, field(r, place::NEXT));
+            count(&mut counts, field(r, place::FIRST_ENTRY));
+        } else if book_rules::is_entry_record(r) {
+            count(&mut counts, field(r, place::NEXT));
         }
     }
     counts

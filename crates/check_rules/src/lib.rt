@@ -10,8 +10,8 @@ ghost use Rattle.book_rules.specs.Book.{good_record};
 ghost use Rattle.book_rules.specs.Book.{good_head};
 ghost use Rattle.check_rules.specs.InnerFollows.{follows_entry};
 
-use book_layout::kind::{ADVANCE, CLOSING, USER};
-use book_layout::record;
+use book_layout::kind::Kind;
+use book_layout::{field, place, record};
 use book_view::{
     UsedBook, activation_of, first_entry_of, first_user, is_advance, is_closing, is_entry, is_user,
     level_of, next_of, number_of, open_year_of, owner_of,
@@ -97,11 +97,11 @@ fn first_in_order(book: &[u8], index: RecordIndex) -> bool
 fn follows(r: &[u8], owner: RecordIndex, level: u16) -> bool
     ensures { result ≡ follows_entry r.now owner.0 level }
 {
-    let kind = book_layout::kind_of(r);
-    let kin = book_rules::is_entry_kind(kind) & (book_layout::owner_of(r) == owner);
+    let of: RecordIndex = field(r, place::OWNER);
+    let kin = book_rules::is_entry_record(r) & (of == owner);
     let behind = book_rules::level_of(r);
-    let advance = (kind == ADVANCE) & (behind == level);
-    let closing = (kind == CLOSING) & (u32::from(behind) + 1 == u32::from(level));
+    let advance = Kind::Advance.is_of(r) & (behind == level);
+    let closing = Kind::Closing.is_of(r) & (u32::from(behind) + 1 == u32::from(level));
     kin & (advance | closing)
 }
 
@@ -113,18 +113,18 @@ fn entry_links_fit(book: UsedBook<'_>, index: RecordIndex) -> bool
         && next_in_order book.entry.bytes.now index.0) }
 {
     let r = book.whole(index);
-    let owner = book_layout::owner_of(r);
+    let owner: RecordIndex = field(r, place::OWNER);
     if owner.0 == 0 || index <= owner {
         return false;
     }
     let home = book.whole(owner);
-    if book_layout::kind_of(home) != USER {
+    if !Kind::User.is_of(home) {
         return false;
     }
     let level = book_rules::level_of(r);
-    let next = book_layout::next_of(r);
+    let next: RecordIndex = field(r, place::NEXT);
     if next.0 == 0 {
-        return level == book_layout::activation_year_of(home);
+        return level == field(home, place::ACTIVATION_YEAR);
     }
     if index <= next {
         return false;
@@ -141,7 +141,7 @@ fn links_fit(book: UsedBook<'_>, index: RecordIndex, new: bool) -> bool
     requires index_bound { index.0 < used book.bytes.now }
     ensures { result ≡ links_fit book.entry.bytes.now index.0 }
 {
-    if book_layout::kind_of(book.whole(index)) == USER {
+    if Kind::User.is_of(book.whole(index)) {
         let user = user_next_fits(book.bytes, index) & new;
         user & (first_entry_fits(book.bytes, index) & first_in_order(book.bytes, index))
     } else {

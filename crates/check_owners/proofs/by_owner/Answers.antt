@@ -16,7 +16,7 @@ use Rattle.book_rules.specs.Book.{used, kind_at, entry_kind, is_entry, owner_of}
 use Rattle.check_owners.proofs.Lists.{LinkedFrom, linked-none, linked-entry, linked-other, linked-all}
 use Rattle.std.proofs.Common.{rules}
 use Rattle.check_owners.proofs.by_owner.Goals as goal
-use Rattle.check_owners.proofs.by_owner.Goals.{After-is_entry_kind, Then-is_entry_kind-owner}
+use Rattle.check_owners.proofs.by_owner.Goals.{After-is_entry_record, Then-is_entry_record-owner}
 
 found : (entry : Bool) (owner records : ℕ) → (entry && ltb owner records) ≡ true → (entry ≡ true) × (owner < records)
 found entry owner records told =
@@ -24,14 +24,13 @@ found entry owner records told =
 
 -- the record n, whose bytes are r
 module _ (b : List ℕ) (n : ℕ) {r : List ℕ} (whole : r ≡ record_at b n) where
-  entry_here : {kind : ℕ} {entry : Bool} → 1 ≤ n → n < used b → kind ≡ get kind_field r → entry ≡ entry_kind kind → entry ≡
-      is_entry b n
+  entry_here : {entry : Bool} → 1 ≤ n → n < used b → entry ≡ entry_kind (get kind_field r) → entry ≡ is_entry b n
   unfolding is_entry kind_at
-  entry_here lo hi k e = rw (lt-ltb 0 n lo, lt-ltb n (used b) hi) (e ∙ ap entry_kind (k ∙ ap (get kind_field) whole))
+  entry_here lo hi e = rw (lt-ltb 0 n lo, lt-ltb n (used b) hi) (e ∙ ap (λ (l : List ℕ). entry_kind (get kind_field l)) whole)
 
-  owner_here : {owner : RecordIndex} → owner ≡ record_index (get owner_field r) → owner.0 ≡ owner_of b n
+  owner_here : {owner : ℕ} → owner ≡ get owner_field r → owner ≡ owner_of b n
   unfolding owner_of
-  owner_here w = ap (λ (i : RecordIndex). i.0) w ∙ ap (get owner_field) whole
+  owner_here w = w ∙ ap (get owner_field) whole
 
 -- the record before `left`
 one_down : (b : List ℕ) (left : ℕ) (firsts laters : List (Option RecordIndex)) → 1 < left → LinkedFrom b left firsts laters → LinkedFrom b
@@ -39,23 +38,23 @@ one_down : (b : List ℕ) (left : ℕ) (firsts laters : List (Option RecordIndex
 one_down b left firsts laters some linked = let same : left ≡ left - 1 + 1 = omega arith in
     subst (λ n. LinkedFrom b n firsts laters) same linked
 
-found_here : (c : goal.Then-is_entry_kind-owner)
-    → (c.is_entry_kind.result ≡ true) × (c.owner_of-owner.result.0 < c.used-records.result)
+found_here : (c : goal.Then-is_entry_record-owner)
+    → (c.is_entry_record.result ≡ true) × (c.field-owner.result < c.used-records.result)
 found_here c =
-    found c.is_entry_kind.result c.owner_of-owner.result.0 c.used-records.result c.if-is_entry_kind-owner.true
+    found c.is_entry_record.result c.field-owner.result c.used-records.result c.if-is_entry_record-owner.true
 
 -- what is read of the record
-read_here : (c : goal.After-is_entry_kind)
-    → (c.is_entry_kind.result ≡ is_entry c.args.book.bytes.now (c.loop-e.e - 1))
-    × (c.owner_of-owner.result.0
+read_here : (c : goal.After-is_entry_record)
+    → (c.is_entry_record.result ≡ is_entry c.args.book.bytes.now (c.loop-e.e - 1))
+    × (c.field-owner.result
     ≡ owner_of c.args.book.bytes.now (c.loop-e.e - 1))
 read_here c =
     let b = c.args.book.bytes.now in
     let n = c.loop-e.e - 1 in
     let whole = c.whole-r.ensures in (
-      entry_here b n whole (omega arith) (omega arith) c.kind_of.ensures c.is_entry_kind.ensures,
+      entry_here b n whole (omega arith) (omega arith) c.is_entry_record.ensures,
       owner_here b n whole
-          c.owner_of-owner.ensures,
+          c.field-owner.ensures,
     )
 
 pub loop-e-init : goal.loop-e-init
@@ -68,11 +67,11 @@ loop-e-init c =
           c.requires;
     }
 
-pub loop-e-preserved-then-is_entry_kind-owner : goal.loop-e-preserved-then-is_entry_kind-owner
-loop-e-preserved-then-is_entry_kind-owner c =
+pub loop-e-preserved-then-is_entry_record-owner : goal.loop-e-preserved-then-is_entry_record-owner
+loop-e-preserved-then-is_entry_record-owner c =
     let b = c.args.book.bytes.now in
-    let f = found_here (goal.at.loop-e-preserved-then-is_entry_kind-owner c).Then-is_entry_kind-owner in
-    let is = read_here (goal.at.loop-e-preserved-then-is_entry_kind-owner c).After-is_entry_kind in
+    let f = found_here (goal.at.loop-e-preserved-then-is_entry_record-owner c).Then-is_entry_record-owner in
+    let is = read_here (goal.at.loop-e-preserved-then-is_entry_record-owner c).After-is_entry_record in
     let linked = one_down b c.loop-e.e _ _ c.loop-e-test.true c.loop-e.invariant.linked in
     record {
       within = search rules;
@@ -84,13 +83,13 @@ loop-e-preserved-then-is_entry_kind-owner c =
 pub loop-e-preserved : goal.loop-e-preserved
 loop-e-preserved c =
     let b = c.args.book.bytes.now in
-    let is = read_here (goal.at.loop-e-preserved c).After-is_entry_kind in
+    let is = read_here (goal.at.loop-e-preserved c).After-is_entry_record in
     let linked = one_down b c.loop-e.e _ _ c.loop-e-test.true c.loop-e.invariant.linked in
     record {
       within = search rules;
       firsts = c.loop-e.invariant.firsts;
       laters = c.loop-e.invariant.laters;
-      linked = linked-other b (c.loop-e.e - 1) linked is.0 is.1 c.used-records.ensures c.if-is_entry_kind-owner.false;
+      linked = linked-other b (c.loop-e.e - 1) linked is.0 is.1 c.used-records.ensures c.if-is_entry_record-owner.false;
     }
 
 pub returns : goal.returns

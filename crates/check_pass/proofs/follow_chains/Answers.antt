@@ -1,7 +1,6 @@
 -- From the last record down, as the chains lead.
 use Rattle.std.proofs.Common.{◌≡◌, ◌-◌, Some, ap, ◌∙◌, arith}
 use Rattle.units.specs.declared.RecordIndex.{RecordIndex}
-use Rattle.units.specs.declared.UserNumber.{UserNumber}
 use Rattle.std.proofs.lemmas.Option.{MatchOption-at_some}
 use Rattle.check_pass.specs.declared.Kept.TheVariants.{User, Entry}
 use Rattle.check_pass.proofs.Following.{first, user-passed, entry-passed, joined}
@@ -19,8 +18,8 @@ loop-i-preserved-in-User c =
     let met = MatchOption-at_some _ _ _ was c.kept_at.ensures in
     rw c.last_met-found.ensures
     (user-passed b c.loop-i.invariant (c.loop-i.i - 1) (omega arith) (omega arith) met.own met.is (rw c.first.ensures at c.unwrap_or-due.ensures) (c.user_leads.ensures c.if-not-user_leads.false)
-    (ap (λ (k : UserNumber). k.0) c.number_of-number.ensures) (c.insert.ensures.size ∙ c.loop-i.invariant.seen_size)
-    (c.insert.ensures.inserted c.if-not-insert.false) (ap (λ (k : RecordIndex). k.0) c.next_of-expected.ensures))
+    c.field-number.ensures (c.insert.ensures.size ∙ c.loop-i.invariant.seen_size)
+    (c.insert.ensures.inserted c.if-not-insert.false) c.field-expected.ensures)
 
 pub loop-i-preserved : goal.loop-i-preserved
 loop-i-preserved c =

@@ -1,6 +1,7 @@
 -- The counts so far are the sums over the records passed.
 use Prim.Native.Nat.{ℕ, ◌<◌}
-use mathlib.Core.Path.{◌≡◌, refl, ap, ◌∙◌}
+use mathlib.Core.Path.{◌≡◌, refl, sym, ap, ◌∙◌}
+use borrow.Author.Tests.{eqb-true, eqb-false}
 use native.Mathlib.Omega.{arith}
 use lib.ListN.{get_or, get_or-replicate}
 use Rattle.units.specs.Limits.{most_records}
@@ -11,8 +12,8 @@ use Rattle.book_rules.proofs.Hits.{hits-at-most}
 use Rattle.check_pointers.proofs.Counted.{counted-bound, counted-head, counted-user, counted-entry, counted-unknown}
 use Rattle.std.proofs.Common.{rules}
 use Rattle.check_pointers.proofs.counts.Goals as goal
-use Rattle.check_pointers.proofs.counts.Goals.{In-loop-j, else-kind-eq-USER+else-is_entry_kind}
-use Rattle.check_pointers.proofs.counts.Goals.{else-kind-eq-USER+then-is_entry_kind, then-kind-eq-USER}
+use Rattle.check_pointers.proofs.counts.Goals.{In-loop-j, else-is_of+else-is_entry_record}
+use Rattle.check_pointers.proofs.counts.Goals.{else-is_of+then-is_entry_record, then-is_of}
 
 -- there is room for two more in each count
 room : (c : goal.In-loop-j) (m : ℕ) → m < most_records → get_or c.loop-j.counts m 0 < 65534
@@ -39,39 +40,39 @@ loop-j-init c =
           h);
     }
 
-pub count-requires-then-kind-eq-USER : goal.count-requires-then-kind-eq-USER
-count-requires-then-kind-eq-USER c =
+pub count-requires-then-is_of : goal.count-requires-then-is_of
+count-requires-then-is_of c =
     record {
       counts_length = c.loop-j.invariant.long;
       counts_room = λ m h. omega (
         arith,
         room
-            (goal.at.count-requires-then-kind-eq-USER c).In-loop-j m h,
+            (goal.at.count-requires-then-is_of c).In-loop-j m h,
       );
     }
 
-pub count-requires-then-kind-eq-USER-2 : goal.count-requires-then-kind-eq-USER-2
-count-requires-then-kind-eq-USER-2 c =
-    let e = c.count-then-kind-eq-USER.ensures in
+pub count-requires-then-is_of-2 : goal.count-requires-then-is_of-2
+count-requires-then-is_of-2 c =
+    let e = c.count-then-is_of.ensures in
     record {
       counts_length = e.size;
       counts_room = λ m h. omega (
         arith,
         e.counted m h,
-        hits-at-most c.next_of.result.0 m,
+        hits-at-most c.field.result.0 m,
         room
-            (goal.at.count-requires-then-kind-eq-USER-2 c).In-loop-j m h,
+            (goal.at.count-requires-then-is_of-2 c).In-loop-j m h,
       );
     }
 
-pub count-requires-then-is_entry_kind : goal.count-requires-then-is_entry_kind
-count-requires-then-is_entry_kind c =
+pub count-requires-then-is_entry_record : goal.count-requires-then-is_entry_record
+count-requires-then-is_entry_record c =
     record {
       counts_length = c.loop-j.invariant.long;
       counts_room = λ m h. omega (
         arith,
         room
-            (goal.at.count-requires-then-is_entry_kind c).In-loop-j m h,
+            (goal.at.count-requires-then-is_entry_record c).In-loop-j m h,
       );
     }
 
@@ -81,29 +82,28 @@ loop-j-preserved c =
     let j = c.loop-j.j in
     let inv = c.loop-j.invariant in
     let whole = c.whole-r.ensures in
-    let kind = c.kind_of-kind.ensures in
-    elim c.if-kind-eq-USER.branch [
-      | then-kind-eq-USER w ↦ rw w.counts-is (record {
+    elim c.if-is_of.branch [
+      | then-is_of w ↦ rw w.counts-is (record {
         from = search rules;
         within = search rules;
-        long = w.count-then-kind-eq-USER-2.ensures.size;
-        counted = λ m h. counted-user b m j inv.from whole kind (inv.counted m h) w.if-kind-eq-USER.true w.next_of.ensures
-            w.first_entry_of.ensures (w.count-then-kind-eq-USER.ensures.counted m h) (w.count-then-kind-eq-USER-2.ensures.counted m
+        long = w.count-then-is_of-2.ensures.size;
+        counted = λ m h. counted-user b m j inv.from whole refl (inv.counted m h) (eqb-true _ _ (sym c.is_of.ensures ∙ w.if-is_of.true)) w.field.ensures
+            w.field-then-is_of.ensures (w.count-then-is_of.ensures.counted m h) (w.count-then-is_of-2.ensures.counted m
             h);
       })
-      | else-kind-eq-USER+then-is_entry_kind w ↦ rw w.counts-is (record {
+      | else-is_of+then-is_entry_record w ↦ rw w.counts-is (record {
         from = search rules;
         within = search rules;
-        long = w.count-then-is_entry_kind.ensures.size;
-        counted = λ m h. counted-entry b m j inv.from whole kind (inv.counted m h) w.if-kind-eq-USER.false w.is_entry_kind.ensures
-            w.if-is_entry_kind.true w.next_of-then-is_entry_kind.ensures (w.count-then-is_entry_kind.ensures.counted m h);
+        long = w.count-then-is_entry_record.ensures.size;
+        counted = λ m h. counted-entry b m j inv.from whole refl (inv.counted m h) (eqb-false _ _ (sym c.is_of.ensures ∙ w.if-is_of.false)) w.is_entry_record.ensures
+            w.if-is_entry_record.true w.field-then-is_entry_record.ensures (w.count-then-is_entry_record.ensures.counted m h);
       })
-      | else-kind-eq-USER+else-is_entry_kind w ↦ rw w.counts-is (record {
+      | else-is_of+else-is_entry_record w ↦ rw w.counts-is (record {
         from = search rules;
         within = search rules;
         long = inv.long;
-        counted = λ m h. counted-unknown b m j inv.from whole kind (inv.counted m h) w.if-kind-eq-USER.false w.is_entry_kind.ensures
-            w.if-is_entry_kind.false;
+        counted = λ m h. counted-unknown b m j inv.from whole refl (inv.counted m h) (eqb-false _ _ (sym c.is_of.ensures ∙ w.if-is_of.false)) w.is_entry_record.ensures
+            w.if-is_entry_record.false;
       })
     ]
 
