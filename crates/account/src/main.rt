@@ -10,7 +10,7 @@ ghost use Rattle.account.specs.Amounts.{amount};
 ghost use Rattle.account_conserved.specs.Conservation.{Small};
 
 use account_steps::Balance;
-use account_years::{Charges, OfEach, Payments, Year};
+use account_years::{Charges, Payments, Year};
 use book_view::User;
 use output::{Failure, Printer};
 use statements::Sums;
@@ -74,13 +74,13 @@ impl fmt::Display for Amount {
 
 // What a year was charged, where the book tells it.
 #[derive(Clone, Copy)]
-struct Charge(OfEach);
+struct Charge(Option<Ticks>);
 
 impl fmt::Display for Charge {
     fn fmt<W: fmt::Write>(&self, f: &mut fmt::Formatter<W>) -> fmt::Result {
         match self.0 {
-            OfEach::Charged(ticks) => write!(f, "{}", Amount::from(ticks)),
-            OfEach::NotKept => write!(f, "{:>19}", "-"),
+            Some(ticks) => write!(f, "{}", Amount::from(ticks)),
+            None => write!(f, "{:>19}", "-"),
         }
     }
 }
@@ -126,10 +126,7 @@ fn say_years(out: &mut Printer, user: User<'_>) -> Result<(), Failure> {
     let activation = book_view::activation_of(user.book.bytes, user.index);
     let open = book_view::open_year_of(user.book.bytes, user.index);
     for n in 0..open - activation {
-        say_year(
-            out,
-            account_years::closed_year(user.book.bytes, user.index, n),
-        )?;
+        say_year(out, account_years::closed_year(user, n))?;
     }
     Ok(())
 }
@@ -165,7 +162,7 @@ fn say_payment_headings(out: &mut Printer) -> Result<(), Failure> {
 fn say_payments<N: fmt::Display + Drop>(
     out: &mut Printer,
     name: N,
-    charge: OfEach,
+    charge: Option<Ticks>,
     payments: Payments,
 ) -> Result<(), Failure> {
     out.line(format_args!(
@@ -178,11 +175,11 @@ fn say_payments<N: fmt::Display + Drop>(
 }
 
 // The closed years of a user, oldest first.
-fn say_closed_payments(out: &mut Printer, user: User<'_>, each: OfEach) -> Result<(), Failure> {
+fn say_closed_payments(out: &mut Printer, user: User<'_>, each: Option<Ticks>) -> Result<(), Failure> {
     let activation = book_view::activation_of(user.book.bytes, user.index);
     let open = book_view::open_year_of(user.book.bytes, user.index);
     for year in activation..open {
-        let payments = account_years::payments_of(user.book.bytes, user.index, year, year);
+        let payments = account_years::payments_of(user, year, year);
         say_payments(out, year, each, payments)?;
     }
     Ok(())
@@ -191,11 +188,11 @@ fn say_closed_payments(out: &mut Printer, user: User<'_>, each: OfEach) -> Resul
 // The two open years, of which the earlier one takes charges.
 fn say_open_payments(out: &mut Printer, user: User<'_>, charge: Ticks) -> Result<(), Failure> {
     let open = book_view::open_year_of(user.book.bytes, user.index);
-    let payments = account_years::payments_of(user.book.bytes, user.index, open, open);
-    say_payments(out, open, OfEach::Charged(charge), payments)?;
+    let payments = account_years::payments_of(user, open, open);
+    say_payments(out, open, Some(charge), payments)?;
     let later = open + 1;
-    let payments = account_years::payments_of(user.book.bytes, user.index, later, later);
-    say_payments(out, later, OfEach::Charged(Ticks(0)), payments)
+    let payments = account_years::payments_of(user, later, later);
+    say_payments(out, later, Some(Ticks(0)), payments)
 }
 
 // "A user's charges made equal those withheld plus the rest"
@@ -211,16 +208,11 @@ fn say_charges_made(out: &mut Printer, charges: Charges) -> Result<(), Failure> 
 
 fn say_charges(out: &mut Printer, user: User<'_>) -> Result<(), Failure> {
     say_payment_headings(out)?;
-    let charges = account_years::charges_of(user.book.bytes, user.index);
+    let charges = account_years::charges_of(user);
     say_closed_payments(out, user, charges.each)?;
     say_open_payments(out, user, charges.open)?;
-    let payments = account_years::payments_of(
-        user.book.bytes,
-        user.index,
-        0,
-        account_years::LAST_NAMED_YEAR,
-    );
-    say_payments(out, "all", OfEach::Charged(charges.made), payments)?;
+    let payments = account_years::payments_of(user, 0, account_years::LAST_NAMED_YEAR);
+    say_payments(out, "all", Some(charges.made), payments)?;
     say_charges_made(out, charges)
 }
 

@@ -3,11 +3,11 @@ use Prim.Native.Nat.{ℕ, ◌+◌, ◌-◌, ◌*◌, ◌^◌, ◌≤◌, ◌<◌
 use mathlib.Core.Path.{◌≡◌}
 use mathlib.Core.Bool.{true}
 use mathlib.Core.List.{List}
+use Rattle.std.specs.Prelude.{Option}
 use native.Mathlib.Nat.{mul-le-mul}
 use native.Mathlib.Omega.{arith}
 use mir.Syntax.{w64}
 use mir.Val.{Fits}
-use borrow.Author.Tests.{eq-eqb, ne_eqb}
 use lib.Dec.{eqb}
 use Rattle.units.specs.declared.Ticks.{Ticks}
 use Rattle.units.specs.Units.{ticks}
@@ -18,27 +18,12 @@ use Rattle.account_steps.specs.Charges.{charge_of}
 use Rattle.book_rules.specs.Book.{length_fits, sound, is_user, account_at}
 use Rattle.book_rules.proofs.Faultless.{sound-faultless}
 use Rattle.call_keeps.proofs.Widths.{account-within}
-use Rattle.account_years.specs.declared.OfEach.{OfEach}
 use Rattle.account_years.specs.declared.Payments.{Payments}
 use Rattle.account_years.specs.History.{payments_of, charge_of_open, charge_of_each, charges_from, charges_of}
 use Rattle.account_years.proofs.PaidOut.{withheld-small}
 
-most : {yearly closed : ℕ} → yearly ≤ max_charge → closed < 2 ^ 16 → yearly * closed ≤ max_charge * 2 ^ 16
-most {yearly} {closed} h k = let wide : closed ≤ 2 ^ 16 = omega arith in mul-le-mul h wide
-
-module _ (made ofOpen yearly closed : ℕ) where
-  pub none-charged : made ≡ ofOpen → OfEach.Charged (ticks 0) ≡ charge_of_each made ofOpen yearly closed
-  unfolding charge_of_each
-  none-charged e = rw (eq-eqb made ofOpen e)
-
-  module _ (some : made ≡ ofOpen → ⊥) (wide : ℕ) (is : wide ≡ closed) where
-    pub all-charged : made ≡ ofOpen + yearly * wide → OfEach.Charged (ticks yearly) ≡ charge_of_each made ofOpen yearly closed
-    unfolding charge_of_each
-    all-charged e = rw (ne_eqb made ofOpen some, eq-eqb made (ofOpen + yearly * closed) (rw is at e))
-
-    pub not-kept : (made ≡ ofOpen + yearly * wide → ⊥) → OfEach.NotKept ≡ charge_of_each made ofOpen yearly closed
-    unfolding charge_of_each
-    not-kept n = rw (ne_eqb made ofOpen some, ne_eqb made (ofOpen + yearly * closed) (rw is at n))
+pub most_charged : (yearly closed : ℕ) → yearly ≤ max_charge → closed < 2 ^ 16 → yearly * closed ≤ max_charge * 2 ^ 16
+most_charged yearly closed h k = let wide : closed ≤ 2 ^ 16 = omega arith in mul-le-mul h wide
 
 pub open-most : (made yearly : ℕ) → yearly ≤ max_charge → charge_of_open made yearly ≤ max_charge
 unfolding charge_of_open
@@ -58,7 +43,7 @@ module _ (b : List ℕ) (i : ℕ) (long : length_fits b ≡ true) (good : sound 
         record { fits = omega arith }
 
     pub charges-are : (yearly ofOpen : Ticks) → yearly ≡ ticks (charge_of account.details.power) → ofOpen ≡ ticks (charge_of_open account.charge.made yearly.0)
-        → (each : OfEach) → each ≡ charge_of_each (p.withheld.0 + account.charge.rest.0) ofOpen.0 yearly.0 (account.open_year - account.details.year)
+        → (each : Option Ticks) → each ≡ charge_of_each (p.withheld.0 + account.charge.rest.0) ofOpen.0 yearly.0 (account.open_year - account.details.year)
         → record { made = ticks (p.withheld.0 + account.charge.rest.0); withheld = p.withheld; rest = account.charge.rest; «open» = ofOpen; each = each } ≡ charges_of b i
     unfolding charges_of charges_from
     charges-are yearly ofOpen y o each e = rw (e, o, y, paid, read)

@@ -2,26 +2,27 @@
 use Prim.Native.Nat.{ℕ, ◌+◌, ◌*◌, ◌^◌, ◌≤◌, ◌<◌}
 use mathlib.Core.Path.{◌≡◌, refl, sym, ap, subst, ◌∙◌}
 use mathlib.Core.Bool.{Bool, true, false, cond, ◌&&◌}
+use mathlib.Core.Logic.{⊎_elim}
 use mathlib.Core.List.{List}
 use native.Mathlib.Omega.{arith}
 use borrow.Author.Tests.{leb-true}
 use lib.Dec.{leb}
 use Rattle.units.specs.declared.RecordIndex.{RecordIndex}
 use Rattle.units.specs.declared.Ticks.{Ticks}
-use Rattle.units.specs.Units.{record_index}
+use Rattle.units.specs.Units.{ticks}
 use Rattle.units.specs.Limits.{max_year_ticks, max_flat_rate, max_contribution}
 use Rattle.units.proofs.Bools.{and_left, and_right}
-use Rattle.book_layout.specs.Fields.{record_at}
+use Rattle.book_layout.specs.Fields.{record_at, advance_kind, closing_kind}
 use Rattle.book_records.specs.declared.AdvanceRecord.{AdvanceRecord}
 use Rattle.book_records.specs.declared.ClosingRecord.{ClosingRecord}
 use Rattle.book_records.specs.Records.{advance_in, closing_in}
-use Rattle.book_rules.specs.Book.{length_fits, sound, within, span_of, is_user, is_advance, is_closing, next_of, first_entry_of, owner_of, account_at, year_fits, level_from, booked_fits, is_run}
+use Rattle.book_rules.specs.Book.{length_fits, sound, within, span_of, is_user, is_entry, is_advance, is_closing, next_of, first_entry_of, owner_of, account_at, year_fits, level_from, booked_fits, is_run}
 use Rattle.book_rules.specs.Book.{advance_fits}
 use Rattle.book_rules.specs.Book.{balance_fits, paid_balance, withheld_fits, closing_fits}
 use Rattle.book_rules.specs.Chains.{entries_of}
 use Rattle.book_rules.proofs.Faultless.{Faultless, sound-faultless}
 use Rattle.book_rules.proofs.Faultless as book
-use Rattle.book_rules.proofs.RecordKinds.{advance-entry, closing-entry}
+use Rattle.book_rules.proofs.RecordKinds.{advance-entry, closing-entry, entry-cases, kinds-apart}
 use Rattle.chains.specs.Statements.{sum_over}
 use Rattle.chains.proofs.Ranges.{closing-ranges, advance-range}
 use Rattle.chains.proofs.Fit.{entries-sum}
@@ -29,7 +30,10 @@ use Rattle.chains.proofs.Walks.{Ahead, begins, ahead-next}
 use Rattle.account_years.specs.declared.Payments.{Payments}
 use Rattle.account_years.specs.History.{payments_are, by_advance, by_closing, payments_by, payments_of}
 use Rattle.call_keeps.proofs.Widths.{paid-capped}
-use Rattle.account_years.proofs.Walk.{Adding, add-begins, add-room, add-on, added}
+use Rattle.account_years.specs.InnerEntries.{entry_payments, payments_added, PaymentsRoom}
+use Rattle.chain_reader.specs.Entries.{entry_in}
+use Rattle.chain_reader.proofs.Held.{closing_held, advance_held}
+use Rattle.account_years.proofs.Walk.{Adding, add_begins, add_room, add_on, added, more}
 
 -- the most that a closing pays
 abbrev most_paid : ℕ
@@ -99,9 +103,6 @@ module _ (b : List ℕ) (f : Faultless b) where
       by-advance true h = by-advance-few e (and_left (is_advance b e) (within first last (advance_in (record_at b e)).year) h)
       by-advance false h = by-closing (is_closing b e && within first last (closing_in (record_at b e)).year) refl
 
-  liquidation-most : (e : ℕ) → is_closing b e ≡ true → (closing_in (record_at b e)).sums.liquidation.0 ≤ max_year_ticks
-  liquidation-most e is = (closing-ranges b f e is).liquidation
-
 -- THE WALK: three sums at once
 abbrev advances_by : List ℕ → ℕ → ℕ → ℕ → ℕ
 advances_by b first last e = (payments_by b first last e).advances.0
@@ -112,74 +113,65 @@ withheld_by b first last e = (payments_by b first last e).withheld.0
 abbrev paid_by : List ℕ → ℕ → ℕ → ℕ → ℕ
 paid_by b first last e = (payments_by b first last e).paid.0
 
-pub record Paying (b : List ℕ) (first last from a w p at : ℕ) : Type 0 where
+pub record Paying (b : List ℕ) (i first last : ℕ) (p : Payments) (at : ℕ) : Type 0 where
   pub ahead : Ahead b at
-  pub advances : Adding b (advances_by b first last) from a at
-  pub withheld : Adding b (withheld_by b first last) from w at
-  pub paid : Adding b (paid_by b first last) from p at
+  pub advances : Adding b i (advances_by b first last) p.advances.0 at
+  pub withheld : Adding b i (withheld_by b first last) p.withheld.0 at
+  pub paid : Adding b i (paid_by b first last) p.paid.0 at
 
 module _ (b : List ℕ) (i first last : ℕ) (long : length_fits b ≡ true) (good : sound b ≡ true) (user : is_user b i ≡ true) where
-  sum-small : (g : ℕ → ℕ) → ((e : ℕ) → g e ≤ most_paid) → sum_over g (entries_of b i) < 2 ^ 63
-  sum-small g most = omega (arith, entries-sum b (sound-faultless b long good) i user long g most_paid most)
+  sum_small : (g : ℕ → ℕ) → ((e : ℕ) → g e ≤ most_paid) → sum_over g (entries_of b i) < 2 ^ 63
+  sum_small g most = omega (arith, entries-sum b (sound-faultless b long good) i user long g most_paid most)
 
   pub withheld-small : (payments_of b i first last).withheld.0 < 2 ^ 63
   unfolding payments_of
-  withheld-small = sum-small (withheld_by b first last) (λ e. (by-few b (sound-faultless b long good) first last e).withheld)
+  withheld-small = sum_small (withheld_by b first last) (λ e. (by-few b (sound-faultless b long good) first last e).withheld)
 
-  pub pay-begins : (at : RecordIndex) → at ≡ record_index (first_entry_of b i) → Paying b first last at.0 0 0 0 at.0
-  pay-begins at e =
+  pub pay_begins : Paying b i first last (payments_are 0 0 0) (first_entry_of b i)
+  pay_begins =
       let few = by-few b (sound-faultless b long good) first last in
       record {
-        ahead = subst (λ k. Ahead b k.0) (sym e) (begins b i long good user);
-        advances = add-begins b i (advances_by b first last) (sum-small (advances_by b first last) (λ k. (few k).advances)) at e;
-        withheld = add-begins b i (withheld_by b first last) (sum-small (withheld_by b first last) (λ k. (few k).withheld)) at e;
-        paid = add-begins b i (paid_by b first last) (sum-small (paid_by b first last) (λ k. (few k).paid)) at e;
+        ahead = begins b i long good user;
+        advances = add_begins b i (advances_by b first last) (sum_small (advances_by b first last) (λ k. (few k).advances));
+        withheld = add_begins b i (withheld_by b first last) (sum_small (withheld_by b first last) (λ k. (few k).withheld));
+        paid = add_begins b i (paid_by b first last) (sum_small (paid_by b first last) (λ k. (few k).paid));
       }
 
-module _ (b : List ℕ) (first last from a w p at : ℕ) (s : Paying b first last from a w p at) (more : at ≡ 0 → ⊥) (part : Payments) (is : part ≡ payments_by b first last at) where
-  pub record Room : Type 0 where
-    pub advances : a + part.advances.0 < 2 ^ 64
-    pub withheld : w + part.withheld.0 < 2 ^ 64
-    pub paid : p + part.paid.0 < 2 ^ 64
+module _ (b : List ℕ) (i first last : ℕ) (p : Payments) (at : ℕ) (s : Paying b i first last p at) (entry : is_entry b at ≡ true) where
+  abbrev part : Payments
+  part = entry_payments first last (entry_in (record_at b at))
 
-  pub pay-room : Room
-  pay-room =
+  by_entry : part ≡ payments_by b first last at
+  unfolding entry_payments payments_by
+  by_entry =
+      ⊎_elim (λ (a : is_advance b at ≡ true). rw (advance_held b at a, a, kinds-apart b advance_kind closing_kind at (λ q. omega arith) a))
+      (λ (c : is_closing b at ≡ true). rw (closing_held b at c, c, kinds-apart b closing_kind advance_kind at (λ q. omega arith) c))
+      (entry-cases b at entry)
+
+  pub pay_room : PaymentsRoom part p
+  pay_room =
       record {
-        advances = add-room b (advances_by b first last) from a at part.advances.0 s.ahead more s.advances (ap (λ x. x.advances.0) is);
-        withheld = add-room b (withheld_by b first last) from w at part.withheld.0 s.ahead more s.withheld (ap (λ x. x.withheld.0) is);
-        paid = add-room b (paid_by b first last) from p at part.paid.0 s.ahead more s.paid (ap (λ x. x.paid.0) is);
+        advances = add_room b i (advances_by b first last) p.advances.0 at part.advances.0 s.ahead entry s.advances (ap (λ x. x.advances.0) by_entry);
+        withheld = add_room b i (withheld_by b first last) p.withheld.0 at part.withheld.0 s.ahead entry s.withheld (ap (λ x. x.withheld.0) by_entry);
+        paid = add_room b i (paid_by b first last) p.paid.0 at part.paid.0 s.ahead entry s.paid (ap (λ x. x.paid.0) by_entry);
       }
 
-  pub pay-on : (next : RecordIndex) → next ≡ record_index (next_of b at)
-      → Paying b first last from (a + part.advances.0) (w + part.withheld.0) (p + part.paid.0) next.0
-  pay-on next e =
-      rw e record {
-        ahead = ahead-next b at s.ahead more;
-        advances = add-on b (advances_by b first last) from a at part.advances.0 s.ahead more s.advances (ap (λ x. x.advances.0) is);
-        withheld = add-on b (withheld_by b first last) from w at part.withheld.0 s.ahead more s.withheld (ap (λ x. x.withheld.0) is);
-        paid = add-on b (paid_by b first last) from p at part.paid.0 s.ahead more s.paid (ap (λ x. x.paid.0) is);
+  pub pay_on : Paying b i first last (payments_added part p) (next_of b at)
+  unfolding payments_added
+  pay_on =
+      record {
+        ahead = ahead-next b at s.ahead (more b at entry);
+        advances = add_on b i (advances_by b first last) p.advances.0 at part.advances.0 s.ahead entry s.advances (ap (λ x. x.advances.0) by_entry);
+        withheld = add_on b i (withheld_by b first last) p.withheld.0 at part.withheld.0 s.ahead entry s.withheld (ap (λ x. x.withheld.0) by_entry);
+        paid = add_on b i (paid_by b first last) p.paid.0 at part.paid.0 s.ahead entry s.paid (ap (λ x. x.paid.0) by_entry);
       }
 
-pub paid-all : (b : List ℕ) (i first last : ℕ) (from : RecordIndex) (a w p : Ticks) (at : ℕ) → from ≡ record_index (first_entry_of b i)
-    → Paying b first last from.0 a.0 w.0 p.0 at → at ≡ 0 → record { advances = a; withheld = w; paid = p } ≡ payments_of b i first last
+pub paid_all : (b : List ℕ) (i first last : ℕ) (p : Payments) (at : ℕ) → Paying b i first last p at → at ≡ 0 → p ≡ payments_of b i first last
 unfolding payments_of
-paid-all b i first last from a w p at e s end =
-    rw (added b i (advances_by b first last) from a e at s.advances end, added b i (withheld_by b first last) from w e at s.withheld end, added b i (paid_by b first last) from p e at s.paid end)
-
--- an entry by its kind and year
-module _ (b : List ℕ) (first last e : ℕ) (r : List ℕ) (there : r ≡ record_at b e) (advance : AdvanceRecord) (read : advance ≡ advance_in r) (t : Bool) (is : t ≡ is_advance b e) where
-  pub its-advance : (t && within first last advance.year) ≡ true → (p : Payments) → p ≡ by_advance advance → p ≡ payments_by b first last e
-  unfolding payments_by
-  its-advance h p q = rw (sym is, sym there, sym read, h) q
-
-  module _ (other : (t && within first last advance.year) ≡ false) (closing : ClosingRecord) (found : closing ≡ closing_in r) (u : Bool) (ends : u ≡ is_closing b e) where
-    pub its-closing : (u && within first last closing.year) ≡ true → (p : Payments) → p ≡ by_closing closing → p ≡ payments_by b first last e
-    unfolding payments_by
-    its-closing h p q = rw (sym is, sym ends, sym there, sym read, sym found, other, h) q
-
-    pub neither : (u && within first last closing.year) ≡ false → payments_are 0 0 0 ≡ payments_by b first last e
-    unfolding payments_by
-    neither h = rw (sym is, sym ends, sym there, sym read, sym found, other, h)
-
-    pub closing-in-range : Faultless b → (u && within first last closing.year) ≡ true → closing.sums.liquidation.0 ≤ max_year_ticks
-    closing-in-range f h = rw (found, there) (liquidation-most b f e (sym ends ∙ and_left u (within first last closing.year) h))
+paid_all b i first last p at s end =
+    λ k.
+    record {
+      advances = ticks (added b i (advances_by b first last) p.advances.0 at s.advances end k);
+      withheld = ticks (added b i (withheld_by b first last) p.withheld.0 at s.withheld end k);
+      paid = ticks (added b i (paid_by b first last) p.paid.0 at s.paid end k);
+    }

@@ -1,5 +1,6 @@
 -- A user's account year by year, from its chain.
-use Rattle.std.specs.Prelude.{ℕ, zero, suc, ◌+◌, ◌-◌, ◌*◌, Bool, cond, ◌&&◌, List, [], ◌∷◌, eqb}
+use Rattle.std.specs.Prelude.{ℕ, zero, suc, ◌+◌, ◌-◌, ◌*◌, Bool, cond, ◌&&◌, List, [], ◌∷◌, eqb, Option, Some, None}
+use Rattle.std.specs.Option.{unwrap_or}
 use Rattle.units.specs.declared.Ticks.{Ticks}
 use Rattle.units.specs.Units.{ticks}
 use Rattle.account_steps.specs.Closing.{credit_after}
@@ -12,19 +13,18 @@ use Rattle.book_rules.specs.Book.{within, is_advance, is_closing, paid_balance, 
 use Rattle.book_rules.specs.Chains.{entries_of}
 use Rattle.chains.specs.Statements.{sum_over}
 use Rattle.account_years.specs.declared.Payments.{Payments}
-use Rattle.account_years.specs.declared.OfEach.{OfEach}
 use Rattle.account_years.specs.declared.Charges.{Charges}
 use Rattle.account_years.specs.declared.Year.{Year}
 
--- the closing of a year among these entries, 0 where there is none; and in the chain of the user i
+-- the closing of a year among these entries, if there is one; and in the chain of the user i
 unfoldable pub is_closing_of : List ℕ → ℕ → ℕ → Bool
 is_closing_of b year e = is_closing b e && eqb (level_of b e) year
 
-unfoldable pub closing_among : List ℕ → ℕ → List ℕ → ℕ
-closing_among b year [] = 0
-closing_among b year (e ∷ es) = cond (is_closing_of b year e) e (closing_among b year es)
+unfoldable pub closing_among : List ℕ → ℕ → List ℕ → Option ClosingRecord
+closing_among b year [] = None
+closing_among b year (e ∷ es) = cond (is_closing_of b year e) (Some (closing_in (record_at b e))) (closing_among b year es)
 
-unfoldable pub closing_of : List ℕ → ℕ → ℕ → ℕ
+unfoldable pub closing_of : List ℕ → ℕ → ℕ → Option ClosingRecord
 closing_of b i year = closing_among b year (entries_of b i)
 
 -- WHAT ENTRIES PAY: "Each entry keeps its withheld ticks" (ticket 1), and "every answer, are counted before withholding". An advance
@@ -57,10 +57,9 @@ payments_of b i first last =
 unfoldable pub charge_of_open : ℕ → ℕ → ℕ
 charge_of_open made yearly = cond (eqb made 0) 0 yearly
 
-unfoldable pub charge_of_each : ℕ → ℕ → ℕ → ℕ → OfEach
+unfoldable pub charge_of_each : ℕ → ℕ → ℕ → ℕ → Option Ticks
 charge_of_each made ofOpen yearly closed =
-    cond (eqb made ofOpen) (OfEach.Charged (ticks 0))
-    (cond (eqb made (ofOpen + yearly * closed)) (OfEach.Charged (ticks yearly)) OfEach.NotKept)
+    cond (eqb made ofOpen) (Some (ticks 0)) (cond (eqb made (ofOpen + yearly * closed)) (Some (ticks yearly)) None)
 
 unfoldable pub charges_from : Ticks → Ticks → ℕ → ℕ → ℕ → Charges
 charges_from withheld rest made yearly closed =
@@ -79,33 +78,42 @@ charges_of b i =
     (charge_of (account_at b i).details.power)
     ((account_at b i).open_year - (account_at b i).details.year)
 
--- the entry of the year n years after the activation
-unfoldable pub closing_after : List ℕ → ℕ → ℕ → ℕ
+-- the closing of the year n years after the activation
+unfoldable pub closing_after : List ℕ → ℕ → ℕ → Option ClosingRecord
 closing_after b i n = closing_of b i (activation_of b i + n)
 
 -- the credit after the first n years: "Closing" folded from zero over the chain's C, O and option
 unfoldable pub credit_over : ClosingRecord → ℕ → ℕ
 credit_over c k = credit_after c.option k c.sums.value.0 c.sums.cost.0
 
+-- .. and what a year without a closing leaves
+abbrev pub credit_then : Option ClosingRecord → ℕ → ℕ
+credit_then None k = k
+credit_then (Some c) k = credit_over c k
+
 unfoldable pub credit_after_years : List ℕ → ℕ → ℕ → ℕ
 credit_after_years b i zero = 0
-credit_after_years b i (suc n) =
-    cond (eqb (closing_after b i n) 0) (credit_after_years b i n)
-    (credit_over (closing_in (record_at b (closing_after b i n))) (credit_after_years b i n))
+credit_after_years b i (suc n) = credit_then (closing_after b i n) (credit_after_years b i n)
 
--- the year n years after the activation
+-- the year n years after the activation, from its closing; the head's bytes stand in the place of one that is not there
+unfoldable pub year_of : ClosingRecord → ℕ → Payments → ℕ → Year
+year_of c year payments credit =
+    record {
+      year = year;
+      option = c.option;
+      value = c.sums.value;
+      cost = c.sums.cost;
+      flat_rate = c.sums.flat_rate;
+      contribution = c.sums.contribution;
+      payments = payments;
+      balance = c.sums.balance;
+      liquidation = c.sums.liquidation;
+      lapsed = c.sums.lapsed;
+      credit = ticks credit;
+    }
+
 unfoldable pub closed_year : List ℕ → ℕ → ℕ → Year
 closed_year b i n =
-    record {
-      year = activation_of b i + n;
-      option = (closing_in (record_at b (closing_after b i n))).option;
-      value = (closing_in (record_at b (closing_after b i n))).sums.value;
-      cost = (closing_in (record_at b (closing_after b i n))).sums.cost;
-      flat_rate = (closing_in (record_at b (closing_after b i n))).sums.flat_rate;
-      contribution = (closing_in (record_at b (closing_after b i n))).sums.contribution;
-      payments = payments_of b i (activation_of b i + n) (activation_of b i + n);
-      balance = (closing_in (record_at b (closing_after b i n))).sums.balance;
-      liquidation = (closing_in (record_at b (closing_after b i n))).sums.liquidation;
-      lapsed = (closing_in (record_at b (closing_after b i n))).sums.lapsed;
-      credit = ticks (credit_after_years b i (suc n));
-    }
+    year_of (unwrap_or (closing_after b i n) (closing_in (record_at b 0))) (activation_of b i + n)
+    (payments_of b i (activation_of b i + n) (activation_of b i + n))
+    (credit_after_years b i (suc n))

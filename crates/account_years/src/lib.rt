@@ -2,18 +2,19 @@
 // it; and what the user was charged (document 02, ticket 1).
 #![tactic(auto)]
 
-ghost use Rattle.std.specs.Prelude.{◌≡◌, true, cond, ◌+◌, ◌*◌, ◌≤◌, ◌<◌, eqb};
-ghost use Rattle.units.specs.Units.{ticks, record_index};
+ghost use Rattle.std.specs.Prelude.{◌≡◌, ◌+◌, ◌*◌, ◌≤◌, ◌<◌, IfSome};
+ghost use Rattle.units.specs.Units.{ticks};
 ghost use Rattle.units.specs.Limits.{max_year_ticks, max_charge, most_years};
-ghost use Rattle.book_layout.specs.Fields.{record_at};
-ghost use Rattle.book_records.specs.Records.{closing_in};
-ghost use Rattle.book_rules.specs.Book.{length_fits, sound, is_user, is_closing};
 ghost use Rattle.units.specs.InnerWithin.{NumberWithin};
-ghost use Rattle.account_years.specs.History.{is_closing_of, closing_of, closing_after, by_advance, by_closing, payments_by, payments_of};
-ghost use Rattle.account_years.specs.History.{charge_of_open, charge_of_each, charges_of, credit_over, credit_after_years, closed_year};
+ghost use Rattle.book_rules.specs.Book.{activation_of};
+ghost use Rattle.account_years.specs.History.{closing_of, closing_after, by_advance, by_closing, payments_of};
+ghost use Rattle.account_years.specs.History.{charge_of_open, charge_of_each, charges_of, credit_over, credit_then, credit_after_years, closed_year};
+ghost use Rattle.account_years.specs.InnerEntries.{closing_in_year, entry_payments, payments_added, AmountsFit, EntryFits, PaymentsRoom};
 
 use account_steps::Balance;
 use book_records::{AdvanceRecord, ClosingRecord};
+use book_view::User;
+use chain_reader::{Entries, Entry};
 use units::{RecordIndex, Ticks};
 
 // The last year that the bytes of an entry can name.
@@ -27,21 +28,15 @@ pub struct Payments {
     pub paid: Ticks,
 }
 
-// What each closed year was charged. Which of them were is not kept.
-#[derive(Clone, Copy, Debug, PartialEq, Eq)]
-pub enum OfEach {
-    Charged(Ticks),
-    NotKept,
-}
-
-// The charges made, what of them was withheld and what rests, and those of the open year and of each closed one.
+// The charges made, what of them was withheld and what rests, and those of the open year and of each closed one: none where
+// which closed years were charged is not kept.
 #[derive(Clone, Copy, Debug, PartialEq, Eq)]
 pub struct Charges {
     pub made: Ticks,
     pub withheld: Ticks,
     pub rest: Ticks,
     pub open: Ticks,
-    pub each: OfEach,
+    pub each: Option<Ticks>,
 }
 
 // One closed year.
@@ -60,30 +55,49 @@ pub struct Year {
     pub credit: Ticks,
 }
 
-fn is_closing_of(book: &[u8], entry: RecordIndex, year: u16) -> bool
-    ensures { result ≡ is_closing_of book.now year entry.0 }
+// The closing that an entry is, if it is that of a year.
+#[tactic(auto, unfolding(crate::specs::InnerEntries::closing_in_year))]
+fn closing_in_year(entry: Entry, year: u16) -> Option<ClosingRecord>
+    ensures { result ≡ closing_in_year year entry }
 {
-    book_view::is_closing(book, entry) & (book_view::level_of(book, entry) == year)
+    match entry {
+        Entry::Closing(closing) => (closing.year == year).then_some(closing),
+        Entry::Advance(_) => None,
+    }
 }
 
-// The closing of a year, 0 where there is none.
-fn closing_of_year(book: &[u8], user: RecordIndex, year: u16) -> RecordIndex
-    requires book_length { length_fits book.now ≡ true }
-    requires sound_book { sound book.now ≡ true }
-    requires user_record { is_user book.now user.0 ≡ true }
-    ensures { result ≡ record_index (closing_of book.now user.0 year) }
+// The closing of a year.
+fn closing_of_year(user: User<'_>, year: u16) -> Option<ClosingRecord>
+    ensures { result ≡ closing_of user.entry.book.bytes.now user.entry.index.0 year }
 {
-    let mut at = book_view::first_entry_of(book, user);
-    while at.0 != 0 {
-        if is_closing_of(book, at, year) {
-            return at;
+    for entry in Entries::of(user) {
+        if let Some(closing) = closing_in_year(entry, year) {
+            return Some(closing);
         }
-        at = book_view::next_of(book, at);
     }
-    at
+    None
 }
 
 // WHAT ENTRIES PAY (document 02, ticket 1)
+
+const NO_PAYMENTS: Payments = Payments {
+    advances: Ticks(0),
+    withheld: Ticks(0),
+    paid: Ticks(0),
+};
+
+impl Payments {
+    #[tactic(auto, unfolding(crate::specs::InnerEntries::payments_added))]
+    fn with(mut self, part: Payments) -> Payments
+        requires { PaymentsRoom part self }
+        ensures { result ≡ payments_added part self }
+    {
+        self.advances += part.advances;
+        self.withheld += part.withheld;
+        self.paid += part.paid;
+        self
+    }
+}
 
 #[tactic(auto, unfolding(crate::specs::History::by_advance))]
 fn by_advance(advance: AdvanceRecord) -> Payments
@@ -110,76 +124,56 @@ fn by_closing(closing: ClosingRecord) -> Payments
 }
 
 // What an entry pays, if its year is one of those from `first` to `last`.
-fn payments_by(book: &[u8], entry: RecordIndex, first: u16, last: u16) -> Payments
-    requires book_length { length_fits book.now ≡ true }
-    requires sound_book { sound book.now ≡ true }
-    ensures { result ≡ payments_by book.now first last entry.0 }
+#[tactic(auto, unfolding(crate::specs::InnerEntries::entry_payments))]
+fn payments_by(entry: Entry, first: u16, last: u16) -> Payments
+    requires { EntryFits entry }
+    ensures { result ≡ entry_payments first last entry }
 {
-    let bytes = book_layout::record(book, entry);
-    let advance = book_records::advance_of(bytes);
-    if book_view::is_advance(book, entry) & ((first <= advance.year) & (advance.year <= last)) {
-        return by_advance(advance);
-    }
-    let closing = book_records::closing_of(bytes);
-    if book_view::is_closing(book, entry) & ((first <= closing.year) & (closing.year <= last)) {
-        return by_closing(closing);
-    }
-    Payments {
-        advances: Ticks(0),
-        withheld: Ticks(0),
-        paid: Ticks(0),
+    match entry {
+        Entry::Advance(advance) => {
+            if (first <= advance.year) & (advance.year <= last) {
+                by_advance(advance)
+            } else {
+                NO_PAYMENTS
+            }
+        }
+        Entry::Closing(closing) => {
+            if (first <= closing.year) & (closing.year <= last) {
+                by_closing(closing)
+            } else {
+                NO_PAYMENTS
+            }
+        }
     }
 }
 
 // What a user's entries of the years from `first` to `last` pay.
-pub fn payments_of(book: &[u8], user: RecordIndex, first: u16, last: u16) -> Payments
-    requires book_length { length_fits book.now ≡ true }
-    requires sound_book { sound book.now ≡ true }
-    requires user_record { is_user book.now user.0 ≡ true }
-    ensures { result ≡ payments_of book.now user.0 first last }
+pub fn payments_of(user: User<'_>, first: u16, last: u16) -> Payments
+    ensures { result ≡ payments_of user.entry.book.bytes.now user.entry.index.0 first last }
 {
-    let mut advances = Ticks(0);
-    let mut withheld = Ticks(0);
-    let mut paid = Ticks(0);
-    let mut at = book_view::first_entry_of(book, user);
-    while at.0 != 0 {
-        let part = payments_by(book, at, first, last);
-        advances = Ticks(advances.0 + part.advances.0);
-        withheld = Ticks(withheld.0 + part.withheld.0);
-        paid = Ticks(paid.0 + part.paid.0);
-        at = book_view::next_of(book, at);
+    let mut payments = NO_PAYMENTS;
+    for entry in Entries::of(user) {
+        payments = payments.with(payments_by(entry, first, last));
     }
-    Payments {
-        advances,
-        withheld,
-        paid,
-    }
+    payments
 }
 
 // WHAT IS CHARGED
 
 // What each closed year was charged, where the charges made tell it.
-fn charge_of_each(made: Ticks, of_open: Ticks, yearly: Ticks, closed: u16) -> OfEach
+#[tactic(auto, unfolding(crate::specs::History::charge_of_each))]
+fn charge_of_each(made: Ticks, of_open: Ticks, yearly: Ticks, closed: u16) -> Option<Ticks>
     requires { (of_open.0 ≤ max_charge) × (yearly.0 ≤ max_charge) }
     ensures { result ≡ charge_of_each made.0 of_open.0 yearly.0 closed }
 {
-    if made.0 == of_open.0 {
-        return OfEach::Charged(Ticks(0));
+    if made == of_open {
+        return Some(Ticks(0));
     }
-    if made.0 == of_open.0 + yearly.0 * wide(closed) {
-        OfEach::Charged(yearly)
-    } else {
-        OfEach::NotKept
-    }
-}
-
-fn wide(n: u16) -> u64
-    ensures { result ≡ n }
-{
-    n as u64
+    (made.0 == of_open.0 + yearly.0 * u64::from(closed)).then_some(yearly)
 }
 
 // What the open year was charged.
+#[tactic(auto, unfolding(crate::specs::History::charge_of_open))]
 fn charge_of_open(made: u8, yearly: Ticks) -> Ticks
     ensures { result ≡ ticks (charge_of_open made yearly.0) }
 {
@@ -187,20 +181,15 @@ fn charge_of_open(made: u8, yearly: Ticks) -> Ticks
 }
 
 // The charges of a user.
-pub fn charges_of(book: &[u8], user: RecordIndex) -> Charges
-    requires book_length { length_fits book.now ≡ true }
-    requires sound_book { sound book.now ≡ true }
-    requires user_record { is_user book.now user.0 ≡ true }
-    ensures { result ≡ charges_of book.now user.0 }
+pub fn charges_of(user: User<'_>) -> Charges
+    ensures { result ≡ charges_of user.entry.book.bytes.now user.entry.index.0 }
 {
-    let account = book_view::account_at(book, user);
-    let payments = payments_of(book, user, 0, LAST_NAMED_YEAR);
-    let withheld = payments.withheld;
-    let charge = account.charge;
-    let rest = charge.rest;
-    let made = Ticks(withheld.0 + rest.0);
+    let account = user.account();
+    let withheld = payments_of(user, 0, LAST_NAMED_YEAR).withheld;
+    let rest = account.charge.rest;
+    let made = withheld + rest;
     let yearly = account_steps::charge_of(account.details.power);
-    let open = charge_of_open(charge.made, yearly);
+    let open = charge_of_open(account.charge.made, yearly);
     let each = charge_of_each(made, open, yearly, account.open_year - account.details.year);
     Charges {
         made,
@@ -211,89 +200,79 @@ pub fn charges_of(book: &[u8], user: RecordIndex) -> Charges
     }
 }
 
-// The closing of the year n years after the activation.
-fn closing_after(book: &[u8], user: RecordIndex, n: u16) -> RecordIndex
-    requires book_length { length_fits book.now ≡ true }
-    requires sound_book { sound book.now ≡ true }
-    requires user_record { (is_user book.now user.0 ≡ true) × (n ≤ most_years) }
-    ensures { result ≡ record_index (closing_after book.now user.0 n) }
+// WHAT IS CLOSED
+
+// The year n years after the activation.
+#[tactic(auto, using(crate::proofs::Years::year_room))]
+fn year_after(user: User<'_>, n: u16) -> u16
+    requires { n ≤ most_years }
+    ensures { result ≡ activation_of user.entry.book.bytes.now user.entry.index.0 + n }
 {
-    closing_of_year(book, user, book_view::activation_of(book, user) + n)
+    book_view::activation_of(user.book.bytes, user.index) + n
+}
+
+// The closing of that year.
+#[tactic(auto, using(crate::proofs::Years::found_fits), unfolding(crate::specs::History::closing_after))]
+fn closing_after(user: User<'_>, n: u16) -> Option<ClosingRecord>
+    requires { n ≤ most_years }
+    ensures is { result ≡ closing_after user.entry.book.bytes.now user.entry.index.0 n }
+    ensures fits { IfSome result AmountsFit }
+{
+    closing_of_year(user, year_after(user, n))
 }
 
 // The credit after a closing, from the credit before it.
-fn credit_over(book: &[u8], entry: RecordIndex, credit: Ticks) -> Ticks
-    requires book_length { length_fits book.now ≡ true }
-    requires sound_book { sound book.now ≡ true }
-    requires closing_entry { (is_closing book.now entry.0 ≡ true) × (credit.0 ≤ max_year_ticks * most_years) }
-    ensures { NumberWithin (credit_over (closing_in (record_at book.now entry.0)) credit.0) (credit.0 + max_year_ticks)
-        result.0 }
+fn credit_over(closing: ClosingRecord, credit: Ticks) -> Ticks
+    requires { AmountsFit closing × (credit.0 ≤ max_year_ticks * most_years) }
+    ensures { NumberWithin (credit_over closing credit.0) (credit.0 + max_year_ticks) result.0 }
 {
-    let closing = book_records::closing_of(book_layout::record(book, entry));
     let sums = closing.sums;
     account_steps::outcome_of(closing.option, credit, sums.value, sums.cost).credit()
 }
 
 // The same, where a year without a closing leaves the credit.
-fn next_credit(book: &[u8], entry: RecordIndex, credit: Ticks) -> Ticks
-    requires book_length { length_fits book.now ≡ true }
-    requires sound_book { sound book.now ≡ true }
-    requires closing_entry { ((entry.0 ≡ 0 → ⊥) → is_closing book.now entry.0 ≡ true) × (credit.0 ≤ max_year_ticks * most_years) }
-    ensures { NumberWithin (cond (eqb entry.0 0) credit.0
-        (credit_over (closing_in (record_at book.now entry.0)) credit.0)) (credit.0 + max_year_ticks) result.0 }
+fn next_credit(closing: Option<ClosingRecord>, credit: Ticks) -> Ticks
+    requires { IfSome closing AmountsFit × (credit.0 ≤ max_year_ticks * most_years) }
+    ensures { NumberWithin (credit_then closing credit.0) (credit.0 + max_year_ticks) result.0 }
 {
-    if entry.0 == 0 {
-        credit
-    } else {
-        credit_over(book, entry, credit)
+    match closing {
+        Some(closing) => credit_over(closing, credit),
+        None => credit,
     }
 }
 
 // The credit after the first years: the rule of "Closing", from zero.
-fn credit_after_years(book: &[u8], user: RecordIndex, years: u16) -> Ticks
-    requires book_length { length_fits book.now ≡ true }
-    requires sound_book { sound book.now ≡ true }
-    requires user_record { (is_user book.now user.0 ≡ true) × (years ≤ most_years) }
-    ensures { result ≡ ticks (credit_after_years book.now user.0 years) }
+fn credit_after_years(user: User<'_>, years: u16) -> Ticks
+    requires { years ≤ most_years }
+    ensures { result ≡ ticks (credit_after_years user.entry.book.bytes.now user.entry.index.0 years) }
 {
     let mut credit = Ticks(0);
     for n in 0..years {
-        let entry = closing_after(book, user, n);
-        credit = next_credit(book, entry, credit);
+        credit = next_credit(closing_after(user, n), credit);
     }
     credit
 }
 
-// The year n years after the activation.
-pub fn closed_year(book: &[u8], user: RecordIndex, n: u16) -> Year
-    requires book_length { length_fits book.now ≡ true }
-    requires sound_book { sound book.now ≡ true }
-    requires user_record { (is_user book.now user.0 ≡ true) × (n < most_years) }
-    ensures { result ≡ closed_year book.now user.0 n }
+// The year n years after the activation. One that is not closed has no closing, and the figures that the head's bytes would give.
+#[tactic(auto, using(crate::proofs::Years::head_stands, crate::proofs::Years::one_more), unfolding(crate::specs::History::closed_year, crate::specs::History::year_of))]
+pub fn closed_year(user: User<'_>, n: u16) -> Year
+    requires { n < most_years }
+    ensures { result ≡ closed_year user.entry.book.bytes.now user.entry.index.0 n }
 {
-    let year = book_view::activation_of(book, user) + n;
-    let closing = book_records::closing_of(book_layout::record(book, closing_after(book, user, n)));
-    let payments = payments_of(book, user, year, year);
-    let credit = credit_after_years(book, user, n + 1);
-    let sums = closing.sums;
-    let value = sums.value;
-    let cost = sums.cost;
-    let flat_rate = sums.flat_rate;
-    let contribution = sums.contribution;
-    let balance = sums.balance;
-    let liquidation = sums.liquidation;
-    let lapsed = sums.lapsed;
+    let year = year_after(user, n);
+    let head = book_layout::whole(user.book.bytes, RecordIndex(0));
+    let closing = closing_after(user, n).unwrap_or(book_records::read_closing(head));
     Year {
         year,
         option: closing.option,
-        value,
-        cost,
-        flat_rate,
-        contribution,
-        payments,
-        balance,
-        liquidation,
-        lapsed,
-        credit,
+        value: closing.sums.value,
+        cost: closing.sums.cost,
+        flat_rate: closing.sums.flat_rate,
+        contribution: closing.sums.contribution,
+        payments: payments_of(user, year, year),
+        balance: closing.sums.balance,
+        liquidation: closing.sums.liquidation,
+        lapsed: closing.sums.lapsed,
+        credit: credit_after_years(user, n + 1),
     }
 }

@@ -1,9 +1,11 @@
--- The walk of `Walk`: an entry that is not the closing of the year is left behind; the measure is the index.
+-- The walk of `Walk`: an entry that is not the closing of the year is left behind.
+use Rattle.std.proofs.Common.{◌≡◌}
 use Rattle.account_years.proofs.Walk.{Seeking}
 use Rattle.account_years.proofs.closing_of_year.Given as goal
 
-abbrev pub invariant-loop-at : goal.invariant-loop-at
-invariant-loop-at l = Seeking l.book l.year l.initial.at.0 l.at.0
-
-abbrev pub decreases-loop-at : goal.decreases-loop-at
-decreases-loop-at l = l.at.0
+abbrev pub invariant-loop-entry : goal.invariant-loop-entry
+invariant-loop-entry l =
+    (goal.iterator-loop-entry).can_next l.entry-iterator
+    × (goal.iterator-loop-entry).is_finite l.entry-iterator
+    × (l.entry-iterator.book ≡ l.user.book)
+    × Seeking l.entry-iterator.book.bytes.now l.user.index.0 l.year l.entry-iterator.at.0

@@ -1,10 +1,7 @@
 -- Year after year.
-use Prim.Native.Nat.{◌-◌, ◌≤◌}
+use Prim.Native.Nat.{◌≤◌}
 use Rattle.account_years.proofs.Years.{Credited}
 use Rattle.account_years.proofs.credit_after_years.Given as goal
 
 abbrev pub invariant-loop-n : goal.invariant-loop-n
-invariant-loop-n l = (l.n ≤ l.years) × Credited l.book l.user.0 l.n l.credit.0
-
-abbrev pub decreases-loop-n : goal.decreases-loop-n
-decreases-loop-n l = l.years - l.n
+invariant-loop-n l = (l.n ≤ l.years) × Credited l.user.book.bytes.now l.user.index.0 l.n l.credit.0
