@@ -123,9 +123,8 @@ fn say_year(out: &mut Printer, year: Year) -> Result<(), Failure> {
 
 // The closed years of a user, oldest first.
 fn say_years(out: &mut Printer, user: User<'_>) -> Result<(), Failure> {
-    let activation = book_view::activation_of(user.book.bytes, user.index);
-    let open = book_view::open_year_of(user.book.bytes, user.index);
-    for n in 0..open - activation {
+    let account = user.account();
+    for n in 0..account.open_year - account.details.year {
         say_year(out, account_years::closed_year(user, n))?;
     }
     Ok(())
@@ -175,10 +174,13 @@ fn say_payments<N: fmt::Display + Drop>(
 }
 
 // The closed years of a user, oldest first.
-fn say_closed_payments(out: &mut Printer, user: User<'_>, each: Option<Ticks>) -> Result<(), Failure> {
-    let activation = book_view::activation_of(user.book.bytes, user.index);
-    let open = book_view::open_year_of(user.book.bytes, user.index);
-    for year in activation..open {
+fn say_closed_payments(
+    out: &mut Printer,
+    user: User<'_>,
+    each: Option<Ticks>,
+) -> Result<(), Failure> {
+    let account = user.account();
+    for year in account.details.year..account.open_year {
         let payments = account_years::payments_of(user, year, year);
         say_payments(out, year, each, payments)?;
     }
@@ -187,7 +189,7 @@ fn say_closed_payments(out: &mut Printer, user: User<'_>, each: Option<Ticks>) -
 
 // The two open years, of which the earlier one takes charges.
 fn say_open_payments(out: &mut Printer, user: User<'_>, charge: Ticks) -> Result<(), Failure> {
-    let open = book_view::open_year_of(user.book.bytes, user.index);
+    let open = user.account().open_year;
     let payments = account_years::payments_of(user, open, open);
     say_payments(out, open, Some(charge), payments)?;
     let later = open + 1;

@@ -203,12 +203,12 @@ pub fn charges_of(user: User<'_>) -> Charges
 // WHAT IS CLOSED
 
 // The year n years after the activation.
-#[tactic(auto, using(crate::proofs::Years::year_room))]
+#[tactic(auto, using(crate::proofs::Years::year_room), unfolding(book_rules::specs::Book::activation_of, book_records::specs::Records::account_in))]
 fn year_after(user: User<'_>, n: u16) -> u16
     requires { n ≤ most_years }
     ensures { result ≡ activation_of user.entry.book.bytes.now user.entry.index.0 + n }
 {
-    book_view::activation_of(user.book.bytes, user.index) + n
+    user.account().details.year + n
 }
 
 // The closing of that year.

@@ -2,7 +2,6 @@
 // `listing_text`'s; here it is only read and written.
 #![tactic(auto)]
 
-use listing_text::Listed;
 use output::{Failure, Printer};
 
 const USAGE: &str = "give the book on standard input, and no argument";
@@ -13,13 +12,8 @@ fn run(rt: &HostRuntime) -> Result<(), Failure> {
     }
     let mut book = Vec::new(rt.alloc());
     input::read_book_into(&mut rt.stdin(), &mut book).map_err(Failure::Input)?;
-    // The buffer has room for every listing.
-    let mut lines = listing_text::buffer();
-    let Listed::Written(count) = listing_text::listing_of(&book, &mut lines) else {
-        return Ok(());
-    };
-    let lines = lines.get(..count).unwrap_or(&lines);
-    Printer::new(rt.alloc(), rt.stdout()).bytes(lines)
+    let lines = listing_text::listing(rt.alloc(), &book)?;
+    Printer::new(rt.alloc(), rt.stdout()).bytes(lines.as_bytes())
 }
 
 fn main(rt: HostRuntime) {

@@ -1,4 +1,2 @@
 pub mod Lines
-pub mod Walk
-pub mod Texts
 pub mod Example

@@ -1,68 +1,68 @@
--- A line is three fields one after the other, each of at most `longest_field` bytes.
-use Prim.Native.Nat.{ℕ, ◌+◌, ◌^◌, ◌≤◌, ◌<◌}
-use mathlib.Core.Path.{◌≡◌, sym, ap, ◌∙◌}
-use mathlib.Core.List.{List, [], ◌∷◌, ◌++◌, append_assoc}
-use native.Mathlib.Omega.{arith}
-use lib.ListN.{length, length-append}
-use Rattle.decimals.specs.Decimals.{line_feed}
+-- Printed numbers are the listing's, and the lines of the users ahead.
+use Rattle.std.proofs.Common.{◌≡◌, ℕ, ◌+◌, ◌^◌, ◌<◌, ◌≤◌, true, List, [], ◌∷◌, ◌++◌, refl, ap, sym, ◌∙◌, subst, arith, append_assoc, append-nil}
+use Rattle.std.specs.Fmt.{decimal as printed}
+use Rattle.std.proofs.lemmas.Fmt.{AppendsLastDigit, decimal_from_appends, length-decimal-le}
+use Rattle.std.proofs.lemmas.Bool.Decides.{nat_tests}
+use mathlib.Core.Logic.{◌≢◌, inr}
 use Rattle.account_steps.specs.declared.Account.{Account}
-use Rattle.codec.specs.Bytes.{stored}
-use Rattle.decimals.specs.Decimals as decimals
-use Rattle.book_rules.specs.Book.{account_at}
-use Rattle.listing_text.specs.Listing.{most_digits, decimal, blank, user_line}
-use Rattle.listing_text.specs.InnerWritten.{longest_field, longest_user_line, field, account_line}
-use Rattle.codec.proofs.Pieces.{stored-then}
-use Rattle.decimals.proofs.Written.{most-digits, all_digits}
-use Rattle.decimals.specs.InnerWritten.{TextPut}
+use Rattle.decimals.specs.Decimals.{decimal_of, line_feed}
+use Rattle.book_rules.specs.Book.{length_fits, sound, is_user, account_at, first_user, next_of}
+use Rattle.book_rules.specs.Chains.{chain_from, users_of}
+use Rattle.book_rules.proofs.Faultless.{sound-faultless}
+use Rattle.chains.proofs.Chain.{chain-none}
+use Rattle.chains.proofs.Links.{users-fall}
+use Rattle.chains.proofs.Walks.{walk-chain}
+use Rattle.refusals.specs.declared.Refusal.{Refusal}
+use Rattle.refusals.specs.declared.Refusal.TheVariants.{BookLength, FaultyRecord}
+use Rattle.refusals.specs.Refusals.{number_of}
+use Rattle.check_book.specs.Verdicts.{BookRefused}
+use Rattle.listing_text.specs.Listing.{most_digits, decimal, blank, user_line, user_lines, refused, listing}
 
-length-field : (n x : ℕ) → length (field n x) ≡ length (decimal n) + 1
-unfolding field
-length-field n x = length-append (decimal n) (x ∷ [])
-
-pub field-short : (n x : ℕ) → length (field n x) ≤ longest_field
-field-short n x = omega (arith, length-field n x, most-digits most_digits n)
+last_digit : AppendsLastDigit decimal_of
+unfolding decimal_of
+last_digit = record { one = λ k n small. grind (arith, nat_tests); more = λ k n large. grind (arith, nat_tests) }
 
 -- twenty digits are all that a number of 64 bits has
-pub field-whole : (n x : ℕ) → n < 2 ^ 64 → decimals.field n x ≡ field n x
-unfolding field decimals.field
-field-whole n x h = ap (λ (l : List ℕ). l ++ (x ∷ [])) (sym (all_digits 19 n (omega arith)))
+pub printed_is : (n : ℕ) → n < 2 ^ 64 → printed n ≡ decimal n
+printed_is n small = sym (decimal_from_appends decimal_of last_digit most_digits n small (length-decimal-le most_digits n (omega arith) (omega arith) small))
 
-length-line : (a : Account) → length (account_line a)
-    ≡ length (field a.number.0 blank) + (length (field a.open_year blank) + length (field a.credit.0 line_feed))
-unfolding account_line
-length-line a = simp length-append
+-- the line of an account
+abbrev pub account_line : Account → List ℕ
+account_line a = decimal a.number.0 ++ (blank ∷ (decimal a.open_year ++ (blank ∷ (decimal a.credit.0 ++ (line_feed ∷ [])))))
 
-pub line-short : (a : Account) → length (account_line a) ≤ longest_user_line
-line-short a =
-    omega
-    (arith, length-line a, field-short a.number.0 blank, field-short a.open_year blank, field-short a.credit.0 line_feed)
+pub account_printed : (a : Account) → a.number.0 < 2 ^ 64 → a.open_year < 2 ^ 64 → a.credit.0 < 2 ^ 64
+    → printed a.number.0 ++ (32 ∷ (printed a.open_year ++ (32 ∷ (printed a.credit.0 ++ (10 ∷ []))))) ≡ account_line a
+account_printed a number year credit = rw (printed_is a.number.0 number, printed_is a.open_year year, printed_is a.credit.0 credit)
 
--- three pieces stored one after the other
-stored-three : (at : ℕ) (bs cs ds s : List ℕ) → at + (length bs + (length cs + length ds)) ≤ length s
-    → stored (at + length bs + length cs) ds (stored (at + length bs) cs (stored at bs s)) ≡ stored at (bs ++ (cs ++ ds)) s
-stored-three at bs cs ds s h =
-    let both : length (bs ++ cs) ≡ length bs + length cs = length-append bs cs in
-    let place : at + length bs + length cs ≡ at + length (bs ++ cs) = omega arith in
-    ap (stored (at + length bs + length cs) ds) (stored-then at bs cs s (omega arith))
-    ∙ ap (λ (k : ℕ). stored k ds (stored at (bs ++ cs) s)) place
-    ∙ stored-then at (bs ++ cs) ds s (omega arith)
-    ∙ ap (λ (l : List ℕ). stored at l s) (append_assoc bs cs ds)
+-- what is written, and the lines of the users from an index on
+abbrev pub Listing : List ℕ → List ℕ → ℕ → Type 0
+Listing b text at = text ++ user_lines b (chain_from (next_of b) at) ≡ user_lines b (users_of b)
 
-pub line-written : (at : ℕ) (a : Account) (s : List ℕ) (year credit end : ℕ) (s₁ s₂ s₃ : List ℕ) → at + longest_user_line ≤ length s
-    → year ≡ at + length (field a.number.0 blank) → s₁ ≡ stored at (field a.number.0 blank) s
-    → credit ≡ year + length (field a.open_year blank) → s₂ ≡ stored year (field a.open_year blank) s₁
-    → end ≡ credit + length (field a.credit.0 line_feed) → s₃ ≡ stored credit (field a.credit.0 line_feed) s₂
-    → TextPut at (account_line a) s s₃ end
-unfolding account_line
-line-written at a s year credit end s₁ s₂ s₃ h y e₁ k e₂ l e₃ =
-    record {
-      end = omega (arith, length-line a);
-      stands = rw (e₃, k, e₂, e₁, y)
-          (stored-three at (field a.number.0 blank) (field a.open_year blank) (field a.credit.0 line_feed) s
-          (omega (arith, field-short a.number.0 blank, field-short a.open_year blank, field-short a.credit.0 line_feed)));
-    }
+pub begins : (b : List ℕ) → Listing b [] (first_user b)
+unfolding users_of
+begins b = refl
 
--- the line of the user at an index is that of its account
-pub user-line : (b : List ℕ) (i : ℕ) → user_line b i ≡ account_line (account_at b i)
-unfolding user_line account_line field
-user-line b i = simp append_assoc
+pub ends : (b text : List ℕ) (at : ℕ) → Listing b text at → at ≡ 0 → text ≡ user_lines b (users_of b)
+unfolding user_lines
+ends b text at s end =
+    sym (append-nil text) ∙ ap (λ is. text ++ user_lines b is) (sym (ap (chain_from (next_of b)) end ∙ chain-none (next_of b))) ∙ s
+
+module _ (b : List ℕ) (long : length_fits b ≡ true) (good : sound b ≡ true) (at : ℕ) (user : is_user b at ≡ true) (more : at ≢ 0) where
+  line_here : user_lines b (chain_from (next_of b) at) ≡ account_line (account_at b at) ++ user_lines b (chain_from (next_of b) (next_of b at))
+  unfolding user_lines user_line
+  line_here = ap (user_lines b) (walk-chain (λ i. is_user b i ≡ true) (next_of b) (users-fall b (sound-faultless b long good)) at (inr user) more)
+
+  pub goes_on : (text after : List ℕ) (a : Account) → Listing b text at → a ≡ account_at b at → after ≡ text ++ account_line a → Listing b after (next_of b at)
+  goes_on text after a s read w =
+      ap (λ l. l ++ user_lines b (chain_from (next_of b) (next_of b at))) (w ∙ ap (λ x. text ++ account_line x) read)
+      ∙ append_assoc text (account_line (account_at b at)) (user_lines b (chain_from (next_of b) (next_of b at)))
+      ∙ ap (λ l. text ++ l) (sym line_here)
+      ∙ s
+
+-- "A book refused with 1 or 2 prints only `refused 1` or `refused 2`."
+pub refusal_printed : (b : List ℕ) (e : Refusal) → BookRefused b e
+    → 114 ∷ 101 ∷ 102 ∷ 117 ∷ 115 ∷ 101 ∷ 100 ∷ 32 ∷ (printed (number_of e) ++ (10 ∷ [])) ≡ listing b
+unfolding listing refused
+refusal_printed b BookLength short = rw (printed_is 1 (omega arith), short)
+refusal_printed b (FaultyRecord i) o = rw (printed_is 2 (omega arith), o.fits, o.unsound)
+refusal_printed b other z = absurd z

@@ -10,7 +10,6 @@ use call_close::Closed;
 use call_more_sun::MoreSun;
 use call_statement::Stated;
 use input::{Line, Lines};
-use listing_text::Listed;
 use output::{Failure, Printer};
 use refusals::{Position, Refusal};
 use replay_script::Request;
@@ -192,12 +191,8 @@ fn raise(out: &mut Printer, alloc: Global, sheet: Hex<'_>, factor: u32) -> Resul
     }
 }
 
-fn list(out: &mut Printer, book: &[u8]) -> Result<(), Failure> {
-    let mut lines = listing_text::buffer();
-    if let Listed::Written(count) = listing_text::listing_of(book, &mut lines) {
-        out.bytes(lines.get(..count).unwrap_or(b""))?;
-    }
-    Ok(())
+fn list(out: &mut Printer, alloc: Global, book: &[u8]) -> Result<(), Failure> {
+    out.bytes(listing_text::listing(alloc, book)?.as_bytes())
 }
 
 // Makes a call, on the book or on sheets, and prints its answer.
@@ -313,7 +308,7 @@ fn call(
             )
         }
         Request::Dump => out.line(text::hex_of(alloc, book)?.as_str()),
-        Request::List => list(out, book),
+        Request::List => list(out, alloc, book),
     }
 }
 

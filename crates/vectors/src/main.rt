@@ -3,7 +3,6 @@
 #![tactic(auto)]
 
 use input::{Line, Lines};
-use listing_text::Listed;
 use output::{Failure, Printer};
 use refusals::Refusal;
 use sheet_values::{Details, YearValues};
@@ -147,22 +146,19 @@ fn answer_verdict(out: &mut Printer, alloc: Global, line: &[u8]) -> Result<(), F
 // `listings`: the listings of books, a line each in hexadecimal, `-` for no bytes. For each it prints what the listing program
 // prints, then a line `end`.
 
-fn say_listing(out: &mut Printer, book: &[u8]) -> Result<(), Failure> {
-    let mut lines = listing_text::buffer();
-    if let Listed::Written(count) = listing_text::listing_of(book, &mut lines) {
-        out.bytes(lines.get(..count).unwrap_or(b""))?;
-    }
+fn say_listing(out: &mut Printer, alloc: Global, book: &[u8]) -> Result<(), Failure> {
+    out.bytes(listing_text::listing(alloc, book)?.as_bytes())?;
     out.line("end")
 }
 
 fn answer_listing(out: &mut Printer, alloc: Global, line: &[u8]) -> Result<(), Failure> {
     if line == b"-".as_slice() {
-        return say_listing(out, b"");
+        return say_listing(out, alloc, b"");
     }
     let Some(book) = bytes_of(line, BOOK) else {
         return say_error(out);
     };
-    say_listing(out, &book.bytes(alloc)?)
+    say_listing(out, alloc, &book.bytes(alloc)?)
 }
 
 fn answer(

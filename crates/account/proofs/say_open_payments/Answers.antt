@@ -1,12 +1,9 @@
 -- The open year is 2100 at the latest.
 use Rattle.std.proofs.Common.{arith}
-use Rattle.account.proofs.Users.{year-fits}
+use Rattle.account.proofs.Users.{year_fits}
 use Rattle.account.proofs.say_open_payments.Goals as goal
 
 pub overflow_add-later : goal.overflow_add-later
 overflow_add-later c =
-    omega (
-      arith,
-      year-fits c.args.user.book.bytes.now c.args.user.book.length c.args.user.book.no_fault c.args.user.index.0 c.args.user.user_record c.open_year_of-open.result
-          c.open_year_of-open.ensures,
-    )
+    let u = c.args.user in
+    omega (arith, year_fits u.book.bytes.now u.book.length u.book.no_fault u.index.0 u.user_record c.account-open.result c.account-open.ensures)

@@ -1,42 +1,45 @@
--- The walk of `Walk`: it begins with all lines ahead, each turn writes one, and the measure is the index.
-use Prim.Native.Nat.{◌<◌}
-use mathlib.Core.Path.{sym, ap, subst}
-use Rattle.listing_text.proofs.Walk.{Walking, begins, user-stands, next-falls, goes_on, ends}
+-- What is written and the lines of the users ahead are those of all users.
+use Rattle.std.proofs.Common.{◌≡◌, ◌≢◌, sym, ap, ◌∙◌, subst, subst₂, ◌++◌, rules}
+use Rattle.std.specs.String.{string_bytes}
+use Rattle.book_rules.specs.Book.{account_at}
+use Rattle.book_rules.specs.Chains.{users_of}
+use Rattle.listing_text.specs.Listing.{user_lines}
+use Rattle.listing_text.proofs.Lines.{Listing, begins, goes_on, ends, account_printed}
 use Rattle.listing_text.proofs.lines_of.Goals as goal
 
 pub loop-user-init : goal.loop-user-init
 loop-user-init c =
-    subst (λ k. Walking c.args.book.now c.args.out.now c.args.out.now 0 k)
-    (sym (ap (λ k. k.0) c.first_user-user.ensures))
-    (begins c.args.book.now c.requires.book_length c.requires.sound_book c.args.out.now c.requires.text_room)
-
-pub account_at-account-requires : goal.account_at-account-requires
-account_at-account-requires c =
-    let l = c.loop-user in
-    let a = c.args in
-    user-stands a.book.now a.out.now l.out l.end l.user.0 l.invariant c.loop-user-test.true
-
-pub loop-user-smaller : goal.loop-user-smaller
-loop-user-smaller c =
-    let l = c.loop-user in
-    let a = c.args in
-    subst (λ k. k < l.user.0) (sym (ap (λ k. k.0) c.next_of-next.ensures))
-    (next-falls a.book.now a.out.now l.out l.end l.user.0 l.invariant c.loop-user-test.true)
+    let k = c.args.book in
+    let of = c.of-user-items.ensures in
+    let same = c.into_iter-user-iterator.ensures.into_iter_gives in
+    let book = ap (λ s. s.book) same ∙ of.0 in (
+      tt,
+      tt,
+      book,
+      subst (λ x. Listing x.bytes.now (string_bytes c.new-text.result) c.into_iter-user-iterator.result.at.0) (sym book)
+          (subst₂ (Listing k.bytes.now) (sym c.new-text.ensures.bytes) (sym (ap (λ s. s.at.0) same ∙ ap (λ x. x.0) of.1)) (begins k.bytes.now)),
+    )
 
 pub loop-user-preserved : goal.loop-user-preserved
 loop-user-preserved c =
     let l = c.loop-user in
-    let a = c.args in
-    let n = c.next_of-next in
-    let d = c.account_at-account in
-    let t = c.line_at-end in
-    goes_on a.book.now a.out.now l.out l.end l.user.0 l.invariant c.loop-user-test.true
-    d.result t.new.out t.result n.result.0
-    d.ensures t.ensures.end t.ensures.stands (ap (λ k. k.0) n.ensures)
+    let k = l.user-iterator.book in
+    let step = c.in-Some.ensures.steps in
+    let written = c.in_ok-writeln.ensures.bytes in
+    let a = c.account-account in (
+      tt,
+      tt,
+      step.0 ∙ l.invariant.2,
+      subst (λ x. Listing x.bytes.now (string_bytes c.writeln.new.self) c.next.new.self.at.0) (sym step.0)
+          (subst (Listing k.bytes.now (string_bytes c.writeln.new.self)) (sym (ap (λ x. x.0) step.1.3))
+          (goes_on k.bytes.now k.length k.no_fault l.user-iterator.at.0 (l.user-iterator.ahead step.1.0) step.1.0 (string_bytes l.text) (string_bytes c.writeln.new.self) a.result l.invariant.3
+          (a.ensures ∙ ap (λ x. account_at x.bytes.now c.in-Some.user.index.0) step.1.1 ∙ ap (λ x. account_at k.bytes.now x.0) step.1.2)
+          (written ∙ ap (λ x. string_bytes l.text ++ x) (account_printed a.result (search rules) (search rules) (search rules))))),
+    )
 
 pub returns : goal.returns
 returns c =
     let l = c.loop-user in
-    let a = c.args in
-    ends a.book.now a.out.now l.out l.end
-    (subst (Walking a.book.now a.out.now l.out l.end) c.loop-user-test.false l.invariant)
+    let k = l.user-iterator.book in
+    ends k.bytes.now (string_bytes l.text) l.user-iterator.at.0 l.invariant.3 c.in-None.ensures.steps.1.0
+    ∙ ap (λ x. user_lines x.bytes.now (users_of x.bytes.now)) l.invariant.2
