@@ -1,7 +1,7 @@
 -- How a call's answer comes about: by refusal 1 or 2, by a later refusal, or accepted.
 use Prim.Native.Nat.{ℕ}
 use mathlib.Core.Path.{◌≡◌, refl, sym, ◌∙◌}
-use mathlib.Core.Bool.{true, false}
+use mathlib.Core.Bool.{true}
 use mathlib.Core.List.{List, ◌∷◌}
 use native.Mathlib.Omega.{arith}
 use borrow.Author.Tests.{eq-eqb, ne_eqb}
@@ -121,7 +121,7 @@ module _ (b : List ℕ) (c : Call) where
     pub objected : (answered : ℕ) (e : Refusal) → refused_by own ≡ number_of e → Answered b c answered (number_of e) (record_of e) b
     objected answered e is = leaves answered e (objected-by b own a (reserved (look_at b (named_by c)) c).two answered e is)
 
-    pub sound-refusal : refusal_of b c ≡ refused_by own
+    sound-refusal : refusal_of b c ≡ refused_by own
     unfolding refusal_of
     sound-refusal = past-look b own a
 

@@ -1,5 +1,5 @@
 -- A closing on a sound book: what its rules come to, sheet first, then user, and the book after it.
-use Prim.Native.Nat.{ℕ, ◌≤◌}
+use Prim.Native.Nat.{ℕ}
 use mathlib.Core.Path.{◌≡◌, refl, sym, ap, ◌∙◌}
 use mathlib.Core.Bool.{Bool, true, false}
 use mathlib.Core.List.{List, ◌∷◌}
@@ -17,7 +17,6 @@ use Rattle.account_steps.specs.declared.ClosingSums.{ClosingSums}
 use Rattle.account_steps.specs.Account.{InRange, settled}
 use Rattle.book_rules.specs.Book.{account_at, account_fits}
 use Rattle.book_view.specs.declared.User.{User}
-use Rattle.check_book.specs.Verdicts.{Accepted}
 use Rattle.call_rules.specs.Changes.{applied}
 use Rattle.call_rules.specs.Rules.{◌unless◌, refused_by, test_of, without}
 use Rattle.call_rules.specs.Refusals.{look_at, present, user_at, has_room, year_open}

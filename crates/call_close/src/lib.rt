@@ -77,7 +77,7 @@ pub fn close(book: &mut [u8], sheet: &[u8]) -> Result<ClosingSums, Refusal>
     ensures position { Tells sheet.now (refusal_in result) (position_in result) }
     ensures sums { IfOk result
         (λ sums. sums ≡ settled (user_at book.old (sheet_user sheet.now))
-            (year_values sheet.now (user_at book.old (sheet_user sheet.now)).details)) }
+        (year_values sheet.now (user_at book.old (sheet_user sheet.now)).details)) }
 {
     let (_book, user) = check_book::find(book, sheet::user(sheet))?;
     let formed = FormedSheet::new(sheet)?;

@@ -24,12 +24,7 @@ fn has_field(sheet: PassedSheet<'_>, month: u32, band: u32) -> bool
 
 /// The least addition, in kWh, to the injected field of a month, 1–12, and a band, 1–3, that brings C to O or above; `None` where none
 /// within the limit does.
-pub fn more_sun(
-    book: &[u8],
-    sheet: &[u8],
-    month: u32,
-    band: u32,
-) -> Result<Option<Kwh>, Refusal>
+pub fn more_sun(book: &[u8], sheet: &[u8], month: u32, band: u32) -> Result<Option<Kwh>, Refusal>
     ensures reply { AnsweredBy book.now (more_sun_order book.now sheet.now month band) 0 (refusal_in result)
         (record_in (λ addition. 0) result) }
     ensures position { Tells sheet.now (refusal_in result) (position_in result) }
@@ -44,5 +39,10 @@ pub fn more_sun(
         return Err(Refusal::NoSuchField);
     }
     let account = user.account();
-    Ok(sheet_more_sun::least_addition(passed, account.details, month as usize - 1, band as usize - 1))
+    Ok(sheet_more_sun::least_addition(
+        passed,
+        account.details,
+        month as usize - 1,
+        band as usize - 1,
+    ))
 }

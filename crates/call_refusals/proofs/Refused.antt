@@ -1,7 +1,7 @@
 -- What the number of a refusal tells of what it names: refusal by refusal.
 use Prim.Native.Nat.{ℕ}
 use mathlib.Core.Path.{◌≡◌, refl, sym, ◌∙◌}
-use mathlib.Core.Bool.{true, false, true≢false}
+use mathlib.Core.Bool.{false, true≢false}
 use mathlib.Core.List.{List}
 use lib.Dec.{eqb}
 use borrow.Author.Tests.{eq-eqb, ne_eqb}
@@ -65,7 +65,7 @@ pub names-none : (e : Refusal) → (number_of e ≡ 2 → ⊥) → record_of e �
 names-none e other = by-2 e (ne_eqb (number_of e) 2 other)
 
 -- beside another number than 13 and 19 no position is told
-pub placed-nowhere : (e : Refusal) → tells (number_of e) ≡ false → position_of e ≡ nowhere
+placed-nowhere : (e : Refusal) → tells (number_of e) ≡ false → position_of e ≡ nowhere
 placed-nowhere BookLength h = refl
 placed-nowhere (FaultyRecord i) h = refl
 placed-nowhere BookFull h = refl

@@ -19,7 +19,8 @@ use refusals::Refusal;
 use sheet::{FormedSheet, PassedSheet};
 use sheet_values::Details;
 use units::{
-    LAST_ACTIVATION, LAST_OPEN_YEAR, MAX_HALF_KWH, MAX_PRICE, RECORD_LENGTH, Rate, UserNumber, WideKwh,
+    LAST_ACTIVATION, LAST_OPEN_YEAR, MAX_HALF_KWH, MAX_PRICE, RECORD_LENGTH, Rate, UserNumber,
+    WideKwh,
 };
 
 // The last year that a run or a closing may name: "9 .. above 2099", "12 .. above 2099".
@@ -95,7 +96,7 @@ pub fn halves_in(a: Account, year: u16, run: u8) -> Halves
 
 // Whether a run of a year is due and not made.
 fn run_due(a: Account, year: u32, run: u8) -> bool
-    requires { (year < 2 ^ 16) × (0 < run) }
+    requires { year < 2 ^ 16 }
     ensures { result ≡ (due (halves_paid a.details.year a.details.month year run) && not (is_made (runs_in year a) run)) }
 {
     halves_in(a, year as u16, run).is_due() & !book_rules::is_made(runs_in(a, year), run)
@@ -198,11 +199,15 @@ pub fn may_advance(a: Account, year: u32, run: u8, order: Order, room: bool) -> 
 }
 
 // 12 13 19 14 3
-pub fn may_close<'a>(sheet: FormedSheet<'a>, a: Account, room: bool) -> Result<PassedSheet<'a>, Refusal>
+pub fn may_close<'a>(
+    sheet: FormedSheet<'a>,
+    a: Account,
+    room: bool,
+) -> Result<PassedSheet<'a>, Refusal>
     ensures { MatchResult result
         (λ passed. (passed.bytes.now ≡ sheet.entry.bytes.now) × (refused_by (close_rules a sheet.entry.bytes.now room) ≡ 0))
         (λ refusal. (refused_by (close_rules a sheet.entry.bytes.now room) ≡ number_of refusal)
-            × Tells sheet.entry.bytes.now (number_of refusal) (position_of refusal)) }
+        × Tells sheet.entry.bytes.now (number_of refusal) (position_of refusal)) }
 {
     let bytes = sheet.bytes;
     if !year_open(a, sheet::year(bytes)) {

@@ -27,7 +27,7 @@ returns-in_err-user-clause-reply c =
     let gone = c.in_err-user.ensures in
     let order = advance-order a.book.now a.number.0 a.year a.run a.price.0 a.estimate1.0 a.estimate2.0 in
     let h = unknown a.book.now (calls.advance a.number.0 a.year a.run a.price.0 a.estimate1.0 a.estimate2.0) refl _ order look.1.0 _ look.1.1
-        gone.ok_part _ gone.value 0 in
+    gone.ok_part _ gone.value 0 in
     search rules
 
 pub returns-in_err-may_advance-clause-reply : goal.returns-in_err-may_advance-clause-reply

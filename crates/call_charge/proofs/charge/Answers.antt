@@ -28,7 +28,7 @@ returns-in_err-user c =
     let look = c.in_ok-_book.ensures in
     let gone = c.in_err-user.ensures in
     let h = unknown a.book.now (calls.charge a.number.0) refl _ (charge-order a.book.now a.number.0) look.1.0 _ look.1.1 gone.ok_part _ gone.value
-        (find_user a.book.now a.number.0) in
+    (find_user a.book.now a.number.0) in
     search rules
 
 pub returns-in_err-may_charge : goal.returns-in_err-may_charge

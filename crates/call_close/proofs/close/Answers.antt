@@ -1,5 +1,5 @@
 -- By the look at the book, the sheet's form, the user found, then the other rules of a closing.
-use Rattle.std.proofs.Common.{rules, refl, subst, sym, ap, ℕ, List, ◌≡◌, ◌∙◌, Bool}
+use Rattle.std.proofs.Common.{rules, refl, subst, ap, ℕ, List, ◌≡◌, ◌∙◌, Bool}
 use Rattle.units.specs.declared.UserNumber.{UserNumber}
 use Rattle.refusals.specs.Refusals.{number_of, position_of}
 use Rattle.refusals.specs.declared.Refusal.{Refusal}
@@ -12,7 +12,6 @@ use Rattle.call_rules.specs.Calls as calls
 use Rattle.call_rules.specs.Rules.{refused_by}
 use Rattle.call_refusals.specs.Orders.{close_rules}
 use Rattle.call_refusals.proofs.Refused.{told-nowhere}
-use Rattle.call_answers.specs.Answers.{Answered}
 use Rattle.call_answers.proofs.Answers.{damaged, untold-damaged, objected}
 use Rattle.call_answers.proofs.Named.{Named, found-named, told-unknown, unknown}
 use Rattle.call_close.proofs.Closing.{unformed, close-order, close-past-6, year-fits, close-booked, sums-settled}
@@ -58,7 +57,7 @@ returns-in_err-user-clause-reply c =
     let look = c.in_ok-_book.ensures in
     let gone = c.in_err-user.ensures in
     let h = unknown a.book.now (calls.close a.sheet.now) (ap (λ (n : UserNumber). n.0) c.user.ensures) _ (close-order a.book.now a.sheet.now c.in_ok-formed.ensures.0)
-        look.1.0 _ look.1.1 gone.ok_part _ gone.value 0 in
+    look.1.0 _ look.1.1 gone.ok_part _ gone.value 0 in
     search rules
 
 pub returns-in_err-user-clause-position : goal.returns-in_err-user-clause-position

@@ -71,7 +71,7 @@ returns-in_err-passed-clause-reply c =
     let formed = c.in_ok-formed.ensures in
     let fault = subst (λ (x : List ℕ). Faulted x _) formed.1 c.in_err-passed.ensures in
     let h = objected a.book.now a.sheet.now a.month a.band k.sound _
-        (by-fault a.book.now a.sheet.now a.month a.band formed.0 (named-some a.book.now _ _ k) _ fault) in
+    (by-fault a.book.now a.sheet.now a.month a.band formed.0 (named-some a.book.now _ _ k) _ fault) in
     search rules
 
 pub returns-in_err-passed-clause-position : goal.returns-in_err-passed-clause-position
@@ -98,4 +98,32 @@ returns-then-not-has_field c =
           (no-field a.book.now a.sheet.now a.month a.band c.in_ok-formed.ensures.0 (named-some a.book.now _ _ k) (past here) gone);
       position = told-nowhere a.sheet.now NoSuchField refl;
       addition = tt;
+    }
+
+pub overflow_sub-month : goal.overflow_sub-month
+overflow_sub-month c =
+    let a = c.args in
+    (has c.in_ok-passed.passed.bytes.now a.month a.band (sym c.has_field.ensures ∙ c.if-not-has_field.false)).month-from
+
+pub overflow_sub-band : goal.overflow_sub-band
+overflow_sub-band c =
+    let a = c.args in
+    (has c.in_ok-passed.passed.bytes.now a.month a.band (sym c.has_field.ensures ∙ c.if-not-has_field.false)).band-from
+
+pub least_addition-requires : goal.least_addition-requires
+least_addition-requires c =
+    let a = c.args in
+    field-stands c.in_ok-passed.passed.bytes.now a.month a.band (sym c.has_field.ensures ∙ c.if-not-has_field.false)
+
+pub returns : goal.returns
+returns c =
+    let a = c.args in
+    let here = (goal.at.returns c).After-has_field in
+    let k = named (goal.at.returns c).After-passed-passed in
+    let stands = ap (λ (s : List ℕ). has_field s a.month a.band) (sym (same here)) ∙ sym c.has_field.ensures ∙ c.if-not-has_field.false in
+    let read = account-is a.book.now _ _ k _ c.account-account.ensures in
+    record {
+      reply = answered a.book.now a.sheet.now a.month a.band c.in_ok-formed.ensures.0 (named-some a.book.now _ _ k) (past here) k.sound stands;
+      position = untold a.sheet.now 0 refl;
+      addition = c.least_addition.ensures ∙ rw (same here, read);
     }

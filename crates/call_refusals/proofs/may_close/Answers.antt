@@ -1,5 +1,5 @@
 -- By the rules of a closing in their order, as its tests decide them.
-use Rattle.std.proofs.Common.{sym, ap, ◌≡◌, ◌∙◌, refl, rules, Bool, cond}
+use Rattle.std.proofs.Common.{sym, ap, ◌∙◌, refl, rules, Bool, cond}
 use Rattle.sheet.proofs.Faults.{untold}
 use Rattle.call_rules.specs.Refusals.{year_open}
 use Rattle.call_refusals.proofs.Closings.{year-shut, by-fault, by-excess, by-room}
