@@ -27,9 +27,9 @@ unfolding withheld_at_closing withheld_from
 closing-total rest balance liquidation = omega arith
 
 -- a positive balance is what the contribution is above the advances
-pub positive-balance : (contribution advances : ℕ) → positive_part (balance_of contribution advances) ≡ contribution - advances
+pub positive_balance : (contribution advances : ℕ) → positive_part (balance_of contribution advances) ≡ contribution - advances
 unfolding positive_part
-positive-balance contribution advances = by_size (dec_lt contribution advances)
+positive_balance contribution advances = by_size (dec_lt contribution advances)
   where
     by_size : Dec (contribution < advances) → positive_part (balance_of contribution advances) ≡ contribution - advances
     by_size (yes below) = rw (balance-below contribution advances below) (omega arith)

@@ -23,11 +23,11 @@ module _ (v : YearValues) (a : Account) where
         charge = record { made = 0; rest = a.charge.rest };
       }
 
-  pub closed-of-parts : (settlement : Settlement) (credit : Ticks)
+  pub closed_of_parts : (settlement : Settlement) (credit : Ticks)
       → settlement ≡ settlement_of a.option a.credit.0 a.advances.0 v.value.0 v.cost.0 v.flat_rate.0
       → credit.0 ≡ credit_in settlement.outcome
       → record { account = after credit; settlement = settlement } ≡ closed_of v a
   unfolding closed_of account_closed settlement_of
-  closed-of-parts settlement credit p q =
+  closed_of_parts settlement credit p q =
       let credited = q ∙ ap (λ s. credit_in s.outcome) p ∙ outcome-credit a.option a.credit.0 v.value.0 v.cost.0 in
       λ i. record { account = after (ticks (credited i)); settlement = p i }

@@ -238,6 +238,7 @@ fn settle(option: u8, credit: Ticks, advances: Ticks, values: YearValues) -> Set
 
 impl Account {
     /// "An election sets the option of the open year a and those after it."
+    #[tactic(auto, unfolding(crate::specs::Account::account_elected))]
     pub fn elected(self, option: u8) -> Account
         ensures { result ≡ account_elected option self }
     {
@@ -246,7 +247,7 @@ impl Account {
 
     /// "Each run adds one entry, joins the advances field and sets its bit.", of the open year or of the one after it. The bit is
     /// not set before.
-    #[tactic(auto, unfolding(crate::specs::Account::runs_in, crate::specs::Account::advances_in))]
+    #[tactic(auto, unfolding(crate::specs::Account::runs_in, crate::specs::Account::advances_in, crate::specs::Account::account_advanced))]
     pub fn advanced(mut self, year: u32, run: u8, paid: Ticks) -> Account
         requires run_bound { runs_in year self + run ≤ 7 }
         requires paid_bound { advances_in year self + paid.0 < 2 ^ 64 }
@@ -290,6 +291,7 @@ impl Account {
     }
 
     /// "A new call charges the open year once."
+    #[tactic(auto, unfolding(crate::specs::Charges::account_charged, crate::specs::Charges::with_charge, crate::specs::Charges::charge_is))]
     pub fn charged(mut self) -> Account
         requires { self.charge.rest.0 + max_charge < 2 ^ 64 }
         ensures { result ≡ account_charged self }
@@ -300,6 +302,7 @@ impl Account {
     }
 
     /// The account once so much of its rest is withheld.
+    #[tactic(auto, unfolding(crate::specs::Charges::account_withheld))]
     pub fn withheld(mut self, amount: Ticks) -> Account
         requires { amount.0 ≤ self.charge.rest.0 }
         ensures { result ≡ account_withheld amount.0 self }

@@ -2,13 +2,12 @@
 // the book reads as 0, so that every string of bytes is an ordinary input.
 #![tactic(auto)]
 
-ghost use Rattle.std.specs.Prelude.{◌≡◌, ◌+◌, ◌*◌, ◌<◌, ◌≤◌, min, leb, length};
+ghost use Rattle.std.specs.Prelude.{◌≡◌, ◌+◌, ◌*◌, ◌<◌, ◌≤◌, min, length};
 ghost use Rattle.units.specs.Limits.{record_length};
 ghost use Rattle.units.specs.Units.{user_number, record_index};
 ghost use Rattle.codec.specs.Bytes.{stored};
-ghost use Rattle.book_layout.specs.Fields.{record_at, put_record, bytes, get, used_field, first_user_field, next_field, kind_field};
-ghost use Rattle.book_layout.specs.Fields.{number_field, first_entry_field, activation_year_field, open_year_field, year_field};
-ghost use Rattle.book_layout.specs.Fields.{booked_field};
+ghost use Rattle.book_layout.specs.Fields.{record_at, put_record, bytes, get, next_field, kind_field};
+ghost use Rattle.book_layout.specs.Fields.{number_field, first_entry_field, activation_year_field, open_year_field};
 ghost use Rattle.book_layout.specs.Fields.{owner_field};
 ghost use Rattle.book_layout.specs.Fields.{all_zero, unnamed_of_head};
 
@@ -35,13 +34,6 @@ pub fn record<'a>(book: &'a [u8], index: RecordIndex) -> &'a [u8]
     let from = start.min(book.len());
     let to = (start + RECORD_LENGTH).min(book.len());
     &book[from..to]
-}
-
-// Whether the book has the record whole.
-pub fn has_whole(book: &[u8], index: RecordIndex) -> bool
-    ensures { result ≡ leb (record_length * index.0 + record_length) (length book.now) }
-{
-    start_of(index) + RECORD_LENGTH <= book.len()
 }
 
 // The bytes of a record that the book has whole.
@@ -90,20 +82,6 @@ pub fn field<T: Number>(r: &[u8], at: usize) -> T
 }
 
 #[tactic(auto, unfolding(crate::specs::Fields::get))]
-pub fn used_of(r: &[u8]) -> u32
-    ensures { result ≡ get used_field r.now }
-{
-    codec::read(r, place::USED)
-}
-
-#[tactic(auto, unfolding(crate::specs::Fields::get))]
-pub fn first_user_of(r: &[u8]) -> RecordIndex
-    ensures { result ≡ record_index (get first_user_field r.now) }
-{
-    RecordIndex(codec::read(r, place::FIRST_USER))
-}
-
-#[tactic(auto, unfolding(crate::specs::Fields::get))]
 pub fn next_of(r: &[u8]) -> RecordIndex
     ensures { result ≡ record_index (get next_field r.now) }
 {
@@ -143,20 +121,6 @@ pub fn open_year_of(r: &[u8]) -> u16
     ensures { result ≡ get open_year_field r.now }
 {
     codec::read(r, place::OPEN_YEAR)
-}
-
-#[tactic(auto, unfolding(crate::specs::Fields::get))]
-pub fn year_of(r: &[u8]) -> u16
-    ensures { result ≡ get year_field r.now }
-{
-    codec::read(r, place::YEAR)
-}
-
-#[tactic(auto, unfolding(crate::specs::Fields::get))]
-pub fn booked_of(r: &[u8]) -> u16
-    ensures { result ≡ get booked_field r.now }
-{
-    codec::read(r, place::BOOKED)
 }
 
 #[tactic(auto, unfolding(crate::specs::Fields::get))]

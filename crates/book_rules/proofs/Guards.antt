@@ -1,30 +1,15 @@
 -- A test that is made only where another one passes; and the tests of an entry by its owner's years.
 use Prim.Native.Nat.{ℕ, ◌≤◌, ◌<◌}
-use mathlib.Core.Path.{◌≡◌, refl, sym}
-use mathlib.Core.Bool.{Bool, true, false, ◌&&◌, ◌||◌, and-true, and-false}
-use mathlib.Core.List.{List}
+use mathlib.Core.Path.{◌≡◌}
+use mathlib.Core.Bool.{Bool, true, false, ◌&&◌, ◌||◌, and-true}
 use native.Mathlib.Decide.{dec_lt}
 use native.Mathlib.Omega.{arith}
 use borrow.Author.Tests.{eq-eqb, ne_eqb, eqb-false, le-leb, lt-leb, leb-false}
 use lib.Dec.{eqb, leb}
-use Rattle.units.proofs.Bools.{and_left, and_right, or_left, or_right}
-use Rattle.account_steps.specs.declared.Account.{Account}
-use Rattle.book_layout.specs.Fields.{get, activation_year_field, open_year_field}
-use Rattle.book_records.specs.Records.{account_in}
+use Rattle.units.proofs.Bools.{or_left, or_right}
 
 pub tested : {s t r : Bool} → s ≡ true → r ≡ t → r ≡ (t && s)
 tested {s} {t} e p = rw (e, and-true t) p
-
-pub untested : (t : Bool) {s : Bool} → s ≡ false → false ≡ (t && s)
-untested t e = rw (e, and-false t)
-
--- the same where the test stands between two others
-pub tested-between : (s u : Bool) {t r : Bool} → (s && u) ≡ true → r ≡ t → r ≡ (s && (t && u))
-tested-between s u e p = let first = and_left s u e in rw first (tested (and_right s u e) p)
-
-pub untested-between : (s t u : Bool) → (s && u) ≡ false → false ≡ (s && (t && u))
-untested-between true t u e = untested t e
-untested-between false t u e = refl
 
 -- an owner that is a record below the entry
 pub owner-below : (owner i : ℕ) → (eqb owner 0 || leb i owner) ≡ false → (1 ≤ owner) × (owner < i)
@@ -39,9 +24,3 @@ none_is_zero n = by_size (dec_lt 0 n)
     by_size : Dec (0 < n) → eqb n 0 ≡ leb n 0
     by_size (yes h) = rw (ne_eqb n 0 (omega arith), lt-leb n 0 h)
     by_size (no h) = rw (eq-eqb n 0 (omega (arith, h)), le-leb n 0 (omega (arith, h)))
-
--- an entry's ranges ask of its owner's account the two years alone, which are those of the owner's record
-pub by-years : {E : Type 0} (test : Account → E → Bool) (o : List ℕ) {x e : E} {from to : ℕ} {fits : Bool} → from ≡ get activation_year_field o → to ≡ get open_year_field o
-    → e ≡ x → ((owner : Account) → owner.details.year ≡ from → owner.open_year ≡ to → fits ≡ test owner e) → fits ≡ test (account_in o) x
-unfolding account_in
-by-years test o f t e fits = let own = fits (account_in o) (sym f) (sym t) in rw (own, e)

@@ -15,9 +15,9 @@ pub unpaid : (a : Account) → a.runs ≡ 0 → eqb a.advances.0 0 ≡ (runs_fit
 unfolding is_made due_if_made runs_fit halves_made advances_fit
 unpaid a e = rw e (none_is_zero a.advances.0)
 
-pub later-unpaid : (a : Account) → a.later_runs ≡ 0 → eqb a.later_advances.0 0 ≡ later_fits a
+pub later_unpaid : (a : Account) → a.later_runs ≡ 0 → eqb a.later_advances.0 0 ≡ later_fits a
 unfolding is_made later_half later_fits
-later-unpaid a e = rw e (none_is_zero a.later_advances.0)
+later_unpaid a e = rw e (none_is_zero a.later_advances.0)
 
 pub uncharged : (a : Account) → a.charge.made ≡ 0 → a.charge.rest.0 ≡ 0 → charge_fits a ≡ true
 unfolding charge_fits
@@ -30,7 +30,7 @@ nothing_fits a none nothing =
     let amounts = and_left (eqb a.advances.0 0 && eqb a.later_advances.0 0) (eqb a.charge.rest.0 0) nothing in
     let paid = sym (unpaid a (eqb-true a.runs 0 (and_left (eqb a.runs 0) (eqb a.later_runs 0) runs)))
     ∙ and_left (eqb a.advances.0 0) (eqb a.later_advances.0 0) amounts in
-    let later = sym (later-unpaid a (eqb-true a.later_runs 0 (and_right (eqb a.runs 0) (eqb a.later_runs 0) runs)))
+    let later = sym (later_unpaid a (eqb-true a.later_runs 0 (and_right (eqb a.runs 0) (eqb a.later_runs 0) runs)))
     ∙ and_right (eqb a.advances.0 0) (eqb a.later_advances.0 0) amounts in
     let charged = uncharged a (eqb-true a.charge.made 0 (and_right (eqb a.runs 0 && eqb a.later_runs 0) (eqb a.charge.made 0) none))
     (eqb-true a.charge.rest.0 0 (and_right (eqb a.advances.0 0 && eqb a.later_advances.0 0) (eqb a.charge.rest.0 0) nothing)) in

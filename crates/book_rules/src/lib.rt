@@ -7,7 +7,7 @@ ghost use Rattle.units.specs.InnerWithin.{NumberWithin};
 ghost use Rattle.book_rules.specs.Book.{length_fits, details_fit, open_year_fits, halves_of, is_made, due_if_made, runs_fit, halves_made};
 ghost use Rattle.book_rules.specs.Book.{advances_fit, later_half, later_fits, charge_fits, payments_fit, credit_fits, halves_fit};
 ghost use Rattle.book_rules.specs.Book.{account_fits, is_run, level_from, booked_fits, advance_fits, balance_fits, paid_balance};
-ghost use Rattle.book_rules.specs.Book.{withheld_fits, closing_fits, entry_ranges, unnamed_of, entry_kind, level_in, within};
+ghost use Rattle.book_rules.specs.Book.{withheld_fits, closing_fits, entry_ranges, unnamed_of, entry_kind, level_in, year_fits};
 ghost use Rattle.book_layout.specs.Fields.{get, kind_field, all_zero, unnamed_of_user};
 ghost use Rattle.book_records.specs.Records.{account_in};
 
@@ -33,6 +33,7 @@ const LEAST_BALANCE: i64 = -(MAX_YEAR as i64);
 const MOST_BALANCE: i64 = MAX_CONTRIBUTION as i64;
 
 // Refusal 1 looks at this.
+#[tactic(auto, unfolding(crate::specs::Book::length_fits))]
 pub fn length_fits(book: &[u8]) -> bool
     ensures { result ≡ length_fits book.now }
 {
@@ -41,6 +42,7 @@ pub fn length_fits(book: &[u8]) -> bool
 }
 
 // Refusal 5 looks at this.
+#[tactic(auto, unfolding(crate::specs::Book::details_fit))]
 pub fn details_fit(details: Details, option: u8) -> bool
     ensures { result ≡ details_fit details option }
 {
@@ -52,6 +54,7 @@ pub fn details_fit(details: Details, option: u8) -> bool
     (plant & power) & ((year & month) & ((option <= 1) & (details.island <= 1)))
 }
 
+#[tactic(auto, unfolding(crate::specs::Book::open_year_fits))]
 fn open_year_fits(a: Account) -> bool
     ensures { result ≡ open_year_fits a }
 {
@@ -59,6 +62,7 @@ fn open_year_fits(a: Account) -> bool
 }
 
 // The halves that a run of the open year pays.
+#[tactic(auto, unfolding(crate::specs::Book::halves_of))]
 fn halves_of(a: Account, run: u8) -> Halves
     ensures { result ≡ halves_of a run }
 {
@@ -73,12 +77,14 @@ pub fn is_made(runs: u8, run: u8) -> bool
     run != 0 && runs / run % 2 == 1
 }
 
+#[tactic(auto, unfolding(crate::specs::Book::due_if_made))]
 fn due_if_made(a: Account, run: u8) -> bool
     ensures { result ≡ due_if_made a run }
 {
     !is_made(a.runs, run) | halves_of(a, run).is_due()
 }
 
+#[tactic(auto, unfolding(crate::specs::Book::runs_fit))]
 fn runs_fit(a: Account) -> bool
     ensures { result ≡ runs_fit a }
 {
@@ -96,6 +102,7 @@ fn halves_made(a: Account, run: u8) -> u64
     }
 }
 
+#[tactic(auto, unfolding(crate::specs::Book::advances_fit))]
 fn advances_fit(a: Account) -> bool
     ensures { result ≡ advances_fit a }
 {
@@ -112,6 +119,7 @@ fn later_half(a: Account, run: u8) -> u64
 }
 
 // Where no run of it is made nothing of it is paid.
+#[tactic(auto, using(crate::proofs::Payments::later_unpaid), unfolding(crate::specs::Book::later_fits))]
 fn later_fits(a: Account) -> bool
     ensures { result ≡ later_fits a }
 {
@@ -125,6 +133,7 @@ fn later_fits(a: Account) -> bool
 
 // Where no run is made nothing is paid.
 #[inline(always)]
+#[tactic(auto, using(crate::proofs::Payments::unpaid))]
 fn paid_fits(a: Account) -> bool
     ensures { result ≡ (runs_fit a && advances_fit a) }
 {
@@ -141,24 +150,21 @@ fn years_between(from: u16, to: u16) -> u64
     u64::from(to.saturating_sub(from))
 }
 
-// An amount is at most that of a year for each year between two; most amounts here are nothing. None reaches that of 51,241 years.
+// An amount is at most that of a year for each year between two; most amounts here are nothing.
 fn fits_years(amount: Ticks, from: u16, to: u16) -> bool
     ensures { result ≡ leb amount.0 (max_year_ticks * (to - from)) }
 {
-    let ticks = amount.0;
-    if ticks == 0 {
-        return true;
-    }
-    let years = years_between(from, to);
-    51_241 <= years || ticks <= MAX_YEAR * years
+    amount.0 == 0 || amount.0 <= MAX_YEAR.saturating_mul(years_between(from, to))
 }
 
+#[tactic(auto, unfolding(crate::specs::Book::credit_fits))]
 fn credit_fits(a: Account) -> bool
     ensures { result ≡ credit_fits a }
 {
     fits_years(a.credit, a.details.year, a.open_year)
 }
 
+#[tactic(auto, unfolding(crate::specs::Book::halves_fit))]
 fn halves_fit(a: Account) -> bool
     ensures { result ≡ halves_fit a }
 {
@@ -176,7 +182,7 @@ fn charge_fits(a: Account) -> bool
 }
 
 // Most users have no run made, nothing paid and nothing charged: that fits.
-#[tactic(auto, unfolding(crate::specs::Book::runs_fit, crate::specs::Book::advances_fit, crate::specs::Book::later_fits, crate::specs::Book::charge_fits), using(crate::proofs::Payments::nothing_fits))]
+#[tactic(auto, using(crate::proofs::Payments::nothing_fits))]
 fn nothing_paid(a: Account) -> bool
     ensures { result ≡ true → payments_fit a ≡ true }
 {
@@ -203,11 +209,62 @@ fn account_fits(a: Account) -> bool
     details & halves_fit(a) && credit_fits(a) && payments_fit(a)
 }
 
-// An owner is known by its activation year and its open year.
-fn year_fits(activation: u16, open_year: u16, year: u16) -> bool
-    ensures { result ≡ within activation open_year year }
-{
-    (activation <= year) & (year <= open_year)
+// The owner of an entry, of whose account the entry's rules ask two years alone: its activation year and its open year.
+#[derive(Clone, Copy)]
+struct Owner<'a> {
+    record: &'a [u8],
+    activation: u16,
+    open_year: u16,
+    ghost activated: { activation ≡ (account_in record.now).details.year },
+    ghost opened: { open_year ≡ (account_in record.now).open_year },
+}
+
+impl<'a> Owner<'a> {
+    #[tactic(auto, unfolding(book_records::specs::Records::account_in))]
+    fn of(record: &'a [u8]) -> Owner<'a>
+        ensures { result.record.now ≡ record.now }
+    {
+        Owner {
+            record,
+            activation: field(record, place::ACTIVATION_YEAR),
+            open_year: field(record, place::OPEN_YEAR),
+        }
+    }
+
+    #[tactic(auto, unfolding(crate::specs::Book::year_fits))]
+    fn year_fits(self, year: u16) -> bool
+        ensures { result ≡ year_fits (account_in self.entry.record.now) year }
+    {
+        (self.activation <= year) & (year <= self.open_year)
+    }
+
+    // Most advances note no year of booking.
+    #[tactic(auto, unfolding(crate::specs::Book::advance_fits, crate::specs::Book::level_from, crate::specs::Book::booked_fits))]
+    fn advance_fits(self, a: AdvanceRecord) -> bool
+        ensures { result ≡ advance_fits (account_in self.entry.record.now) a }
+    {
+        if !((is_run(a.run) & (a.ticks.0 <= MAX_YEAR)) & (a.withheld.0 <= a.ticks.0)) {
+            return false;
+        }
+        if a.booked == 0 {
+            self.year_fits(a.year)
+        } else {
+            self.year_fits(a.booked) & booked_fits(a.year, a.booked)
+        }
+    }
+
+    #[tactic(auto, unfolding(crate::specs::Book::closing_fits))]
+    fn closing_fits(self, c: ClosingRecord) -> bool
+        ensures { result ≡ closing_fits (account_in self.entry.record.now) c }
+    {
+        let sums = c.sums;
+        let energy = (sums.value.0 <= MAX_YEAR) & (sums.cost.0 <= MAX_YEAR);
+        let flat = (sums.flat_rate.0 <= MAX_FLAT_RATE) & (sums.contribution.0 <= MAX_CONTRIBUTION);
+        let lapse = fits_years(sums.lapsed, self.activation, c.year);
+        let rest = (sums.liquidation.0 <= MAX_YEAR) & lapse;
+        let payments = balance_fits(sums.balance) & withheld_fits(c);
+        (self.year_fits(c.year) & (c.option <= 1)) & ((energy & flat) & (rest & payments))
+    }
 }
 
 #[tactic(auto, unfolding(crate::specs::Book::is_run))]
@@ -231,20 +288,6 @@ fn booked_fits(year: u16, booked: u16) -> bool
     (booked == 0) | (u32::from(booked) + 1 == u32::from(year))
 }
 
-// Most advances note no year of booking.
-fn advance_fits(activation: u16, open_year: u16, a: AdvanceRecord) -> bool
-    ensures { (owner : Account) → owner.details.year ≡ activation → owner.open_year ≡ open_year → result ≡ advance_fits owner a }
-{
-    if !((is_run(a.run) & (a.ticks.0 <= MAX_YEAR)) & (a.withheld.0 <= a.ticks.0)) {
-        return false;
-    }
-    if a.booked == 0 {
-        year_fits(activation, open_year, a.year)
-    } else {
-        year_fits(activation, open_year, a.booked) & booked_fits(a.year, a.booked)
-    }
-}
-
 #[tactic(auto, unfolding(crate::specs::Book::balance_fits))]
 fn balance_fits(balance: Balance) -> bool
     ensures { result ≡ balance_fits balance.0 }
@@ -264,33 +307,12 @@ pub fn paid_balance(balance: Balance) -> Ticks
 }
 
 // Most closings have nothing withheld.
+#[tactic(auto, unfolding(crate::specs::Book::withheld_fits))]
 fn withheld_fits(c: ClosingRecord) -> bool
     ensures { result ≡ withheld_fits c }
 {
-    let withheld = c.withheld.0;
-    let sums = c.sums;
-    if withheld == 0 {
-        return true;
-    }
-    let paid = paid_balance(sums.balance);
-    if withheld <= paid.0 {
-        return true;
-    }
-    withheld - paid.0 <= sums.liquidation.0
-}
-
-#[tactic(auto, unfolding(crate::specs::Book::closing_fits, crate::specs::Book::year_fits))]
-fn closing_fits(activation: u16, open_year: u16, c: ClosingRecord) -> bool
-    ensures { (owner : Account) → owner.details.year ≡ activation → owner.open_year ≡ open_year → result ≡ closing_fits owner c }
-{
-    let sums = c.sums;
-    let energy = (sums.value.0 <= MAX_YEAR) & (sums.cost.0 <= MAX_YEAR);
-    let flat = (sums.flat_rate.0 <= MAX_FLAT_RATE) & (sums.contribution.0 <= MAX_CONTRIBUTION);
-    let lapse = fits_years(sums.lapsed, activation, c.year);
-    let rest = (sums.liquidation.0 <= MAX_YEAR) & lapse;
-    let payments = balance_fits(sums.balance) & withheld_fits(c);
-    (year_fits(activation, open_year, c.year) & (c.option <= 1))
-        & ((energy & flat) & (rest & payments))
+    let paid = paid_balance(c.sums.balance);
+    c.withheld.0 == 0 || c.withheld.0 <= paid.0.saturating_add(c.sums.liquidation.0)
 }
 
 // A RECORD'S OWN RULES: its ranges and its zero bytes. Those of an entry go by its owner's record too. A pass over a book asks them of
@@ -309,16 +331,13 @@ pub fn entry_record_fits(r: &Record, owner: &[u8]) -> bool
     ensures { result ≡ (entry_ranges (account_in owner.now) r.now
         && all_zero (unnamed_of (get kind_field r.now)) r.now) }
 {
-    let activation = field(owner, place::ACTIVATION_YEAR);
-    let open_year = field(owner, place::OPEN_YEAR);
+    let owner = Owner::of(owner);
     match Kind::of(r) {
         Some(Kind::Advance) => {
-            advance_fits(activation, open_year, book_records::read_advance(r))
-                && Kind::Advance.rest_is_zero(r)
+            owner.advance_fits(book_records::read_advance(r)) && Kind::Advance.rest_is_zero(r)
         }
         Some(Kind::Closing) => {
-            closing_fits(activation, open_year, book_records::read_closing(r))
-                && Kind::Closing.rest_is_zero(r)
+            owner.closing_fits(book_records::read_closing(r)) && Kind::Closing.rest_is_zero(r)
         }
         _ => false,
     }

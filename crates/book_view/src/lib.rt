@@ -111,7 +111,6 @@ pub fn is_closing(book: &[u8], index: RecordIndex) -> bool
     has_kind(book, Kind::Closing, index)
 }
 
-#[tactic(auto, unfolding(book_rules::specs::Book::is_entry, book_rules::specs::Book::kind_at, book_rules::specs::Book::entry_kind, book_layout::specs::Kinds::kind_named))]
 pub fn is_entry(book: &[u8], index: RecordIndex) -> bool
     ensures { result ≡ is_entry book.now index.0 }
 {
