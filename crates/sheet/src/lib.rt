@@ -2,7 +2,7 @@
 // bytes is an ordinary input.
 #![tactic(auto)]
 
-ghost use Rattle.std.specs.Prelude.{◌≡◌, ℕ, true, false, not, ◌&&◌, ◌<◌, eqb, ltb, length, MatchResult};
+ghost use Rattle.std.specs.Prelude.{◌≡◌, true, false, not, ◌&&◌, ◌<◌, eqb, ltb, length, MatchResult};
 ghost use Rattle.units.specs.Units.{user_number};
 ghost use Rattle.units.specs.Folds.{any_below};
 ghost use Rattle.refusals.specs.Refusals.{position_at};
@@ -103,16 +103,6 @@ pub fn whole<'a>(s: &'a [u8]) -> &'a [u8]
     ensures { result.now ≡ s.now }
 {
     &s[0..LENGTH]
-}
-
-// The number at a place of a month, both counted from 0: of a sheet of the right length.
-#[tactic(auto, unfolding(crate::specs::YearSheet::word))]
-pub fn number_at(s: &[u8], month: usize, place: usize) -> u32
-    requires whole_sheet { length s.now ≡ sheet_length }
-    requires month_bound { (month < 12) × (place < 24) }
-    ensures { result ≡ word s.now month place }
-{
-    codec::get(s, HEADER + 96 * month + 4 * place)
 }
 
 // The number at a place of a month, both counted from 0.

@@ -1,13 +1,12 @@
 -- A sheet is restored by four columns, and these month by month: a number that is stored leaves all others, and a sheet whose
 -- numbers all stand is the sheet of the archive.
-use Rattle.std.proofs.Common.{◌≡◌, ℕ, ◌+◌, ◌-◌, ◌*◌, ◌<◌, ◌≤◌, List, ◌++◌, length, drop, sym, refl, ap, ◌∙◌, subst, not-suc-le-zero, arith, below_more}
+use Rattle.std.proofs.Common.{◌≡◌, ℕ, ◌+◌, ◌-◌, ◌*◌, ◌<◌, ◌≤◌, List, [], ◌∷◌, ◌++◌, length, get_or, drop, sym, refl, ap, ◌∙◌, subst, not-suc-le-zero, arith, below_more}
 use native.Mathlib.Decide.{dec_lt}
 use Rattle.codec.specs.Bytes.{bytes_of, part, stored}
 use Rattle.codec.proofs.Numbers.{length-bytes}
 use Rattle.codec.proofs.ByteRanges.{Bytes, number-below}
 use Rattle.codec.proofs.Stores.{length-stored, part-stored, part-before, part-after}
 use Rattle.sheet.specs.YearSheet.{sheet_length}
-use Rattle.sheet_archive.specs.declared.Four.{Four}
 use Rattle.sheet_archive.specs.Tables.{header_length, header, number_in, table_lines}
 use Rattle.sheet_archive.specs.Archive.{plus, sums, in_archive, sheet_columns, sheet_months}
 use Rattle.sheet_archive.specs.InnerSteps.{before, next_four, number_stored, four_stored, Stands, Restored}
@@ -112,35 +111,35 @@ module _ (a s : List ℕ) where
       ∙ ap (λ (h : List ℕ). h ++ table_lines sheet_months sheet_columns (sheet_lines a)) w.front
 
 -- the numbers of four columns: those of a month, and those before it
-pub record Hold (f : ℕ → ℕ → ℕ) (column month : ℕ) (numbers : Four) : Type 0 where
-  pub first : numbers.first ≡ f column month
-  pub second : numbers.second ≡ f (column + 1) month
-  pub third : numbers.third ≡ f (column + 2) month
-  pub fourth : numbers.fourth ≡ f (column + 3) month
+pub record Hold (f : ℕ → ℕ → ℕ) (column month : ℕ) (numbers : List ℕ) : Type 0 where
+  pub first : (get_or numbers 0 0) ≡ f column month
+  pub second : (get_or numbers 1 0) ≡ f (column + 1) month
+  pub third : (get_or numbers 2 0) ≡ f (column + 2) month
+  pub fourth : (get_or numbers 3 0) ≡ f (column + 3) month
 
-pub month-stored : (a s : List ℕ) (n m : ℕ) (v : Four) → n + 4 ≤ sheet_columns → m < sheet_months → Hold (λ c k. sheet_lines a k c) n m v
+pub month-stored : (a s : List ℕ) (n m : ℕ) (v : List ℕ) → n + 4 ≤ sheet_columns → m < sheet_months → Hold (λ c k. sheet_lines a k c) n m v
     → Restored a s n m 0 → Restored a (four_stored n m v s) n (m + 1) 0
 month-stored a s n m v ln lm h w =
     let front : n ≡ n + 0 = omega arith in
-    let s₁ = number_stored n m v.first s in
-    let s₂ = number_stored (n + 1) m v.second s₁ in
-    let s₃ = number_stored (n + 2) m v.third s₂ in
+    let s₁ = number_stored n m (get_or v 0 0) s in
+    let s₂ = number_stored (n + 1) m (get_or v 1 0) s₁ in
+    let s₃ = number_stored (n + 2) m (get_or v 2 0) s₂ in
     let place : ℕ → ℕ = λ c. header_length + 4 * (sheet_columns * m + c) in
     let w₁ : Restored a s₁ n m 1 =
-    restored-next a s w ln lm (omega arith) (place n) v.first (ap place front) (h.first ∙ ap (sheet_lines a m) front) in
-    let w₂ : Restored a s₂ n m 2 = restored-next a s₁ w₁ ln lm (omega arith) (place (n + 1)) v.second refl h.second in
-    let w₃ : Restored a s₃ n m 3 = restored-next a s₂ w₂ ln lm (omega arith) (place (n + 2)) v.third refl h.third in
-    restored-month a (four_stored n m v s) n m lm (restored-next a s₃ w₃ ln lm (omega arith) (place (n + 3)) v.fourth refl h.fourth)
+    restored-next a s w ln lm (omega arith) (place n) (get_or v 0 0) (ap place front) (h.first ∙ ap (sheet_lines a m) front) in
+    let w₂ : Restored a s₂ n m 2 = restored-next a s₁ w₁ ln lm (omega arith) (place (n + 1)) (get_or v 1 0) refl h.second in
+    let w₃ : Restored a s₃ n m 3 = restored-next a s₂ w₂ ln lm (omega arith) (place (n + 2)) (get_or v 2 0) refl h.third in
+    restored-month a (four_stored n m v s) n m lm (restored-next a s₃ w₃ ln lm (omega arith) (place (n + 3)) (get_or v 3 0) refl h.fourth)
 
 -- what is carried from month to month: the number before, of each of the four columns
 abbrev pub carried : List ℕ → ℕ → ℕ → ℕ
 carried a column month = before (sums (in_archive sheet_months a column)) month
 
-pub carried_none : (a : List ℕ) (column : ℕ) → Hold (carried a) column 0 (record { first = 0; second = 0; third = 0; fourth = 0 })
+pub carried_none : (a : List ℕ) (column : ℕ) → Hold (carried a) column 0 (0 ∷ 0 ∷ 0 ∷ 0 ∷ [])
 unfolding before
 carried_none a column = record { first = refl; second = refl; third = refl; fourth = refl }
 
-pub carried_on : (a : List ℕ) (column month : ℕ) (v : Four) → Hold (λ c k. sheet_lines a k c) column month v → Hold (carried a) column (month + 1) v
+pub carried_on : (a : List ℕ) (column month : ℕ) (v : List ℕ) → Hold (λ c k. sheet_lines a k c) column month v → Hold (carried a) column (month + 1) v
 carried_on a column month v h =
     record {
       first = before-next (sums (in_archive sheet_months a column)) month h.first;
@@ -150,14 +149,14 @@ carried_on a column month v h =
     }
 
 -- a month is worked from the one before it
-pub month-worked : (a : List ℕ) → Bytes a → (column month : ℕ) (last v : Four) → Hold (carried a) column month last → v ≡ next_four a last column month
+pub month-worked : (a : List ℕ) → Bytes a → (column month : ℕ) (last v : List ℕ) → Hold (carried a) column month last → v ≡ next_four a last column month
     → Hold (λ c k. sheet_lines a k c) column month v
 month-worked a bytes column month last v h e =
     record {
-      first = ap (λ (x : Four). x.first) e ∙ worked column last.first h.first;
-      second = ap (λ (x : Four). x.second) e ∙ worked (column + 1) last.second h.second;
-      third = ap (λ (x : Four). x.third) e ∙ worked (column + 2) last.third h.third;
-      fourth = ap (λ (x : Four). x.fourth) e ∙ worked (column + 3) last.fourth h.fourth;
+      first = ap (λ (x : List ℕ). get_or x 0 0) e ∙ worked column (get_or last 0 0) h.first;
+      second = ap (λ (x : List ℕ). get_or x 1 0) e ∙ worked (column + 1) (get_or last 1 0) h.second;
+      third = ap (λ (x : List ℕ). get_or x 2 0) e ∙ worked (column + 2) (get_or last 2 0) h.third;
+      fourth = ap (λ (x : List ℕ). get_or x 3 0) e ∙ worked (column + 3) (get_or last 3 0) h.fourth;
     }
   where
     worked : (c n : ℕ) → n ≡ carried a c month → plus n (in_archive sheet_months a c month) ≡ sheet_lines a month c

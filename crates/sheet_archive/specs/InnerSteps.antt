@@ -1,8 +1,7 @@
 -- What the inner functions of the two calls do: for their contracts alone.
-use Rattle.std.specs.Prelude.{◌≡◌, ℕ, zero, suc, ◌+◌, ◌*◌, ◌<◌, List, length}
+use Rattle.std.specs.Prelude.{◌≡◌, ℕ, zero, suc, ◌+◌, ◌*◌, ◌<◌, List, [], ◌∷◌, length, get_or}
 use Rattle.codec.specs.Bytes.{bytes_of, part, stored}
 use Rattle.sheet.specs.YearSheet.{sheet_length}
-use Rattle.sheet_archive.specs.declared.Four.{Four}
 use Rattle.sheet_archive.specs.Tables.{header_length, header, table_line}
 use Rattle.sheet_archive.specs.Archive.{plus, differences, sums, in_sheet, in_archive, sheet_columns, sheet_months}
 
@@ -19,23 +18,22 @@ before column zero = 0
 before column (suc month) = column month
 
 -- THE SHEET goes by four columns, side by side
-abbrev pub next_four : List ℕ → Four → ℕ → ℕ → Four
+abbrev pub next_four : List ℕ → List ℕ → ℕ → ℕ → List ℕ
 next_four a last column month =
-    record {
-      first = plus last.first (in_archive sheet_months a column month);
-      second = plus last.second (in_archive sheet_months a (column + 1) month);
-      third = plus last.third (in_archive sheet_months a (column + 2) month);
-      fourth = plus last.fourth (in_archive sheet_months a (column + 3) month);
-    }
+    plus (get_or last 0 0) (in_archive sheet_months a column month)
+    ∷ plus (get_or last 1 0) (in_archive sheet_months a (column + 1) month)
+    ∷ plus (get_or last 2 0) (in_archive sheet_months a (column + 2) month)
+    ∷ plus (get_or last 3 0) (in_archive sheet_months a (column + 3) month)
+    ∷ []
 
 abbrev pub number_stored : ℕ → ℕ → ℕ → List ℕ → List ℕ
 number_stored column month n s = stored (header_length + 4 * (sheet_columns * month + column)) (bytes_of 4 n) s
 
-abbrev pub four_stored : ℕ → ℕ → Four → List ℕ → List ℕ
+abbrev pub four_stored : ℕ → ℕ → List ℕ → List ℕ → List ℕ
 four_stored column month numbers s =
-    number_stored (column + 3) month numbers.fourth
-    (number_stored (column + 2) month numbers.third
-    (number_stored (column + 1) month numbers.second (number_stored column month numbers.first s)))
+    number_stored (column + 3) month (get_or numbers 3 0)
+    (number_stored (column + 2) month (get_or numbers 2 0)
+    (number_stored (column + 1) month (get_or numbers 1 0) (number_stored column month (get_or numbers 0 0) s)))
 
 -- a number that stands in the sheet is the archive's column summed up to its month
 abbrev pub Stands : List ℕ → List ℕ → ℕ → ℕ → Type 0

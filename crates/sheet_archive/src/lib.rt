@@ -17,15 +17,6 @@ use sheet::{HEADER, LENGTH, MONTHS};
 // A month's numbers, the last one too.
 const COLUMNS: usize = 24;
 
-// The numbers of four columns that stand side by side, in one month.
-#[derive(Clone, Copy, Debug, PartialEq, Eq)]
-struct Four {
-    first: u32,
-    second: u32,
-    third: u32,
-    fourth: u32,
-}
-
 fn sizes_fit(source: usize, destination: usize) -> bool
     ensures { result ≡ sizes_fit source destination }
 {
@@ -76,33 +67,29 @@ fn archive_column(sheet: &[u8], archive: &mut [u8], column: usize)
     }
 }
 
-// The numbers of a month in four columns, each the one before it in its column with the archive's difference.
-fn next_four(archive: &[u8], last: Four, column: usize, month: usize) -> Four
+// The numbers of a month in four columns that stand side by side, each the one before it in its column with the archive's difference.
+fn next_four(archive: &[u8], last: [u32; 4], column: usize, month: usize) -> [u32; 4]
     requires whole_archive { length archive.now ≡ sheet_length }
     requires column_bound { (column + 4 ≤ sheet_columns) × (month < sheet_months) }
     ensures { result ≡ next_four archive.now last column month }
 {
-    let first = number_in(MONTHS, archive, column, month).wrapping_add(last.first);
-    let second = number_in(MONTHS, archive, column + 1, month).wrapping_add(last.second);
-    let third = number_in(MONTHS, archive, column + 2, month).wrapping_add(last.third);
-    let fourth = number_in(MONTHS, archive, column + 3, month).wrapping_add(last.fourth);
-    Four {
-        first,
-        second,
-        third,
-        fourth,
-    }
+    [
+        number_in(MONTHS, archive, column, month).wrapping_add(last[0]),
+        number_in(MONTHS, archive, column + 1, month).wrapping_add(last[1]),
+        number_in(MONTHS, archive, column + 2, month).wrapping_add(last[2]),
+        number_in(MONTHS, archive, column + 3, month).wrapping_add(last[3]),
+    ]
 }
 
-fn store_four(sheet: &mut [u8], column: usize, month: usize, numbers: Four)
+fn store_four(sheet: &mut [u8], column: usize, month: usize, numbers: [u32; 4])
     requires whole_sheet { length sheet.old ≡ sheet_length }
     requires column_bound { (column + 4 ≤ sheet_columns) × (month < sheet_months) }
     ensures { sheet.new ≡ four_stored column month numbers sheet.old }
 {
-    codec::put(sheet, place_in(COLUMNS, month, column), numbers.first);
-    codec::put(sheet, place_in(COLUMNS, month, column + 1), numbers.second);
-    codec::put(sheet, place_in(COLUMNS, month, column + 2), numbers.third);
-    codec::put(sheet, place_in(COLUMNS, month, column + 3), numbers.fourth);
+    codec::put(sheet, place_in(COLUMNS, month, column), numbers[0]);
+    codec::put(sheet, place_in(COLUMNS, month, column + 1), numbers[1]);
+    codec::put(sheet, place_in(COLUMNS, month, column + 2), numbers[2]);
+    codec::put(sheet, place_in(COLUMNS, month, column + 3), numbers[3]);
 }
 
 fn restore_four(archive: &[u8], sheet: &mut [u8], column: usize)
@@ -110,15 +97,11 @@ fn restore_four(archive: &[u8], sheet: &mut [u8], column: usize)
     requires restored { Restored archive.now sheet.old column 0 0 }
     ensures { Restored archive.now sheet.new (column + 4) 0 0 }
 {
-    let mut numbers = Four {
-        first: 0,
-        second: 0,
-        third: 0,
-        fourth: 0,
-    };
+    let mut numbers = [0; 4];
     for month in 0..MONTHS {
-        numbers = next_four(archive, numbers, column, month);
-        store_four(sheet, column, month, numbers);
+        let next = next_four(archive, numbers, column, month);
+        store_four(sheet, column, month, next);
+        numbers = next;
     }
 }
 

@@ -2,11 +2,12 @@
 // thousandths." Every string of bytes and every factor is an ordinary input.
 #![tactic(auto)]
 
-ghost use Rattle.std.specs.Prelude.{◌≡◌, ◌+◌, ◌*◌, ◌/◌, ◌%◌, ◌≤◌, ◌<◌, length, MatchResult};
+ghost use Rattle.std.specs.Prelude.{◌≡◌, ◌/◌, ◌%◌, ◌≤◌, ◌<◌, length, MatchResult};
+ghost use Rattle.refusals.specs.declared.Refusal.TheVariants.{FactorAboveLimit};
 ghost use Rattle.codec.specs.Bytes.{stored};
 ghost use Rattle.sheet.specs.YearSheet.{sheet_length};
 ghost use Rattle.sheet_losses.specs.Losses.{max_factor, thousandths, injected_place, three_readings, with_injected};
-ghost use Rattle.sheet_losses.specs.Losses.{place_in, answer_of, raised_after};
+ghost use Rattle.sheet_losses.specs.Losses.{answer_of, raised_after};
 ghost use Rattle.sheet_losses.specs.InnerSteps.{in_band, readings_in, RestsTo, MonthRaised, MonthAbove, YearRaised, YearAbove};
 
 use refusals::{Position, Refusal};
@@ -14,55 +15,63 @@ use sheet::{HEADER, MONTHS};
 use units::{Kwh, MAX_KWH, WideKwh};
 
 // The place of a month's injected F1, counted from 0.
-const INJECTED: usize = 3;
+const INJECTED: u8 = 3;
 
 // "a factor of 0 to 200 thousandths"
 const MAX_FACTOR: u32 = 200;
 
-// A raw reading, raised: a raw one may be any 32 bits, so that the raised one may need more. Beside it the rest of the division by
-// 1,000, which passes on.
-fn raised(reading: u32, factor: u32, rest: u32) -> (WideKwh, u32)
-    requires { (factor ≤ max_factor) × (rest < 1000) }
-    ensures kwh { result.0.0 ≡ thousandths factor reading rest / 1000 }
-    ensures rest { result.1 ≡ thousandths factor reading rest % 1000 }
-{
-    let thousandths = u64::from(reading) * (1000 + u64::from(factor)) + u64::from(rest);
-    let passed = (thousandths % 1000) as u32;
-    (WideKwh(thousandths / 1000), passed)
+// A factor that readings are raised by.
+#[derive(Clone, Copy, Debug, PartialEq, Eq)]
+struct Factor {
+    thousandths: u32,
+    ghost in_range: { thousandths ≤ max_factor },
 }
 
-// Month and place as the documents count them, from 1; a month's injected F1 is its fourth number.
-fn position_of(month: usize, band: usize) -> Position
-    requires { (month < 12) × (band < 3) }
-    ensures { result ≡ place_in month band }
-{
-    Position {
-        month: month as u32 + 1,
-        place: band as u32 + 4,
+impl Factor {
+    // 26.
+    fn new(thousandths: u32) -> Result<Factor, Refusal>
+        ensures { MatchResult result (λ factor. (thousandths ≤ max_factor) × (factor.thousandths ≡ thousandths))
+            (λ e. (max_factor < thousandths) × (e ≡ FactorAboveLimit)) }
+    {
+        if MAX_FACTOR < thousandths {
+            return Err(Refusal::FactorAboveLimit);
+        }
+        Ok(Factor { thousandths })
     }
+}
+
+// A raw reading, raised: a raw one may be any 32 bits, so that the raised one may need more. Beside it the rest of the division by
+// 1,000, which passes on.
+fn raised(reading: u32, factor: Factor, rest: u32) -> (WideKwh, u32)
+    requires { rest < 1000 }
+    ensures kwh { result.0.0 ≡ thousandths factor.thousandths reading rest / 1000 }
+    ensures rest { result.1 ≡ thousandths factor.thousandths reading rest % 1000 }
+{
+    let thousandths = u64::from(reading) * (1000 + u64::from(factor.thousandths)) + u64::from(rest);
+    let passed = (thousandths % 1000) as u32;
+    (WideKwh(thousandths / 1000), passed)
 }
 
 // "The rest of the division by 1,000 passes to the same band of the next month." A month's raised readings with the rests that pass on,
 // up to a reading above the limit.
 fn raised_month(
     sheet: &[u8],
-    factor: u32,
+    factor: Factor,
     rests: [u32; 3],
-    month: usize,
+    month: u8,
 ) -> Result<([Kwh; 3], [u32; 3]), Refusal>
-    requires whole_sheet { length sheet.now ≡ sheet_length }
-    requires month_bound { month < 12 }
-    requires factor_bound { factor ≤ max_factor }
-    requires rests_passed { RestsTo factor sheet.now month rests }
-    ensures { MatchResult result (λ r. MonthRaised factor sheet.now month r.0 r.1) (λ e. MonthAbove factor sheet.now month e) }
+    requires { RestsTo factor.thousandths sheet.now month rests }
+    ensures { MatchResult result (λ r. MonthRaised factor.thousandths sheet.now month r.0 r.1)
+        (λ e. MonthAbove factor.thousandths sheet.now month e) }
 {
     let mut readings = [Kwh(0); 3];
     let mut passed = rests;
     for band in 0..3 {
-        let raw = sheet::number_at(sheet, month, INJECTED + band);
+        let place = INJECTED + band as u8;
+        let raw = sheet::number(sheet, month, place);
         let (kwh, rest) = raised(raw, factor, passed[band]);
         if u64::from(MAX_KWH) < kwh.0 {
-            return Err(Refusal::AboveLimit(position_of(month, band)));
+            return Err(Refusal::AboveLimit(Position::at(month, place)));
         }
         readings[band] = Kwh(kwh.0 as u32);
         passed[band] = rest;
@@ -71,16 +80,15 @@ fn raised_month(
 }
 
 // The year, month by month, and December's rests.
-fn raised_year(sheet: &[u8], factor: u32) -> Result<([[Kwh; 3]; 12], [u32; 3]), Refusal>
-    requires whole_sheet { length sheet.now ≡ sheet_length }
-    requires factor_bound { factor ≤ max_factor }
-    ensures { MatchResult result (λ r. YearRaised factor sheet.now r.0 r.1) (λ e. YearAbove factor sheet.now e) }
+fn raised_year(sheet: &[u8], factor: Factor) -> Result<([[Kwh; 3]; 12], [u32; 3]), Refusal>
+    ensures { MatchResult result (λ r. YearRaised factor.thousandths sheet.now r.0 r.1)
+        (λ e. YearAbove factor.thousandths sheet.now e) }
 {
     let mut months = [[Kwh(0); 3]; 12];
     let mut rests = [0; 3];
-    for month in 0..MONTHS {
+    for month in 0..12 {
         let (readings, passed) = raised_month(sheet, factor, rests, month)?;
-        months[month] = readings;
+        months[usize::from(month)] = readings;
         rests = passed;
     }
     Ok((months, rests))
@@ -90,10 +98,10 @@ fn store_month(sheet: &mut [u8], month: usize, readings: [Kwh; 3])
     requires { (length sheet.old ≡ sheet_length) × (month < 12) }
     ensures { sheet.new ≡ stored (injected_place month) (three_readings (in_band readings)) sheet.old }
 {
-    let at = HEADER + 96 * month + 4 * INJECTED;
-    codec::put(sheet, at, readings[0].0);
-    codec::put(sheet, at + 4, readings[1].0);
-    codec::put(sheet, at + 8, readings[2].0);
+    let at = HEADER + 96 * month + 4 * usize::from(INJECTED);
+    codec::put(sheet, at, readings[0]);
+    codec::put(sheet, at + 4, readings[1]);
+    codec::put(sheet, at + 8, readings[2]);
 }
 
 fn write_year(sheet: &mut [u8], months: [[Kwh; 3]; 12])
@@ -114,9 +122,7 @@ pub fn raise(sheet: &mut [u8], factor: u32) -> Result<[u32; 3], Refusal>
     if !sheet::form_fits(sheet) {
         return Err(Refusal::SheetForm);
     }
-    if MAX_FACTOR < factor {
-        return Err(Refusal::FactorAboveLimit);
-    }
+    let factor = Factor::new(factor)?;
     let (months, rests) = raised_year(sheet, factor)?;
     write_year(sheet, months);
     Ok(rests)

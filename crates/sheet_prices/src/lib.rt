@@ -2,7 +2,7 @@
 // 01, "Year's values").
 #![tactic(auto)]
 
-ghost use Rattle.std.specs.Prelude.{◌≡◌, [], ◌*◌, ◌≤◌, ◌<◌, ◌^◌, get_or};
+ghost use Rattle.std.specs.Prelude.{◌≡◌, [], ◌*◌, ◌≤◌, ◌<◌, get_or};
 ghost use Rattle.units.specs.Units.{rate};
 ghost use Rattle.units.specs.Limits.{max_kwh, max_price, max_year_ticks};
 ghost use Rattle.units.specs.Folds.{sum_below};
@@ -71,7 +71,7 @@ fn energy_row(s: &[u8], reading: Reading, month: u8) -> [Kwh; 3]
 }
 
 // The energies of a reading, by month and band, of any bytes.
-pub fn energy_rows(s: &[u8], reading: Reading) -> [[Kwh; 3]; 12]
+fn energy_rows(s: &[u8], reading: Reading) -> [[Kwh; 3]; 12]
     ensures { EnergyRows (energy_row s.now (first_place reading)) result }
 {
     let mut rows = [[Kwh(0); 3]; 12];

@@ -8,7 +8,7 @@ ghost use Rattle.decimals.specs.InnerWritten.{TextPut};
 ghost use Rattle.sheet_text.specs.Lines.{months, readings, line, begins_line};
 ghost use Rattle.sheet_text.specs.Reading.{read_answer, read_after, month_filled, filled, some_kwh_above};
 ghost use Rattle.sheet_text.specs.Writing.{buffers_fit, sheet_above, write_answer, buffer_after};
-ghost use Rattle.sheet_text.specs.InnerSteps.{kwh_of, kwh_of_year, place_in, stop_at, numbers_to};
+ghost use Rattle.sheet_text.specs.InnerSteps.{kwh_of, kwh_of_year, stop_at, numbers_to};
 ghost use Rattle.sheet_text.specs.InnerSteps.{LineRead, FirstAbove, YearRead, TextRefused, MonthOf, SheetAbove, YearPut};
 
 use refusals::{Position, Refusal};
@@ -51,26 +51,15 @@ fn line_of(text: &[u8], month: u32) -> Option<([Kwh; READINGS], &[u8])>
 }
 
 // The first place of a month with a number above its limit.
-fn place_above(kwh: [Kwh; READINGS]) -> Option<usize>
+fn place_above(kwh: [Kwh; READINGS]) -> Option<u8>
     ensures { MatchOption result (some_kwh_above (kwh_of kwh) ≡ false) (λ place. FirstAbove (kwh_of kwh) place) }
 {
-    for place in 0..READINGS {
-        if MAX_KWH < kwh[place].0 {
+    for place in 0..6 {
+        if MAX_KWH < kwh[usize::from(place)].0 {
             return Some(place);
         }
     }
     None
-}
-
-// Month and place as the documents count them, from 1.
-fn position_of(month: usize, place: usize) -> Position
-    requires { (month < months) × (place < readings) }
-    ensures { result ≡ place_in month place }
-{
-    Position {
-        month: month as u32 + 1,
-        place: place as u32 + 1,
-    }
 }
 
 // The kWh of the year, month by month, that a text says: "the earlier line goes first, in one line 17".
@@ -79,13 +68,13 @@ pub fn measures_of(text: &[u8]) -> Result<[[Kwh; READINGS]; MONTHS], Refusal>
 {
     let mut year = [[Kwh(0); READINGS]; MONTHS];
     let mut rest = text;
-    for month in 0..MONTHS {
-        let line = month as u32 + 1;
+    for month in 0..12 {
+        let line = u32::from(month) + 1;
         let (kwh, behind) = line_of(rest, line).ok_or(Refusal::WrongLine(line))?;
         if let Some(place) = place_above(kwh) {
-            return Err(Refusal::AboveLimit(position_of(month, place)));
+            return Err(Refusal::AboveLimit(Position::at(month, place)));
         }
-        year[month] = kwh;
+        year[usize::from(month)] = kwh;
         rest = behind;
     }
     if !rest.is_empty() {
@@ -99,7 +88,7 @@ fn fill_month(sheet: &mut [u8], month: usize, kwh: [Kwh; READINGS])
     ensures { sheet.new ≡ month_filled (kwh_of kwh) month readings sheet.old }
 {
     for place in 0..READINGS {
-        codec::put(sheet, HEADER + 96 * month + 4 * place, kwh[place].0);
+        codec::put(sheet, HEADER + 96 * month + 4 * place, kwh[place]);
     }
 }
 
@@ -126,31 +115,30 @@ pub fn read_measures(sheet: &mut [u8], text: &[u8]) -> Result<(), Refusal>
 }
 
 // The kWh of a month of a sheet.
-fn month_of(sheet: &[u8], month: usize) -> [Kwh; READINGS]
-    requires { (length sheet.now ≡ sheet_length) × (month < months) }
+fn month_of(sheet: &[u8], month: u8) -> [Kwh; READINGS]
     ensures { MonthOf sheet.now month result }
 {
     let mut kwh = [Kwh(0); READINGS];
-    for place in 0..READINGS {
-        kwh[place] = Kwh(sheet::number_at(sheet, month, place));
+    for place in 0..6 {
+        kwh[usize::from(place)] = Kwh(sheet::number(sheet, month, place));
     }
     kwh
 }
 
 // Where the first kWh of a sheet above its limit stands.
 fn position_above(sheet: &[u8]) -> Option<Position>
-    requires { length sheet.now ≡ sheet_length }
     ensures { MatchOption result (sheet_above sheet.now ≡ false) (λ position. SheetAbove sheet.now position) }
 {
-    for month in 0..MONTHS {
+    for month in 0..12 {
         if let Some(place) = place_above(month_of(sheet, month)) {
-            return Some(position_of(month, place));
+            return Some(Position::at(month, place));
         }
     }
     None
 }
 
-// Writes the numbers of a line at a place of the text, and answers the place behind them.
+// Writes the numbers of a line at a place of the text, and answers the place behind them. The text goes into lent bytes, since the library
+// has no heap: the place is all that a step hands on to the next.
 fn write_numbers(out: &mut [u8], at: usize, kwh: [Kwh; READINGS]) -> usize
     requires { at + length (numbers_to (kwh_of kwh) readings) ≤ length out.old }
     ensures { TextPut at (numbers_to (kwh_of kwh) readings) out.old out.new result }
@@ -163,11 +151,11 @@ fn write_numbers(out: &mut [u8], at: usize, kwh: [Kwh; READINGS]) -> usize
 }
 
 // The line of a month, counted from 0.
-fn write_line(out: &mut [u8], at: usize, month: usize, kwh: [Kwh; READINGS]) -> usize
-    requires { (month < months) × (at + length (line (month + 1) (kwh_of kwh)) ≤ length out.old) }
+fn write_line(out: &mut [u8], at: usize, month: u8, kwh: [Kwh; READINGS]) -> usize
+    requires { at + length (line (month + 1) (kwh_of kwh)) ≤ length out.old }
     ensures { TextPut at (line (month + 1) (kwh_of kwh)) out.old out.new result }
 {
-    let end = decimals::write_field(out, at, month as u64 + 1, b';');
+    let end = decimals::write_field(out, at, u64::from(month) + 1, b';');
     write_numbers(out, end, kwh)
 }
 
@@ -176,7 +164,7 @@ fn write_lines(sheet: &[u8], out: &mut [u8]) -> usize
     ensures { YearPut sheet.now out.old out.new result }
 {
     let mut end = 0;
-    for month in 0..MONTHS {
+    for month in 0..12 {
         end = write_line(out, end, month, month_of(sheet, month));
     }
     end

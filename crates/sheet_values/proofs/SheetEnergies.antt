@@ -25,10 +25,6 @@ pub exchanged-within : (s : List ℕ) (m : ℕ) → month_exchanged s m ≤ mont
 unfolding month_exchanged
 exchanged-within s m = omega arith
 
--- an array that holds a capped number for each month
-pub months-capped : (f : ℕ → ℕ) (a : List Kwh) (cap : ℕ) → Months f a → ((m : ℕ) → m < 12 → f m ≤ cap) → (m : ℕ) → m < 12 → energy_at m a ≤ cap
-months-capped f a cap h k m l = subst (λ (x : Kwh). x.0 ≤ cap) (sym (h m l)) (k m l)
-
 -- sums and tests over the arrays are those over the sheet
 sum_over_lem : (f : ℕ → ℕ) (a : List Kwh) → Months f a → (from n : ℕ) → from + n ≤ 12
     → sum_below n (λ i. energy_at (from + i) a) ≡ sum_below n (λ i. f (from + i))

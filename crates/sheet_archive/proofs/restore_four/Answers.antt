@@ -13,7 +13,7 @@ loop-month-init c =
 pub loop-month-preserved : goal.loop-month-preserved
 loop-month-preserved c =
     let w = c.store_four in
-    let n = c.next_four-numbers in
+    let n = c.next_four-next in
     let l = c.loop-month in
     let a = c.args in
     let bytes : Bytes a.archive.now = λ k. (c.shared_slice_known-1.given k).fits in

@@ -4,10 +4,9 @@ use Rattle.sheet.specs.YearSheet.{sheet_length}
 use Rattle.sheet_archive.specs.Archive.{sheet_months}
 use Rattle.sheet_archive.specs.InnerSteps.{Restored}
 use Rattle.sheet_archive.proofs.Restoring.{Hold, carried}
-use Rattle.sheet_archive.specs.declared.Four.{Four}
 use Rattle.sheet_archive.proofs.restore_four.Given as goal
 
-pub record MonthsRestored (archive before : List ℕ) (column : ℕ) (sheet : List ℕ) (numbers : Four) (month : ℕ) : Type 0 where
+pub record MonthsRestored (archive before : List ℕ) (column : ℕ) (sheet : List ℕ) (numbers : List ℕ) (month : ℕ) : Type 0 where
   pub within : month ≤ sheet_months
   pub same : length sheet ≡ length before
   pub long : length sheet ≡ sheet_length

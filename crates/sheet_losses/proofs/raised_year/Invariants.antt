@@ -3,4 +3,4 @@ use Rattle.sheet_losses.proofs.Years.{Working}
 use Rattle.sheet_losses.proofs.raised_year.Given as goal
 
 abbrev pub invariant-loop-month : goal.invariant-loop-month
-invariant-loop-month l = Working l.factor l.sheet l.month l.months l.rests
+invariant-loop-month l = Working l.factor.thousandths l.sheet l.month l.months l.rests

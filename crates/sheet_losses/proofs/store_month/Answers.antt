@@ -9,4 +9,4 @@ pub returns : goal.returns
 returns c =
     let a = c.args in
     three-stored (injected_place a.month) (in_band a.readings) a.sheet.now c.put.new.s c.put-2.new.s c.put-3.new.s
-    (omega arith) c.put.ensures c.put-2.ensures c.put-3.ensures
+    (omega arith) (rw c.from.ensures at c.put.ensures) (rw c.from.ensures at c.put-2.ensures) (rw c.from.ensures at c.put-3.ensures)

@@ -16,10 +16,11 @@ pub returns-in_err-kwh : goal.returns-in_err-kwh
 returns-in_err-kwh c =
     let text = c.args.text.now in
     let l = c.loop-month in
-    let none = missing _ _ _ c.line_of.result _ c.in_err-kwh.ensures.value c.line_of.ensures in
+    let none = missing _ _ _ c.line_of.result _ c.in_err-kwh.ensures.value (rw c.from-line.ensures at c.line_of.ensures) in
     let wrong = line-missing text c.loop-month-test.true l.invariant.place none.0 in
     let told = wrong-refused text l.month (omega arith) l.invariant.passed wrong in
     let refusal = none.1 in
+    let line = c.from-line.ensures in
     search rules
 
 pub returns-in-Some : goal.returns-in-Some
@@ -27,9 +28,9 @@ returns-in-Some c =
     let text = c.args.text.now in
     let l = c.loop-month in
     let month = c.loop-month-test.true in
-    let read = there _ _ _ c.line_of.result _ c.in_ok-kwh.ensures.value c.line_of.ensures in
+    let read = there _ _ _ c.line_of.result _ c.in_ok-kwh.ensures.value (rw c.from-line.ensures at c.line_of.ensures) in
     above-refused text l.month month l.invariant.passed (line-right text month l.invariant.place read)
-    (line-above text month l.invariant.place read c.in-Some.ensures) c.position_of.ensures
+    (line-above text month l.invariant.place read c.in-Some.ensures) c.at.ensures
 
 pub loop-month-preserved : goal.loop-month-preserved
 loop-month-preserved c =
@@ -37,14 +38,15 @@ loop-month-preserved c =
     let l = c.loop-month in
     let month = c.loop-month-test.true in
     let place = l.invariant.place in
-    let read = there _ _ _ c.line_of.result _ c.in_ok-kwh.ensures.value c.line_of.ensures in
-    record {
+    let read = there _ _ _ c.line_of.result _ c.in_ok-kwh.ensures.value (rw c.from-line.ensures at c.line_of.ensures) in
+    rw c.from.ensures
+    (record {
       twelve = length-set l.year l.month _ ∙ l.invariant.twelve;
       passed = line_taken text l.month month l.invariant.passed (line-right text month place read) (line-within text month place read c.in_default.ensures);
       place = line-rest text month place read;
       numbers = numbers_more text l.month l.year _ (omega (arith, month, l.invariant.twelve)) l.invariant.numbers
           (number-within text month place read c.in_default.ensures);
-    }
+    })
 
 pub returns-then-not-is_empty : goal.returns-then-not-is_empty
 returns-then-not-is_empty c =

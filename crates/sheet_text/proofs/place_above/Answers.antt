@@ -8,12 +8,12 @@ use Rattle.sheet_text.proofs.place_above.Goals as goal
 pub loop-place-init : goal.loop-place-init
 loop-place-init c = none-before-first (kwh_of c.args.kwh)
 
-pub returns-then-kwh-place-gt-MAX_KWH : goal.returns-then-kwh-place-gt-MAX_KWH
-returns-then-kwh-place-gt-MAX_KWH c =
-    above-found (kwh_of c.args.kwh) c.loop-place.place c.loop-place-test.true c.loop-place.invariant c.if-kwh-place-gt-MAX_KWH.true
+pub returns-then-kwh-from-gt-MAX_KWH : goal.returns-then-kwh-from-gt-MAX_KWH
+returns-then-kwh-from-gt-MAX_KWH c =
+    above-found (kwh_of c.args.kwh) c.loop-place.place c.loop-place-test.true c.loop-place.invariant (rw c.from.ensures at c.if-kwh-from-gt-MAX_KWH.true)
 
 pub loop-place-preserved : goal.loop-place-preserved
-loop-place-preserved c = none_more (kwh_of c.args.kwh) c.loop-place.place c.loop-place.invariant c.if-kwh-place-gt-MAX_KWH.false
+loop-place-preserved c = none_more (kwh_of c.args.kwh) c.loop-place.place c.loop-place.invariant (rw c.from.ensures at c.if-kwh-from-gt-MAX_KWH.false)
 
 pub returns : goal.returns
 returns c =

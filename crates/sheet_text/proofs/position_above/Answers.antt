@@ -9,7 +9,7 @@ loop-month-init c = none_yet c.args.sheet.now
 
 pub returns-in-Some : goal.returns-in-Some
 returns-in-Some c =
-    month-found c.args.sheet.now c.loop-month.month _ c.month_of.ensures c.loop-month-test.true c.loop-month.invariant c.in-Some.ensures c.position_of.ensures
+    month-found c.args.sheet.now c.loop-month.month _ c.month_of.ensures c.loop-month-test.true c.loop-month.invariant c.in-Some.ensures c.at.ensures
 
 pub loop-month-preserved : goal.loop-month-preserved
 loop-month-preserved c = month-within c.args.sheet.now c.loop-month.month _ c.month_of.ensures c.loop-month.invariant c.in_default.ensures

@@ -25,24 +25,18 @@ loop-month-init c =
       written = sym (ap (λ (t : List ℕ). stored 0 t a.out.now) (sym none) ∙ stored-none 0 a.out.now);
     }
 
-pub month_of-requires : goal.month_of-requires
-month_of-requires c =
-    ((sizes-of c.args.sheet.now c.args.out.now c.requires.0).0, omega arith)
-
 pub write_line-end-requires : goal.write_line-end-requires
 write_line-end-requires c =
     let l = c.loop-month in
     let s = c.args.sheet.now in
     let same = line_same (l.month + 1) (kwh_of c.month_of.result) (word s l.month) c.month_of.ensures in
-    let room = (sizes-of s c.args.out.now c.requires.0).1 in (
-      omega arith,
-      omega (
-        arith,
-        ap length same,
-        lines-room l.month (word s) (omega arith) (sheet-within s c.requires.1),
-        l.invariant.same,
-        l.invariant.ends,
-      ),
+    let room = (sizes-of s c.args.out.now c.requires.0).1 in
+    omega (
+      arith,
+      ap length same,
+      lines-room l.month (word s) (omega arith) (sheet-within s c.requires.1),
+      l.invariant.same,
+      l.invariant.ends,
     )
 
 pub loop-month-preserved : goal.loop-month-preserved
