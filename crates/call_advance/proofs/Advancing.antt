@@ -1,38 +1,34 @@
--- An advance on a sound book: refused because no user has the number, or by its objection, or booked as the definition has it.
+-- An advance on a sound book: what its rules come to where the user is there, and the book after it.
 use Prim.Native.Nat.{ℕ, ◌+◌, ◌^◌, ◌≤◌, ◌<◌}
-use mathlib.Core.Path.{◌≡◌, refl, ap, ◌∙◌}
+use mathlib.Core.Path.{◌≡◌, refl, sym, ◌∙◌}
 use mathlib.Core.Bool.{Bool, true}
 use mathlib.Core.Logic.{◌⊎◌, inl, inr}
-use mathlib.Core.List.{List}
+use mathlib.Core.List.{List, ◌∷◌}
 use native.Mathlib.Omega.{arith}
 use borrow.Author.Tests.{eq-eqb, ne_eqb}
-use Rattle.units.specs.declared.RecordIndex.{RecordIndex}
 use Rattle.units.specs.declared.Ticks.{Ticks}
-use Rattle.units.specs.Units.{record_index, ticks}
+use Rattle.units.specs.Units.{ticks}
 use Rattle.units.specs.Limits.{max_year_ticks}
 use Rattle.account_steps.specs.declared.Account.{Account}
 use Rattle.account_steps.specs.Account.{runs_in, advances_in, account_advanced}
 use Rattle.account_steps.proofs.TwoYears.{runs-open, advances-open, runs-later, advances-later}
-use Rattle.book_rules.specs.Book.{is_user, account_at, account_fits, halves_fit}
-use Rattle.check_book.specs.Verdicts.{Accepted}
+use Rattle.book_rules.specs.Book.{account_at, account_fits, halves_fit}
+use Rattle.book_view.specs.declared.User.{User}
 use Rattle.call_rules.specs.Changes.{applied, run_amount}
-use Rattle.book_rules.specs.Find.{find_user}
-use Rattle.call_rules.specs.Rules.{test_of, refused_by as refused_by}
-use Rattle.call_rules.specs.Refusals.{look_of, look_at, has_room, run_open, order_fits}
+use Rattle.call_rules.specs.Rules.{◌unless◌, refused_by, test_of, without}
+use Rattle.call_rules.specs.Refusals.{look_at, present, user_at, has_room, run_open, order_fits}
 use Rattle.call_rules.specs.Calls.{Call, advance, named_by, rules_of, change_of, booked}
+use Rattle.call_rules.proofs.Rules.{passes}
 use Rattle.call_keeps.proofs.Ranges.{account-good}
 use Rattle.call_keeps.proofs.Widths.{AccountWithin, account-within}
-use Rattle.call_rules.proofs.Orders.{fact}
-use Rattle.call_keeps.proofs.CallsFit.{named-user}
 use Rattle.call_keeps.proofs.Accounts.{advanced-fits}
 use Rattle.call_keeps.proofs.Advance.{RunDue, run-due, run-at-most}
-use Rattle.call_answers.specs.declared.Reply.{Reply}
+use Rattle.call_refusals.specs.Orders.{advance_rules}
 use Rattle.call_answers.specs.Answers.{Answered}
-use Rattle.call_answers.specs.Replies.{refused_with}
-use Rattle.call_answers.proofs.Answers.{refused-absent, accepted}
-use Rattle.call_answers.proofs.Judged.{Judged, account-is, account-fits, none-refused}
+use Rattle.call_answers.proofs.Answers.{past-6, accepted}
+use Rattle.call_answers.proofs.Named.{Named, named-some, index-is, account-is, account-fits}
 use Rattle.call_answers.proofs.Rooms.{entry-fits}
-use Rattle.call_advance.specs.Advances.{RunFits, run_booked, ticks_answered}
+use Rattle.call_advance.specs.Advances.{RunFits, run_booked}
 
 -- the account after a run that is due has its sums in range
 sums-within : (a : Account) (y r p e₁ e₂ : ℕ) → account_fits a ≡ true → run_open a y r ≡ true → order_fits p e₁ e₂ ≡ true
@@ -63,78 +59,54 @@ sums-within a y r p e₁ e₂ fits is_open order = by-year d.year-is
         (omega (arith, runs-later y a other), omega (arith, advances-later y a other))
 
 module _ (b : List ℕ) (n y r p e₁ e₂ : ℕ) where
-  abbrev call : Call
-  call = advance n y r p e₁ e₂
+  abbrev c : Call
+  c = advance n y r p e₁ e₂
 
-  -- beside a refusal there are no ticks
-  pub leaves : (reply : Reply) → (reply.refusal ≡ 0 → ⊥) → Answered b call 0 reply.refusal reply.«record».0 b
-      → Answered b call 0 reply.refusal reply.«record».0 b × (ticks 0 ≡ ticks_answered b n y r p e₁ e₂ reply.refusal)
-  unfolding ticks_answered
-  leaves reply some said = (said, rw (ne_eqb reply.refusal 0 some))
+  pub advance-order : refused_by (rules_of (look_at b (named_by c)) c)
+      ≡ refused_by ((6 unless present (look_at b (named_by c))) ∷ advance_rules (user_at b n) y r p e₁ e₂ (has_room b))
+  unfolding rules_of named_by look_at
+  advance-order = refl
 
-  module _ (a : Accepted b) (user : RecordIndex) (there : user ≡ record_index (find_user b n)) where
-    pub advance-absent : user.0 ≡ 0 → (reply : Reply) → reply ≡ refused_with 6 → Answered b call 0 reply.refusal reply.«record».0 b
-    unfolding rules_of named_by
-    advance-absent none = refused-absent b call 0 a _ refl user there none
-
-    pub advance-judged : (user.0 ≡ 0 → ⊥) → (account : Account) → account ≡ account_at b user.0 → (room : Bool) → room ≡ has_room b → (refusal : ℕ)
-        → ((number index : ℕ) → (index ≡ 0 → ⊥) → refusal ≡ refused_by (rules_of (look_of index account room) (advance number y r p e₁ e₂)))
-        → Judged b call user account refusal
-    unfolding named_by look_at
-    advance-judged some account read room left refusal objection =
-        record { sound = a; there = there; read = read; by-rule = objection n user.0 some ∙ rw (left, read, there) }
-
-  module _ {user : RecordIndex} {account : Account} {refusal : ℕ} (j : Judged b call user account refusal) (none : refusal ≡ 0) where
-    read-there : account ≡ account_at b (find_user b n)
+  module _ {user : User} (k : Named b n user) {account : Account} (read : account ≡ account_at user.book.bytes.now user.index.0)
+      {room : Bool} (left : room ≡ has_room b) where
+    pub advance-past-6 : refused_by (rules_of (look_at b (named_by c)) c) ≡ refused_by (advance_rules account y r p e₁ e₂ room)
     unfolding named_by
-    read-there = account-is b call j
-
-    is-user : is_user b (find_user b n) ≡ true
-    unfolding test_of rules_of look_at named_by
-    is-user = (named-user b n (fact b call (none-refused b call j none) 6)).user
+    advance-past-6 = past-6 b c _ advance-order (named-some b n user k) ∙ rw (account-is b n user k account read, left)
 
     fits : account_fits account ≡ true
-    unfolding named_by
-    fits = account-fits b call j is-user
+    fits = account-fits b n user k account read
 
-    is_open : run_open account y r ≡ true
-    unfolding test_of rules_of look_at named_by
-    is_open = rw read-there (fact b call (none-refused b call j none) 9)
+    module _ (none : refused_by (advance_rules account y r p e₁ e₂ room) ≡ 0) where
+      is_open : run_open account y r ≡ true
+      unfolding test_of without
+      is_open = passes 9 (advance_rules account y r p e₁ e₂ room) refl none
 
-    pub halves-fit : (y < 2 ^ 16) × (halves_fit account ≡ true)
-    halves-fit = (omega (arith, (run-due account y r is_open).last), (account-good account fits).halves)
+      pub halves-fit : (y < 2 ^ 16) × (halves_fit account ≡ true)
+      halves-fit = (omega (arith, (run-due account y r is_open).last), (account-good account fits).halves)
 
-    pub order-fits : order_fits p e₁ e₂ ≡ true
-    unfolding test_of rules_of look_at named_by
-    order-fits = fact b call (none-refused b call j none) 10
+      pub order-fits : order_fits p e₁ e₂ ≡ true
+      unfolding test_of without
+      order-fits = passes 10 (advance_rules account y r p e₁ e₂ room) refl none
 
-    room-left : has_room b ≡ true
-    unfolding test_of rules_of look_at named_by
-    room-left = fact b call (none-refused b call j none) 3
+      room-left : has_room b ≡ true
+      unfolding test_of without
+      room-left = sym left ∙ passes 3 (advance_rules account y r p e₁ e₂ room) refl none
 
-    module _ (paid : Ticks) (amount : paid ≡ ticks (run_amount account y r p e₁ e₂)) where
-      paid-is : paid.0 ≡ run_amount (account_at b (find_user b n)) y r p e₁ e₂
-      paid-is = rw (amount, read-there)
+      module _ {paid : Ticks} (amount : paid ≡ ticks (run_amount account y r p e₁ e₂)) where
+        pub run_fits : RunFits b user.index.0 account y r paid.0
+        run_fits =
+            let w = sums-within account y r p e₁ e₂ fits is_open order-fits in
+            record {
+              entry = entry-fits b n user k account read room-left;
+              year-below = halves-fit.0;
+              runs = w.0;
+              advances = rw amount w.1;
+            }
 
-      paid-ticks : paid ≡ ticks (run_amount (account_at b (find_user b n)) y r p e₁ e₂)
-      paid-ticks = ap ticks paid-is
+        pub paid-is : paid ≡ ticks (run_amount (user_at b n) y r p e₁ e₂)
+        paid-is = amount ∙ rw (account-is b n user k account read)
 
-      pub run_fits : RunFits b user.0 account y r paid.0
-      unfolding named_by
-      run_fits =
-          let w = sums-within account y r p e₁ e₂ fits is_open order-fits in
-          record {
-            entry = entry-fits b j.sound user.0 account j.read (rw j.there is-user) room-left;
-            year-below = halves-fit.0;
-            runs = w.0;
-            advances = rw amount w.1;
-          }
-
-      pub advance-booked : (after : List ℕ)
-          → after ≡ applied user.0 (run_booked account y r paid.0) b → Answered b call 0 0 0 after
-      unfolding booked change_of named_by run_booked
-      advance-booked after e = accepted b call 0 after (none-refused b call j none) (e ∙ rw (paid-ticks, read-there, j.there))
-
-      pub ticks-answered : paid ≡ ticks_answered b n y r p e₁ e₂ 0
-      unfolding ticks_answered
-      ticks-answered = ap ticks paid-is
+        pub advance-booked : {after : List ℕ} → after ≡ applied user.index.0 (run_booked account y r paid.0) b → Answered b c 0 0 0 after
+        unfolding booked change_of named_by run_booked
+        advance-booked e =
+            accepted b c k.sound 0 _ (advance-past-6 ∙ none) (e ∙ rw (paid-is, account-is b n user k account read, index-is b n user k))

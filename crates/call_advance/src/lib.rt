@@ -1,25 +1,21 @@
 // Advances (document 01, "Election and advances"): refusals 1 2 6 9 10 3, then the run's entry in front of the user's chain.
 #![tactic(auto)]
 
-ghost use Rattle.std.specs.Prelude.{◌≡◌, true, cond, ◌<◌, ◌^◌, eqb};
+ghost use Rattle.std.specs.Prelude.{◌≡◌, true, cond, ◌<◌, ◌^◌, eqb, IfOk};
+ghost use Rattle.refusals.specs.Refusals.{refusal_in, record_in};
 ghost use Rattle.units.specs.Units.{ticks};
 ghost use Rattle.book_rules.specs.Book.{halves_fit};
 ghost use Rattle.call_rules.specs.Changes.{applied, booked_in, run_amount};
-ghost use Rattle.call_rules.specs.Refusals.{order_fits};
+ghost use Rattle.call_rules.specs.Refusals.{order_fits, user_at};
 ghost use Rattle.call_rules.specs.Calls.{advance};
 ghost use Rattle.call_answers.specs.Answers.{Answered};
-ghost use Rattle.call_advance.specs.Advances.{RunFits, run_booked, ticks_answered};
+ghost use Rattle.call_advance.specs.Advances.{RunFits, run_booked};
 
 use account_steps::Account;
 use book_records::AdvanceRecord;
-use call_answers::Reply;
+use call_refusals::Order;
+use refusals::Refusal;
 use units::{Kwh, Rate, RecordIndex, Ticks, UserNumber, WideKwh};
-
-#[derive(Clone, Copy, Debug, PartialEq, Eq)]
-pub struct Advanced {
-    pub reply: Reply,
-    pub ticks: Ticks,
-}
 
 // "the last closed year's half, or .. that half's estimate if no year is closed"
 fn half_or_estimate(a: Account, half: Kwh, estimate: WideKwh) -> WideKwh
@@ -28,33 +24,27 @@ fn half_or_estimate(a: Account, half: Kwh, estimate: WideKwh) -> WideKwh
     if a.open_year == a.details.year {
         estimate
     } else {
-        WideKwh(half.0 as u64)
+        WideKwh(u64::from(half.0))
     }
 }
 
 // What a run of a year pays.
-fn run_amount(
-    a: Account,
-    year: u32,
-    run: u8,
-    price: Rate,
-    estimate1: WideKwh,
-    estimate2: WideKwh,
-) -> Ticks
+fn run_amount(a: Account, year: u32, run: u8, order: Order) -> Ticks
     requires year_bound { (year < 2 ^ 16) × (halves_fit a ≡ true) }
-    requires order { order_fits price.0 estimate1.0 estimate2.0 ≡ true }
-    ensures { result ≡ ticks (run_amount a year run price.0 estimate1.0 estimate2.0) }
+    requires order { order_fits order.price.0 order.estimate1.0 order.estimate2.0 ≡ true }
+    ensures { result ≡ ticks (run_amount a year run order.price.0 order.estimate1.0 order.estimate2.0) }
 {
-    let first = half_or_estimate(a, a.half1, estimate1);
-    let second = half_or_estimate(a, a.half2, estimate2);
-    call_refusals::halves_in(a, year as u16, run).amount(price, first, second)
+    let first = half_or_estimate(a, a.half1, order.estimate1);
+    let second = half_or_estimate(a, a.half2, order.estimate2);
+    call_refusals::halves_in(a, year as u16, run).amount(order.price, first, second)
 }
 
 // An entry of the later year notes the year that is open when it is booked.
+#[tactic(auto, unfolding(call_rules::specs::Changes::booked_in))]
 fn booked_in(a: Account, year: u32) -> u16
     ensures { result ≡ booked_in a year }
 {
-    if year == a.open_year as u32 {
+    if year == u32::from(a.open_year) {
         0
     } else {
         a.open_year
@@ -82,6 +72,7 @@ fn book_run(book: &mut [u8], user: RecordIndex, account: Account, year: u32, run
     call_writes::write_entry(book, user, after.withheld(withheld), entry);
 }
 
+/// Books an advance of a user, and answers what the run pays.
 pub fn advance(
     book: &mut [u8],
     number: UserNumber,
@@ -90,43 +81,24 @@ pub fn advance(
     price: Rate,
     estimate1: WideKwh,
     estimate2: WideKwh,
-) -> Advanced
+) -> Result<Ticks, Refusal>
     ensures reply { Answered book.old (advance number.0 year run price.0 estimate1.0 estimate2.0) 0
-        result.reply.refusal result.reply.record.0 book.new }
-    ensures ticks { result.ticks ≡ ticks_answered book.old number.0 year run price.0 estimate1.0 estimate2.0
-        result.reply.refusal }
+        (refusal_in result) (record_in (λ paid. 0) result) book.new }
+    ensures ticks { IfOk result
+        (λ paid. paid ≡ ticks (run_amount (user_at book.old number.0) year run price.0 estimate1.0 estimate2.0)) }
 {
-    let looked = call_answers::look(book, number);
-    let reply = looked.reply;
-    if reply.refusal != 0 {
-        return Advanced {
-            reply,
-            ticks: Ticks(0),
-        };
-    }
-    let user = looked.user;
-    if user.0 == 0 {
-        return Advanced {
-            reply: call_answers::refused(6),
-            ticks: Ticks(0),
-        };
-    }
-    let account = book_view::account_at(book, user);
-    let room = call_refusals::has_room(book);
-    let refusal = call_refusals::advance_objection(
-        account, year, run, price, estimate1, estimate2, room,
-    );
-    if refusal != 0 {
-        return Advanced {
-            reply: call_answers::refused(refusal),
-            ticks: Ticks(0),
-        };
-    }
-    let paid = run_amount(account, year, run, price, estimate1, estimate2);
-    book_run(book, user, account, year, run, paid);
-    let reply = Reply {
-        refusal: 0,
-        record: RecordIndex(0),
+    let (_book, user) = check_book::find(book, number)?;
+    let user = user.ok_or(Refusal::UnknownUser)?;
+    let account = user.account();
+    let order = Order {
+        price,
+        estimate1,
+        estimate2,
     };
-    Advanced { reply, ticks: paid }
+    let room = call_refusals::has_room(book);
+    call_refusals::may_advance(account, year, run, order, room)?;
+    let paid = run_amount(account, year, run, order);
+    let index = user.index;
+    book_run(book, index, account, year, run, paid);
+    Ok(paid)
 }

@@ -1,4 +1,3 @@
 pub mod Answers
-pub mod Judged
-pub mod Looks
+pub mod Named
 pub mod Rooms

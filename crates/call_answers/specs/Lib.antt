@@ -1,4 +1,2 @@
 pub mod Answers
-pub mod InnerLooks
-pub mod Replies
 pub mod InnerRooms

@@ -12,9 +12,6 @@ use Rattle.sheet_values.specs.YearsValues.{year_values}
 use Rattle.call_rules.specs.Refusals.{user_at}
 use Rattle.call_answers.specs.InnerRooms.{EntryFits}
 use Rattle.account_steps.specs.declared.ClosingSums.{ClosingSums}
-use Rattle.call_answers.specs.declared.Reply.{Reply}
-use Rattle.refusals.specs.declared.Position.{Position}
-use Rattle.call_close.specs.declared.Closed.{Closed}
 
 unfoldable pub no_sums : ClosingSums
 no_sums =
@@ -27,10 +24,6 @@ no_sums =
       lapsed = ticks 0;
       balance = balance (pos 0);
     }
-
--- an answer beside a refusal
-abbrev pub refused_closing : Reply → Position → Closed
-refused_closing reply position = record { reply = reply; position = position; sums = no_sums }
 
 unfoldable pub sums_answered : List ℕ → List ℕ → ℕ → ClosingSums
 sums_answered b s refusal =

@@ -1,43 +1,24 @@
 // Closing a year (document 01, "Closing"): refusals 1 2 11 6 12 13 19 14 3, then the year's entry in front of the user's chain.
 #![tactic(auto)]
 
-ghost use Rattle.std.specs.Prelude.{◌≡◌};
+ghost use Rattle.std.specs.Prelude.{◌≡◌, IfOk};
+ghost use Rattle.refusals.specs.Refusals.{refusal_in, position_in, record_in};
 ghost use Rattle.account_steps.specs.Account.{closed_of, settled};
 ghost use Rattle.account_steps.specs.declared.Account.{Account};
-ghost use Rattle.sheet.specs.YearSheet.{Tells};
+ghost use Rattle.sheet.specs.YearSheet.{sheet_user, Tells};
+ghost use Rattle.sheet_values.specs.YearsValues.{year_values};
+ghost use Rattle.call_rules.specs.Refusals.{user_at};
 ghost use Rattle.call_rules.specs.Calls.{close};
 ghost use Rattle.call_answers.specs.Answers.{Answered};
-ghost use Rattle.call_close.specs.Closings.{YearFits, no_sums, refused_closing, sums_answered};
+ghost use Rattle.call_close.specs.Closings.{YearFits};
 ghost use Rattle.call_close.specs.InnerBooked.{YearEntered};
 
-use account_steps::{Account, Balance, ClosingSums, Settlement};
+use account_steps::{Account, ClosingSums, Settlement};
 use book_records::ClosingRecord;
-use call_answers::Reply;
-use refusals::{NOWHERE, Position};
+use refusals::Refusal;
+use sheet::FormedSheet;
 use sheet_values::YearValues;
-use units::{RecordIndex, Ticks};
-
-// The reply, after a refusal 13 or 19 where the number at fault stands, and the entry's sums.
-#[derive(Clone, Copy, Debug, PartialEq, Eq)]
-pub struct Closed {
-    pub reply: Reply,
-    pub position: Position,
-    pub sums: ClosingSums,
-}
-
-fn no_sums() -> ClosingSums
-    ensures { result ≡ no_sums }
-{
-    ClosingSums {
-        value: Ticks(0),
-        cost: Ticks(0),
-        flat_rate: Ticks(0),
-        contribution: Ticks(0),
-        liquidation: Ticks(0),
-        lapsed: Ticks(0),
-        balance: Balance(0),
-    }
-}
+use units::RecordIndex;
 
 // The sums of a settled year.
 fn settled_sums(values: YearValues, settlement: Settlement) -> ClosingSums
@@ -89,50 +70,22 @@ fn book_year(
     sums
 }
 
-// An answer beside a refusal: no sums.
-fn without_sums(reply: Reply, position: Position) -> Closed
-    ensures { result ≡ refused_closing reply position }
-{
-    Closed {
-        reply,
-        position,
-        sums: no_sums(),
-    }
-}
-
-pub fn close(book: &mut [u8], s: &[u8]) -> Closed
-    ensures reply { Answered book.old (close s.now) 0 result.reply.refusal result.reply.record.0
+/// Closes a user's open year by its sheet, and answers the entry's sums.
+pub fn close(book: &mut [u8], sheet: &[u8]) -> Result<ClosingSums, Refusal>
+    ensures reply { Answered book.old (close sheet.now) 0 (refusal_in result) (record_in (λ sums. 0) result)
         book.new }
-    ensures position { Tells s.now result.reply.refusal result.position }
-    ensures sums { result.sums ≡ sums_answered book.old s.now result.reply.refusal }
+    ensures position { Tells sheet.now (refusal_in result) (position_in result) }
+    ensures sums { IfOk result
+        (λ sums. sums ≡ settled (user_at book.old (sheet_user sheet.now))
+        (year_values sheet.now (user_at book.old (sheet_user sheet.now)).details)) }
 {
-    let looked = call_answers::look(book, sheet::user(s));
-    let reply = looked.reply;
-    if reply.refusal != 0 {
-        return without_sums(reply, NOWHERE);
-    }
-    if sheet::header_wrong(s) {
-        return without_sums(call_answers::refused(11), NOWHERE);
-    }
-    let user = looked.user;
-    if user.0 == 0 {
-        return without_sums(call_answers::refused(6), NOWHERE);
-    }
-    let account = book_view::account_at(book, user);
+    let (_book, user) = check_book::find(book, sheet::user(sheet))?;
+    let formed = FormedSheet::new(sheet)?;
+    let user = user.ok_or(Refusal::UnknownUser)?;
+    let account = user.account();
     let room = call_refusals::has_room(book);
-    let objection = call_refusals::close_objection(sheet::whole(s), account, room);
-    if objection.refusal != 0 {
-        return without_sums(call_answers::refused(objection.refusal), objection.position);
-    }
-    let values = sheet_values::year_values(s, account.details);
-    let sums = book_year(book, user, account, values);
-    let reply = Reply {
-        refusal: 0,
-        record: RecordIndex(0),
-    };
-    Closed {
-        reply,
-        position: NOWHERE,
-        sums,
-    }
+    let passed = call_refusals::may_close(formed, account, room)?;
+    let values = YearValues::of(passed, account.details);
+    let index = user.index;
+    Ok(book_year(book, index, account, values))
 }

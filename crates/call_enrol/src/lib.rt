@@ -2,17 +2,19 @@
 #![tactic(auto)]
 
 ghost use Rattle.std.specs.Prelude.{◌≡◌};
+ghost use Rattle.refusals.specs.Refusals.{refusal_in, record_in};
 ghost use Rattle.book_rules.specs.Book.{used};
 ghost use Rattle.call_rules.specs.Changes.{new_account};
 ghost use Rattle.call_rules.specs.Calls.{enrol};
 ghost use Rattle.call_answers.specs.Answers.{Answered};
 
 use account_steps::{Account, Charge};
-use call_answers::Reply;
+use refusals::Refusal;
 use sheet_values::Details;
 use units::{Kwh, RecordIndex, Ticks, UserNumber};
 
 // "the open year is the activation year, .. the rest zero."
+#[tactic(auto, unfolding(call_rules::specs::Changes::new_account))]
 fn new_account(number: UserNumber, details: Details, option: u8) -> Account
     ensures { result ≡ new_account number.0 details option }
 {
@@ -35,22 +37,21 @@ fn new_account(number: UserNumber, details: Details, option: u8) -> Account
     }
 }
 
-// The answer names the new record.
-pub fn enrol(book: &mut [u8], number: UserNumber, details: Details, option: u8) -> Reply
-    ensures { Answered book.old (enrol number.0 details option) (used book.old) result.refusal result.record.0
-        book.new }
+/// Enters a new user, and answers its record.
+pub fn enrol(
+    book: &mut [u8],
+    number: UserNumber,
+    details: Details,
+    option: u8,
+) -> Result<RecordIndex, Refusal>
+    ensures { Answered book.old (enrol number.0 details option) (used book.old) (refusal_in result)
+        (record_in (λ new. new.0) result) book.new }
 {
-    let looked = call_answers::look(book, number);
-    let reply = looked.reply;
-    if reply.refusal != 0 {
-        return reply;
-    }
+    let (_book, user) = check_book::find(book, number)?;
+    let taken = user.is_some();
     let room = call_refusals::has_room(book);
-    let refusal = call_refusals::enrol_objection(number, looked.user, details, option, room);
-    if refusal != 0 {
-        return call_answers::refused(refusal);
-    }
-    let record = RecordIndex(book_view::used(book));
+    call_refusals::may_enrol(number, taken, details, option, room)?;
+    let new = RecordIndex(book_view::used(book));
     call_writes::write_user(book, new_account(number, details, option));
-    Reply { refusal: 0, record }
+    Ok(new)
 }

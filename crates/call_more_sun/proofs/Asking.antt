@@ -1,117 +1,64 @@
--- The answer by the look at the book, the sheet's header, the user found, the rules of the sheet's numbers, then the least addition.
-use Rattle.std.specs.Prelude.{Option}
-use Prim.Native.Nat.{ℕ, ◌-◌}
+-- How much more sun, asked on a sound book: what its rules come to, sheet's form, user, sheet's numbers, field, and the answer.
+use Prim.Native.Nat.{ℕ}
 use mathlib.Core.Path.{◌≡◌, refl, sym, ◌∙◌}
-use mathlib.Core.Bool.{true, false}
+use mathlib.Core.Bool.{Bool, true, false}
 use mathlib.Core.List.{List}
-use native.Mathlib.Omega.{arith}
-use borrow.Author.Tests.{eq-eqb, ne_eqb, not-true}
-use Rattle.units.specs.declared.RecordIndex.{RecordIndex}
-use Rattle.units.specs.Units.{record_index}
-use Rattle.refusals.specs.declared.Position.{Position}
-use Rattle.sheet.specs.YearSheet.{sheet_user, refused11, refused13, refused19, Tells, SheetPassed}
-use Rattle.refusals.specs.Refusals.{nowhere}
-use Rattle.sheet.proofs.Faults.{untold-before}
-use Rattle.account_steps.specs.declared.Account.{Account}
-use Rattle.book_rules.specs.Book.{account_at}
+use borrow.Author.Tests.{eq-eqb, ne_eqb}
+use Rattle.refusals.specs.declared.Refusal.{Refusal}
+use Rattle.refusals.specs.Refusals.{number_of, record_of}
+use Rattle.sheet.specs.YearSheet.{sheet_user, refused11, refused13, refused19, Past13}
+use Rattle.sheet.specs.Objections.{Faulted}
 use Rattle.book_rules.specs.Find.{find_user}
-use Rattle.check_book.specs.Verdicts.{Accepted}
-use Rattle.call_rules.specs.Rules.{refused_by, test_of}
+use Rattle.check_book.specs.Verdicts.{Accepted, BookRefused}
+use Rattle.call_rules.specs.Rules.{Rule, refused_by}
 use Rattle.call_rules.specs.Refusals.{look_at}
 use Rattle.call_rules.specs.Calls.{record_named}
-use Rattle.call_rules.proofs.Rules.{passes}
-use Rattle.call_answers.specs.declared.Reply.{Reply}
+use Rattle.call_refusals.proofs.Refused.{refuses}
 use Rattle.call_answers.specs.Answers.{AnsweredBy}
-use Rattle.call_answers.specs.InnerLooks.{LookedAt}
-use Rattle.call_answers.specs.Replies.{refused_with}
-use Rattle.call_answers.proofs.Answers.{refused-after, past-look, refuses}
-use Rattle.units.specs.declared.Kwh.{Kwh}
-use Rattle.sheet_more_sun.specs.MoreSun.{more_sun}
-use Rattle.call_more_sun.specs.declared.MoreSun.{MoreSun}
-use Rattle.call_more_sun.specs.InnerAnswers.{refused_sun}
-use Rattle.call_more_sun.specs.Asked.{has_field, field_rules, more_sun_rules, more_sun_order, addition_answered}
-use Rattle.call_more_sun.proofs.Orders.{without-0, without-2}
-
--- what is known once the rules of the sheet's numbers were asked, of the user that was found
-pub record Judged (b s : List ℕ) (month band : ℕ) (user : RecordIndex) (refusal : ℕ) : Type 0 where
-  pub sound : Accepted b
-  pub right : refused11 s ≡ false
-  pub there : user ≡ record_index (find_user b (sheet_user s))
-  pub by_field : refusal ≡ refused_by (field_rules s month band)
-  pub past-user : refused_by (more_sun_rules (look_at b (sheet_user s)) s month band) ≡ refused_by (field_rules s month band)
+use Rattle.call_answers.proofs.Answers.{damaged-by, objected-by, past-look}
+use Rattle.call_more_sun.specs.Asked.{has_field, field_rules, more_sun_rules, more_sun_order}
+use Rattle.call_more_sun.proofs.Orders.{without-2}
 
 module _ (b s : List ℕ) (month band : ℕ) where
-  abbrev pub Said : MoreSun → Type 0
-  Said r =
-      AnsweredBy b (more_sun_order b s month band) 0 r.reply.refusal r.reply.«record».0
-      × (Tells s r.reply.refusal r.position × (r.addition ≡ addition_answered b s month band r.reply.refusal))
+  abbrev asked : List Rule
+  asked = more_sun_rules (look_at b (sheet_user s)) s month band
 
-  -- beside a refusal there is no addition
-  leaves : (reply : Reply) (p : Position) → (reply.refusal ≡ 0 → ⊥) → AnsweredBy b (more_sun_order b s month band) 0 reply.refusal reply.«record».0
-      → Tells s reply.refusal p → (r : MoreSun) → r ≡ refused_sun reply p → Said r
-  unfolding addition_answered
-  leaves reply p some said told r e = rw e (said, (told, rw (ne_eqb reply.refusal 0 some) refl))
-
-  pub leaves-damaged : {n : ℕ} (reply : Reply) {user : RecordIndex} → LookedAt b n reply.refusal reply.«record».0 user → (reply.refusal ≡ 0 → ⊥)
-      → (r : MoreSun) → r ≡ refused_sun reply nowhere → Said r
+  pub damaged : (e : Refusal) → BookRefused b e → AnsweredBy b (more_sun_order b s month band) 0 (number_of e) (record_of e)
   unfolding more_sun_order
-  leaves-damaged reply looked some =
-      leaves reply nowhere some (looked.damaged some (more_sun_rules (look_at b (sheet_user s)) s month band) 0) (untold-before s _ (omega (arith, looked.to-2)))
+  damaged e w = damaged-by b asked 0 e w
 
-  module _ (a : Accepted b) where
-    -- by a rule after 1 and 2
-    leaves_by : (n : ℕ) (p : Position) → n ≡ refused_by (more_sun_rules (look_at b (sheet_user s)) s month band) → (n ≡ 0 → ⊥) → Tells s n p
-        → (reply : Reply) → reply ≡ refused_with n → (r : MoreSun) → r ≡ refused_sun reply p → Said r
-    unfolding more_sun_order
-    leaves_by n p e some told reply is =
-        leaves reply p (refuses n reply is some)
-        (rw is (refused-after b (more_sun_rules (look_at b (sheet_user s)) s month band) a (without-2 (look_at b (sheet_user s)) s month band) 0 n e some)) (rw is told)
+  pub objected : Accepted b → (e : Refusal) → refused_by asked ≡ number_of e → AnsweredBy b (more_sun_order b s month band) 0 (number_of e) (record_of e)
+  unfolding more_sun_order
+  objected a e is = objected-by b asked a (without-2 (look_at b (sheet_user s)) s month band) 0 e is
 
-    pub leaves-unread : refused11 s ≡ true → (reply : Reply) → reply ≡ refused_with 11 → (r : MoreSun) → r ≡ refused_sun reply nowhere → Said r
-    unfolding refused_by
-    leaves-unread wrong = leaves_by 11 nowhere (rw wrong refl) (omega arith) (untold-before s 11 (omega arith))
+  pub unformed : refused11 s ≡ true → refused_by asked ≡ 11
+  unfolding refused_by
+  unformed wrong = rw wrong refl
 
-    module _ (right : refused11 s ≡ false) (user : RecordIndex) (there : user ≡ record_index (find_user b (sheet_user s))) where
-      index_is : user.0 ≡ find_user b (sheet_user s)
-      index_is = rw there
+  module _ (right : refused11 s ≡ false) where
+    pub absent : find_user b (sheet_user s) ≡ 0 → refused_by asked ≡ 6
+    unfolding refused_by look_at
+    absent none = rw (right, eq-eqb (find_user b (sheet_user s)) 0 none) refl
 
-      pub leaves-absent : user.0 ≡ 0 → (reply : Reply) → reply ≡ refused_with 6 → (r : MoreSun) → r ≡ refused_sun reply nowhere → Said r
+    module _ (some : find_user b (sheet_user s) ≡ 0 → ⊥) where
+      past-6 : refused_by asked ≡ refused_by (field_rules s month band)
       unfolding refused_by look_at
-      leaves-absent none = leaves_by 6 nowhere (rw (right, eq-eqb (find_user b (sheet_user s)) 0 (sym index_is ∙ none)) refl) (omega arith) (untold-before s 6 (omega arith))
+      past-6 = rw (right, ne_eqb (find_user b (sheet_user s)) 0 some) refl
 
-      -- the rules of the sheet's numbers were asked
-      pub judged : (user.0 ≡ 0 → ⊥) → (refusal : ℕ) → refusal ≡ refused_by (field_rules s month band) → Judged b s month band user refusal
-      unfolding refused_by look_at
-      judged some refusal by_field =
-          record {
-            sound = a;
-            right = right;
-            there = there;
-            by_field = by_field;
-            past-user = rw (right, ne_eqb (find_user b (sheet_user s)) 0 (λ z. some (index_is ∙ z))) refl;
-          }
+      pub by-fault : (e : Refusal) → Faulted s e → refused_by asked ≡ number_of e
+      unfolding refused_by
+      by-fault e f = past-6 ∙ by_tests (refused13 s) refl (refused19 s) refl
+        where
+          by_tests : (x : Bool) → refused13 s ≡ x → (y : Bool) → refused19 s ≡ y → refused_by (field_rules s month band) ≡ number_of e
+          by_tests true h y k = rw h (sym (f.number_is ∙ rw h refl))
+          by_tests false h true k = rw (h, k) (sym (f.number_is ∙ rw (h, k) refl))
+          by_tests false h false k = let none : number_of e ≡ 0 = f.number_is ∙ rw (h, k) refl in absurd (refuses e none)
 
-module _ (b s : List ℕ) (month band : ℕ) {user : RecordIndex} {refusal : ℕ} (j : Judged b s month band user refusal) where
-  pub leaves_field : (refusal ≡ 0 → ⊥) → (p : Position) → Tells s refusal p → (reply : Reply) → reply ≡ refused_with refusal
-      → (r : MoreSun) → r ≡ refused_sun reply p → Said b s month band r
-  leaves_field other p told = leaves_by b s month band j.sound refusal p (j.by_field ∙ sym j.past-user) other told
+      module _ (past : Past13 s) where
+        pub no-field : has_field s month band ≡ false → refused_by asked ≡ 23
+        unfolding refused_by
+        no-field h = past-6 ∙ rw (past.0, past.1, h) refl
 
-  module _ (none : refusal ≡ 0) where
-    met : (n : ℕ) → test_of n (field_rules s month band) ≡ true
-    met n = passes n (field_rules s month band) (without-0 s month band) (sym j.by_field ∙ none)
-
-    pub field-met : has_field s month band ≡ true
-    unfolding test_of
-    field-met = met 23
-
-    pub passed : SheetPassed s
-    unfolding test_of
-    passed = record { past11 = j.right; past13 = (not-true (refused13 s) (met 13), not-true (refused19 s) (met 19)) }
-
-    pub answers : (account : Account) → account ≡ account_at b user.0 → (added : Option Kwh) → added ≡ more_sun s account.details (month - 1) (band - 1)
-        → Said b s month band (record { reply = refused_with 0; position = nowhere; addition = added })
-    unfolding addition_answered more_sun_order record_named
-    answers account read added is = (
-      record { refusal_is = sym (past-look b (more_sun_rules (look_at b (sheet_user s)) s month band) j.sound ∙ j.past-user ∙ sym j.by_field ∙ none); record_is = refl },
-      (untold-before s 0 (omega arith), is ∙ rw (read, j.there)),
-    )
+        pub answered : Accepted b → has_field s month band ≡ true → AnsweredBy b (more_sun_order b s month band) 0 0 0
+        unfolding more_sun_order record_named refused_by
+        answered a h = record { refusal_is = sym (past-look b asked a ∙ past-6 ∙ rw (past.0, past.1, h) refl); record_is = refl }

@@ -1,20 +1,15 @@
--- A month and a band that the reading has, and the rules of the sheet's own numbers.
+-- A month and a band that the reading has.
 use Prim.Native.Nat.{ℕ, ◌-◌, ◌≤◌}
-use mathlib.Core.Path.{◌≡◌, refl, ◌∙◌}
-use mathlib.Core.Bool.{Bool, true, false, cond, ◌&&◌, ◌||◌}
+use mathlib.Core.Path.{◌≡◌}
+use mathlib.Core.Bool.{true, false, ◌&&◌, ◌||◌}
 use mathlib.Core.List.{List}
 use native.Mathlib.Omega.{arith}
 use borrow.Author.Tests.{leb-true, eqb-true}
 use lib.Dec.{leb, eqb}
 use Rattle.units.proofs.Bools.{and_left, and_right}
-use Rattle.sheet.specs.declared.Objection.{Objection}
-use Rattle.sheet.specs.YearSheet.{injected_reading, by_bands, refused13, refused19}
-use Rattle.sheet.specs.Objections.{objection_of, FaultTold}
-use Rattle.sheet.proofs.Faults.{told-past, untold}
-use Rattle.call_rules.specs.Rules.{refused_by}
+use Rattle.sheet.specs.YearSheet.{injected_reading, by_bands}
 use Rattle.sheet_more_sun.specs.MoreSun.{FieldStands}
-use Rattle.call_more_sun.specs.Asked.{has_field, field_rules}
-use Rattle.call_more_sun.specs.InnerObjections.{FieldObjected}
+use Rattle.call_more_sun.specs.Asked.{has_field}
 
 module _ (s : List ℕ) (month band : ℕ) where
   pub record Has : Type 0 where
@@ -47,18 +42,3 @@ module _ (s : List ℕ) (month band : ℕ) where
         band-to-3 = omega (arith, f.band-from, f.band-to);
         single = λ e. omega (arith, f.single e);
       }
-
-  module _ (o : Objection) (f : FaultTold s o) where
-    -- a number at fault, or a field that the reading has
-    pub by-fault : (o.refusal ≡ 0 → has_field s month band ≡ true) → FieldObjected s month band o
-    unfolding refused_by
-    by-fault stands = record { refused = f.refusal_is ∙ by_tests (refused13 s) refl (refused19 s) refl; told = f.tells }
-      where
-        by_tests : (x : Bool) → refused13 s ≡ x → (y : Bool) → refused19 s ≡ y → cond x 13 (cond y 19 0) ≡ refused_by (field_rules s month band)
-        by_tests true e y d = rw e refl
-        by_tests false e true d = rw (e, d) refl
-        by_tests false e false d = rw (e, d, stands (f.refusal_is ∙ rw (e, d) refl)) refl
-
-    pub by_field : o.refusal ≡ 0 → has_field s month band ≡ false → (r : Objection) → r ≡ objection_of 23 → FieldObjected s month band r
-    unfolding refused_by
-    by_field none e r is = let past = told-past s o f none in rw is (record { refused = rw (past.0, past.1, e) refl; told = untold s 23 refl })

@@ -1,3 +1,1 @@
 pub mod Asked
-pub mod InnerAnswers
-pub mod InnerObjections

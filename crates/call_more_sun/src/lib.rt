@@ -2,96 +2,47 @@
 // to the injected field of a month and a band. The book is only read.
 #![tactic(auto)]
 
-ghost use Rattle.std.specs.Prelude.{◌≡◌, length};
-ghost use Rattle.sheet.specs.YearSheet.{sheet_length, Tells};
+ghost use Rattle.std.specs.Prelude.{◌≡◌, ◌-◌, IfOk};
+ghost use Rattle.refusals.specs.Refusals.{refusal_in, position_in, record_in};
+ghost use Rattle.sheet.specs.YearSheet.{sheet_user, Tells};
+ghost use Rattle.sheet_more_sun.specs.MoreSun.{more_sun};
+ghost use Rattle.call_rules.specs.Refusals.{user_at};
 ghost use Rattle.call_answers.specs.Answers.{AnsweredBy};
-ghost use Rattle.call_more_sun.specs.Asked.{has_field, more_sun_order, addition_answered};
-ghost use Rattle.call_more_sun.specs.InnerAnswers.{refused_sun};
-ghost use Rattle.call_more_sun.specs.InnerObjections.{FieldObjected};
+ghost use Rattle.call_more_sun.specs.Asked.{has_field, more_sun_order};
 
-use call_answers::Reply;
-use refusals::{NOWHERE, Position};
-use sheet::Objection;
-use units::{Kwh, RecordIndex};
-
-// The reply, after a refusal 13 or 19 where the number at fault stands, and the least addition.
-#[derive(Clone, Copy, Debug, PartialEq, Eq)]
-pub struct MoreSun {
-    pub reply: Reply,
-    pub position: Position,
-    pub addition: Option<Kwh>,
-}
+use refusals::Refusal;
+use sheet::{FormedSheet, PassedSheet};
+use units::Kwh;
 
 // 23: a month or a band that the reading does not have.
-fn has_field(s: &[u8], month: u32, band: u32) -> bool
-    ensures { result ≡ has_field s.now month band }
+fn has_field(sheet: PassedSheet<'_>, month: u32, band: u32) -> bool
+    ensures { result ≡ has_field sheet.bytes.now month band }
 {
-    let bands = sheet::injected_reading(s) == 1;
+    let bands = sheet::injected_reading(sheet.bytes) == 1;
     ((1 <= month) & (month <= 12)) & (((1 <= band) & (band <= 3)) & (bands | (band == 1)))
 }
 
-// 13 19 23, of a sheet whose header is right.
-fn field_objection(s: &[u8], month: u32, band: u32) -> Objection
-    requires { length s.now ≡ sheet_length }
-    ensures { FieldObjected s.now month band result }
+/// The least addition, in kWh, to the injected field of a month, 1–12, and a band, 1–3, that brings C to O or above; `None` where none
+/// within the limit does.
+pub fn more_sun(book: &[u8], sheet: &[u8], month: u32, band: u32) -> Result<Option<Kwh>, Refusal>
+    ensures reply { AnsweredBy book.now (more_sun_order book.now sheet.now month band) 0 (refusal_in result)
+        (record_in (λ addition. 0) result) }
+    ensures position { Tells sheet.now (refusal_in result) (position_in result) }
+    ensures addition { IfOk result (λ addition.
+        addition ≡ more_sun sheet.now (user_at book.now (sheet_user sheet.now)).details (month - 1) (band - 1)) }
 {
-    let fault = call_refusals::sheet_fault(s);
-    if has_field(s, month, band) {
-        return fault;
+    let (_book, user) = check_book::find(book, sheet::user(sheet))?;
+    let formed = FormedSheet::new(sheet)?;
+    let user = user.ok_or(Refusal::UnknownUser)?;
+    let passed = formed.passed()?;
+    if !has_field(passed, month, band) {
+        return Err(Refusal::NoSuchField);
     }
-    if fault.refusal != 0 {
-        return fault;
-    }
-    sheet::unplaced(23)
-}
-
-// An answer beside a refusal: no addition.
-fn nothing_added(reply: Reply, position: Position) -> MoreSun
-    ensures { result ≡ refused_sun reply position }
-{
-    MoreSun {
-        reply,
-        position,
-        addition: None,
-    }
-}
-
-pub fn more_sun(book: &[u8], s: &[u8], month: u32, band: u32) -> MoreSun
-    ensures reply { AnsweredBy book.now (more_sun_order book.now s.now month band) 0
-        result.reply.refusal result.reply.record.0 }
-    ensures position { Tells s.now result.reply.refusal result.position }
-    ensures addition { result.addition ≡ addition_answered book.now s.now month band result.reply.refusal }
-{
-    let looked = call_answers::look(book, sheet::user(s));
-    let reply = looked.reply;
-    if reply.refusal != 0 {
-        return nothing_added(reply, NOWHERE);
-    }
-    if sheet::header_wrong(s) {
-        return nothing_added(call_answers::refused(11), NOWHERE);
-    }
-    let user = looked.user;
-    if user.0 == 0 {
-        return nothing_added(call_answers::refused(6), NOWHERE);
-    }
-    let objection = field_objection(s, month, band);
-    if objection.refusal != 0 {
-        return nothing_added(call_answers::refused(objection.refusal), objection.position);
-    }
-    let account = book_view::account_at(book, user);
-    let addition = sheet_more_sun::more_sun(
-        s,
+    let account = user.account();
+    Ok(sheet_more_sun::least_addition(
+        passed,
         account.details,
         month as usize - 1,
         band as usize - 1,
-    );
-    let reply = Reply {
-        refusal: 0,
-        record: RecordIndex(0),
-    };
-    MoreSun {
-        reply,
-        position: NOWHERE,
-        addition,
-    }
+    ))
 }

@@ -1,1 +1,3 @@
+pub mod Refused
 mod RunsOpen
+mod Closings

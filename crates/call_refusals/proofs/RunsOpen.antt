@@ -1,11 +1,10 @@
 -- Refusal 9, by its first tests: where they fail it is decided, where they hold the run is looked up in its year.
 use Prim.Native.Nat.{ℕ, ◌<◌}
 use mathlib.Core.Path.{◌≡◌}
-use mathlib.Core.Bool.{Bool, true, false, not, ◌&&◌, ◌||◌}
-use native.Mathlib.Decide.{dec_lt}
+use mathlib.Core.Bool.{Bool, true, false, not, ◌&&◌}
 use native.Mathlib.Omega.{arith}
 use borrow.Author.Tests.{leb-true}
-use lib.Dec.{eqb, leb}
+use lib.Dec.{leb}
 use Rattle.units.specs.Limits.{last_activation}
 use Rattle.units.proofs.Bools.{and_left, and_right}
 use Rattle.calendar.specs.ElectionAndAdvances.{halves_paid, due}
@@ -31,15 +30,3 @@ module _ (a : Account) (year run : ℕ) where
   year-below h =
       let last = leb-true year last_activation (and_right (is_open a year) (leb year last_activation) (and_left (is_open a year && leb year last_activation) (is_run run) h)) in
       omega arith
-
-  -- a run is a bit, so not 0
-  pub run-some : named ≡ true → 0 < run
-  unfolding is_run
-  run-some h = by_place (dec_lt 0 run) (and_right (is_open a year && leb year last_activation) (is_run run) h)
-    where
-      by_place : Dec (0 < run) → ((eqb run 1 || eqb run 2) || eqb run 4) ≡ true → 0 < run
-      by_place (yes p) q = p
-      by_place (no n) q =
-          let none : run ≡ 0 = omega (arith, n) in
-          let z : false ≡ true = rw none at q in
-          absurd (mathlib.Core.Bool.false≢true z)

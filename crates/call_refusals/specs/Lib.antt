@@ -1,1 +1,1 @@
-pub mod InnerObjections
+pub mod Orders

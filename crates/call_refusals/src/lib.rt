@@ -1,27 +1,26 @@
-// The refusals of each call once the book is sound (document 01, "Who brings which number").
+// The refusals of each call by its own rules, once the book is sound and the user is there (document 01, "Who brings which number").
 #![tactic(auto)]
 
-ghost use Rattle.std.specs.Prelude.{◌≡◌, ℕ, ◌<◌, ◌^◌, Bool, cond, false, not, ◌&&◌, length, leb};
-ghost use Rattle.account_steps.specs.declared.Account.{Account as AccountOf};
-ghost use Rattle.sheet.specs.YearSheet.{sheet_length};
-ghost use Rattle.sheet.specs.Objections.{FaultTold};
+ghost use Rattle.std.specs.Prelude.{◌≡◌, ◌<◌, ◌^◌, not, ◌&&◌, MatchResult, leb};
+ghost use Rattle.refusals.specs.Refusals.{number_of, position_of};
+ghost use Rattle.sheet.specs.YearSheet.{Tells};
 ghost use Rattle.call_rules.specs.Rules.{refused_by};
-ghost use Rattle.call_rules.specs.Refusals.{look_of, has_room, day_and_option, election_open, is_open, run_open, order_fits, year_open};
+ghost use Rattle.call_rules.specs.Refusals.{has_room, day_and_option, election_open, is_open, run_open, order_fits, year_open};
 ghost use Rattle.call_rules.specs.Refusals.{charge_open};
 ghost use Rattle.calendar.specs.ElectionAndAdvances.{halves_paid, due};
 ghost use Rattle.account_steps.specs.Account.{runs_in};
 ghost use Rattle.book_rules.specs.Book.{is_made, is_run};
 ghost use Rattle.units.specs.Limits.{last_activation};
-ghost use Rattle.call_rules.specs.Calls.{enrol, elect, advance, charge, rules_of};
-ghost use Rattle.call_refusals.specs.InnerObjections.{SheetObjected};
+ghost use Rattle.call_refusals.specs.Orders.{enrol_rules, elect_rules, charge_rules, advance_rules, close_rules, Follows};
 
 use account_steps::Account;
 use calendar::{Day, Halves};
-use sheet::Objection;
+use refusals::Refusal;
+use sheet::{FormedSheet, PassedSheet};
 use sheet_values::Details;
 use units::{
-    LAST_ACTIVATION, LAST_OPEN_YEAR, MAX_HALF_KWH, MAX_PRICE, RECORD_LENGTH, Rate, RecordIndex,
-    UserNumber, WideKwh,
+    LAST_ACTIVATION, LAST_OPEN_YEAR, MAX_HALF_KWH, MAX_PRICE, RECORD_LENGTH, Rate, UserNumber,
+    WideKwh,
 };
 
 // The last year that a run or a closing may name: "9 .. above 2099", "12 .. above 2099".
@@ -29,24 +28,39 @@ const LAST_YEAR: u32 = LAST_ACTIVATION as u32;
 
 const MAX_ESTIMATE: u64 = MAX_HALF_KWH as u64;
 
-fn refuse(fits: bool, number: u32, later: u32) -> u32
-    ensures { result ≡ cond fits later number }
-{
-    if fits { later } else { number }
+/// What an advance pays by: the rate, and an estimate for each half of the year.
+#[derive(Clone, Copy, Debug, PartialEq, Eq)]
+pub struct Order {
+    pub price: Rate,
+    pub estimate1: WideKwh,
+    pub estimate2: WideKwh,
 }
 
+impl Order {
+    #[tactic(auto, unfolding(call_rules::specs::Refusals::order_fits))]
+    fn fits(self) -> bool
+        ensures { result ≡ order_fits self.price.0 self.estimate1.0 self.estimate2.0 }
+    {
+        (self.price.0 <= MAX_PRICE)
+            & ((self.estimate1.0 <= MAX_ESTIMATE) & (self.estimate2.0 <= MAX_ESTIMATE))
+    }
+}
+
+#[tactic(auto, unfolding(call_rules::specs::Refusals::has_room))]
 pub fn has_room(book: &[u8]) -> bool
     ensures { result ≡ has_room book.now }
 {
     !(book_view::used(book) as usize == book.len() / RECORD_LENGTH)
 }
 
+#[tactic(auto, unfolding(call_rules::specs::Refusals::day_and_option))]
 fn day_and_option(option: u8, day: Day) -> bool
     ensures { result ≡ day_and_option option day.year day.month day.day }
 {
     day.is_gregorian() & (option <= 1)
 }
 
+#[tactic(auto, unfolding(call_rules::specs::Refusals::election_open))]
 fn election_open(a: Account, day: Day) -> bool
     ensures { result ≡ election_open a day.year day.month day.day }
 {
@@ -54,17 +68,19 @@ fn election_open(a: Account, day: Day) -> bool
 }
 
 // The open year, or the one after it.
+#[tactic(auto, unfolding(call_rules::specs::Refusals::is_open))]
 fn is_open(a: Account, year: u32) -> bool
     ensures { result ≡ is_open a year }
 {
-    (year == a.open_year as u32) | (year == a.open_year as u32 + 1)
+    (year == u32::from(a.open_year)) | (year == u32::from(a.open_year) + 1)
 }
 
 // The runs made of either open year.
+#[tactic(auto, unfolding(account_steps::specs::Account::runs_in))]
 fn runs_in(a: Account, year: u32) -> u8
     ensures { result ≡ runs_in year a }
 {
-    if year == a.open_year as u32 {
+    if year == u32::from(a.open_year) {
         a.runs
     } else {
         a.later_runs
@@ -80,7 +96,7 @@ pub fn halves_in(a: Account, year: u16, run: u8) -> Halves
 
 // Whether a run of a year is due and not made.
 fn run_due(a: Account, year: u32, run: u8) -> bool
-    requires { (year < 2 ^ 16) × (0 < run) }
+    requires { year < 2 ^ 16 }
     ensures { result ≡ (due (halves_paid a.details.year a.details.month year run) && not (is_made (runs_in year a) run)) }
 {
     halves_in(a, year as u16, run).is_due() & !book_rules::is_made(runs_in(a, year), run)
@@ -103,106 +119,106 @@ fn run_open(a: Account, year: u32, run: u8) -> bool
     }
 }
 
-fn order_fits(price: Rate, estimate1: WideKwh, estimate2: WideKwh) -> bool
-    ensures { result ≡ order_fits price.0 estimate1.0 estimate2.0 }
-{
-    (price.0 <= MAX_PRICE) & ((estimate1.0 <= MAX_ESTIMATE) & (estimate2.0 <= MAX_ESTIMATE))
-}
-
+#[tactic(auto, unfolding(call_rules::specs::Refusals::year_open))]
 fn year_open(a: Account, year: u16) -> bool
     ensures { result ≡ year_open a year }
 {
-    (year == a.open_year) & (year as u32 <= LAST_YEAR)
+    (year == a.open_year) & (u32::from(year) <= LAST_YEAR)
 }
 
-// 4 5 3
-pub fn enrol_objection(
-    number: UserNumber,
-    user: RecordIndex,
-    details: Details,
-    option: u8,
-    room: bool,
-) -> u32
-    ensures { (a : AccountOf) → result ≡ refused_by (rules_of (look_of user.0 a room) (enrol number.0 details option)) }
-{
-    let free = !(number.0 == 0) & (user.0 == 0);
-    refuse(
-        free,
-        4,
-        refuse(
-            book_rules::details_fit(details, option),
-            5,
-            refuse(room, 3, 0),
-        ),
-    )
-}
-
-// 7 8: no call reads an account before 6 is past, so each of these holds of any user that is present.
-pub fn elect_objection(a: Account, option: u8, day: Day) -> u32
-    ensures { (number user : ℕ) (room : Bool) → (user ≡ 0 → ⊥)
-        → result ≡ refused_by (rules_of (look_of user a room) (elect number option day.year day.month day.day)) }
-{
-    let window = refuse(election_open(a, day), 8, 0);
-    refuse(day_and_option(option, day), 7, window)
-}
-
+#[tactic(auto, unfolding(call_rules::specs::Refusals::charge_open))]
 fn charge_open(a: Account) -> bool
     ensures { result ≡ charge_open a }
 {
     (a.charge.made == 0) & (a.open_year <= LAST_ACTIVATION)
 }
 
-// 16
-pub fn charge_objection(a: Account) -> u32
-    ensures { (number user : ℕ) (room : Bool) → (user ≡ 0 → ⊥) → result ≡ refused_by (rules_of (look_of user a room) (charge number)) }
+// 4 5 3. `taken`: a user has the number.
+#[tactic(auto, unfolding(call_rules::specs::Rules::refused_by))]
+pub fn may_enrol(
+    number: UserNumber,
+    taken: bool,
+    details: Details,
+    option: u8,
+    room: bool,
+) -> Result<(), Refusal>
+    ensures { Follows (enrol_rules number.0 taken details option room) result }
 {
-    refuse(charge_open(a), 16, 0)
+    if (number.0 == 0) | taken {
+        return Err(Refusal::NumberTaken);
+    }
+    if !book_rules::details_fit(details, option) {
+        return Err(Refusal::DetailOutOfRange);
+    }
+    if !room {
+        return Err(Refusal::BookFull);
+    }
+    Ok(())
+}
+
+// 7 8
+#[tactic(auto, unfolding(call_rules::specs::Rules::refused_by))]
+pub fn may_elect(a: Account, option: u8, day: Day) -> Result<(), Refusal>
+    ensures { Follows (elect_rules a option day.year day.month day.day) result }
+{
+    if !day_and_option(option, day) {
+        return Err(Refusal::NoSuchDayOrOption);
+    }
+    if !election_open(a, day) {
+        return Err(Refusal::OutsideWindow);
+    }
+    Ok(())
+}
+
+// 16
+#[tactic(auto, unfolding(call_rules::specs::Rules::refused_by))]
+pub fn may_charge(a: Account) -> Result<(), Refusal>
+    ensures { Follows (charge_rules a) result }
+{
+    if !charge_open(a) {
+        return Err(Refusal::ChargeNotOpen);
+    }
+    Ok(())
 }
 
 // 9 10 3
-pub fn advance_objection(
+#[tactic(auto, unfolding(call_rules::specs::Rules::refused_by))]
+pub fn may_advance(a: Account, year: u32, run: u8, order: Order, room: bool) -> Result<(), Refusal>
+    ensures { Follows (advance_rules a year run order.price.0 order.estimate1.0 order.estimate2.0 room) result }
+{
+    if !run_open(a, year, run) {
+        return Err(Refusal::RunNotOpen);
+    }
+    if !order.fits() {
+        return Err(Refusal::OrderOutOfRange);
+    }
+    if !room {
+        return Err(Refusal::BookFull);
+    }
+    Ok(())
+}
+
+// 12 13 19 14 3
+pub fn may_close<'a>(
+    sheet: FormedSheet<'a>,
     a: Account,
-    year: u32,
-    run: u8,
-    price: Rate,
-    estimate1: WideKwh,
-    estimate2: WideKwh,
     room: bool,
-) -> u32
-    ensures { (number user : ℕ) → (user ≡ 0 → ⊥)
-        → result ≡ refused_by (rules_of (look_of user a room) (advance number year run price.0 estimate1.0 estimate2.0)) }
+) -> Result<PassedSheet<'a>, Refusal>
+    ensures { MatchResult result
+        (λ passed. (passed.bytes.now ≡ sheet.entry.bytes.now) × (refused_by (close_rules a sheet.entry.bytes.now room) ≡ 0))
+        (λ refusal. (refused_by (close_rules a sheet.entry.bytes.now room) ≡ number_of refusal)
+        × Tells sheet.entry.bytes.now (number_of refusal) (position_of refusal)) }
 {
-    let order = refuse(
-        order_fits(price, estimate1, estimate2),
-        10,
-        refuse(room, 3, 0),
-    );
-    refuse(run_open(a, year, run), 9, order)
-}
-
-// 13 19, of a sheet whose header is right. Every call that takes a sheet asks here, where its length is known, so that no read of
-// a number has to look for the end.
-pub fn sheet_fault(s: &[u8]) -> Objection
-    requires { length s.now ≡ sheet_length }
-    ensures { FaultTold s.now result }
-{
-    sheet::fault_objection(sheet::whole(s))
-}
-
-// 12 13 19 14 3, of a sheet whose header is right. What 14 adds up is known to have passed 13.
-pub fn close_objection(s: &[u8], a: Account, room: bool) -> Objection
-    requires { length s.now ≡ sheet_length }
-    ensures { SheetObjected a room s.now result }
-{
-    if !year_open(a, sheet::year(s)) {
-        return sheet::unplaced(12);
+    let bytes = sheet.bytes;
+    if !year_open(a, sheet::year(bytes)) {
+        return Err(Refusal::YearNotOpen);
     }
-    let fault = sheet_fault(s);
-    if fault.refusal != 0 {
-        return fault;
+    let passed = sheet.passed()?;
+    if sheet::domestic_excess(a.details.class, bytes) {
+        return Err(Refusal::DomesticExcess);
     }
-    if sheet::domestic_excess(a.details.class, s) {
-        return sheet::unplaced(14);
+    if !room {
+        return Err(Refusal::BookFull);
     }
-    sheet::unplaced(refuse(room, 3, 0))
+    Ok(passed)
 }

@@ -1,2 +1,2 @@
 pub mod Contract
-pub mod Stating
+mod Stating

@@ -11,6 +11,7 @@ use book_records::UserRecord;
 use units::{RECORD_LENGTH, RecordIndex};
 
 // A user's record with another account; its links stay.
+#[tactic(auto, unfolding(call_rules::specs::Changes::with_account))]
 pub fn write_account(book: &mut [u8], user: RecordIndex, account: Account)
     requires { record_length * user.0 + record_length ≤ length book.old }
     ensures { book.new ≡ with_account user.0 account book.old }
@@ -29,10 +30,11 @@ pub fn write_account(book: &mut [u8], user: RecordIndex, account: Account)
 }
 
 // A new entry in front of a user's chain, and the user's account after it.
+#[tactic(auto, unfolding(call_rules::specs::Changes::with_entry))]
 pub fn write_entry(book: &mut [u8], user: RecordIndex, account: Account, entry: [u8; RECORD_LENGTH])
     requires user_in_book { record_length * user.0 + record_length ≤ length book.old }
     requires new_record_in_book { record_length * used book.old + record_length ≤ length book.old }
-    requires new_entry { (length entry ≡ record_length) × (used book.old + 1 < 2 ^ 32) }
+    requires records_bound { used book.old + 1 < 2 ^ 32 }
     ensures { book.new ≡ with_entry user.0 account entry book.old }
 {
     let new = book_view::used(book);
@@ -57,6 +59,7 @@ pub fn write_entry(book: &mut [u8], user: RecordIndex, account: Account, entry: 
 }
 
 // A new user in front of the users' chain.
+#[tactic(auto, unfolding(call_rules::specs::Changes::enrolled_as))]
 pub fn write_user(book: &mut [u8], account: Account)
     requires new_record_in_book { record_length * used book.old + record_length ≤ length book.old }
     requires records_bound { used book.old + 1 < 2 ^ 32 }

@@ -118,6 +118,5 @@ fn run(rt: &HostRuntime) -> Result<(), Failure> {
 }
 
 fn main(rt: HostRuntime) {
-    let outcome = run(&rt);
-    output::report(&mut rt.stderr(), "figures", USAGE, outcome);
+    output::report(&mut rt.stderr(), "figures", USAGE, run(&rt));
 }

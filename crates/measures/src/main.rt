@@ -68,6 +68,5 @@ fn run(rt: &HostRuntime) -> Result<(), Failure> {
 }
 
 fn main(rt: HostRuntime) {
-    let outcome = run(&rt);
-    output::report(&mut rt.stderr(), "measures", USAGE, outcome);
+    output::report(&mut rt.stderr(), "measures", USAGE, run(&rt));
 }

@@ -3,9 +3,8 @@
 // or above, or `-` where none do within the limit.
 #![tactic(auto)]
 
-use call_answers::Reply;
 use output::{Failure, Printer};
-use refusals::Position;
+use refusals::{Position, Refusal};
 use std::fmt;
 use units::Kwh;
 
@@ -14,7 +13,7 @@ const USAGE: &str = "give the file of a year sheet, and the book on standard inp
 // A byte more than a sheet has: a file of so many is longer than any sheet, and has a length that is refused with 11.
 const SHEET: usize = sheet::LENGTH + 1;
 
-// A path of a file is at most so long.
+// A path of a file is at most so long: the system's limit. A program's arguments are read into lent bytes, which std wants sized.
 const PATH: usize = 4095;
 
 // The least addition to a band, at the right of its column.
@@ -31,7 +30,7 @@ impl fmt::Display for Column {
 }
 
 fn least(book: &[u8], s: &[u8], month: u32, band: u32) -> Column {
-    Column(call_more_sun::more_sun(book, s, month, band).addition)
+    Column(call_more_sun::more_sun(book, s, month, band).unwrap_or(None))
 }
 
 fn say_table(out: &mut Printer, book: &[u8], s: &[u8]) -> Result<(), Failure> {
@@ -55,23 +54,23 @@ fn say_table(out: &mut Printer, book: &[u8], s: &[u8]) -> Result<(), Failure> {
 }
 
 // After a 13 or 19 the month and the place of the number at fault are told too.
-fn say_refused(out: &mut Printer, reply: Reply, position: Position) -> Result<(), Failure> {
-    let refusal = reply.refusal;
-    let Position { month, place } = position;
-    if month == 0 {
-        out.line(format_args!("refused {refusal}"))
-    } else {
-        out.line(format_args!("refused {refusal} {month} {place}"))
+fn say_refused(out: &mut Printer, refusal: Refusal) -> Result<(), Failure> {
+    let number = refusal.number();
+    match refusal {
+        Refusal::AboveLimit(position) | Refusal::UnusedBand(position) => {
+            let Position { month, place } = position;
+            out.line(format_args!("refused {number} {month} {place}"))
+        }
+        _ => out.line(format_args!("refused {number}")),
     }
 }
 
 // Every reading has the first band, so what is refused of it is refused of all.
 fn answer(out: &mut Printer, book: &[u8], s: &[u8]) -> Result<(), Failure> {
-    let first = call_more_sun::more_sun(book, s, 1, 1);
-    if first.reply.refusal != 0 {
-        return say_refused(out, first.reply, first.position);
+    match call_more_sun::more_sun(book, s, 1, 1) {
+        Ok(_) => say_table(out, book, s),
+        Err(refusal) => say_refused(out, refusal),
     }
-    say_table(out, book, s)
 }
 
 // The sheet whose file is named, and then the book on standard input.
@@ -86,6 +85,5 @@ fn run(rt: &HostRuntime) -> Result<(), Failure> {
 }
 
 fn main(rt: HostRuntime) {
-    let outcome = run(&rt);
-    output::report(&mut rt.stderr(), "more_sun", USAGE, outcome);
+    output::report(&mut rt.stderr(), "more_sun", USAGE, run(&rt));
 }

@@ -4,20 +4,17 @@
 
 ghost use Rattle.replay.specs.InnerLines.{LineAnswered};
 
-use call_advance::Advanced;
-use call_answers::Reply;
-use call_close::Closed;
-use call_more_sun::MoreSun;
-use call_statement::Stated;
+use account_steps::ClosingSums;
 use input::{Line, Lines};
 use output::{Failure, Printer};
 use refusals::{Position, Refusal};
 use replay_script::Request;
 use sheet_values::Details;
+use statements::Sums;
 use std::alloc::Global;
 use std::fmt::Display;
-use text::Hex;
-use units::{Rate, UserNumber, WideKwh};
+use text::{Hex, InHexadecimal};
+use units::{Kwh, Rate, UserNumber, WideKwh};
 
 const USAGE: &str = "give the lines of a script on standard input, and no argument";
 
@@ -30,47 +27,44 @@ fn say<D: Display + Drop>(out: &mut Printer, number: u32, values: D) -> Result<(
     out.line(format_args!("{number} {values}"))
 }
 
-fn say_position(out: &mut Printer, number: u32, position: Position) -> Result<(), Failure> {
-    let Position { month, place } = position;
-    say(out, number, format_args!("{month} {place}"))
+// A refused call: what it objects to in one place stands in the place of the values, else zeros do, each with a blank before it.
+fn say_refused(out: &mut Printer, refusal: Refusal, zeros: &str) -> Result<(), Failure> {
+    let number = refusal.number();
+    match refusal {
+        Refusal::FaultyRecord(record) => say(out, number, record.0),
+        Refusal::WrongLine(line) => say(out, number, line),
+        Refusal::AboveLimit(position) | Refusal::UnusedBand(position) => {
+            let Position { month, place } = position;
+            say(out, number, format_args!("{month} {place}"))
+        }
+        _ => out.line(format_args!("{number}{zeros}")),
+    }
 }
 
-// What an enrolment or a charge answers. After a 2 the record stands in the place of the values, whatever the call.
-fn say_record(out: &mut Printer, reply: Reply) -> Result<(), Failure> {
-    say(out, reply.refusal, reply.record.0)
-}
-
-fn say_fresh(out: &mut Printer, answer: Result<(), Refusal>) -> Result<(), Failure> {
+// A call that answers no value.
+fn say_done(out: &mut Printer, answer: Result<(), Refusal>) -> Result<(), Failure> {
     match answer {
         Ok(()) => out.line(0),
-        Err(refusal) => out.line(refusal.number()),
+        Err(refusal) => say_refused(out, refusal, ""),
     }
 }
 
-fn say_elected(out: &mut Printer, reply: Reply) -> Result<(), Failure> {
-    if reply.refusal == 2 {
-        return say_record(out, reply);
+// A call that answers one number: the record of an enrolment or a charge, what a run pays.
+fn say_number<N: Display + Drop>(
+    out: &mut Printer,
+    answer: Result<N, Refusal>,
+) -> Result<(), Failure> {
+    match answer {
+        Ok(number) => say(out, 0, number),
+        Err(refusal) => say_refused(out, refusal, " 0"),
     }
-    out.line(reply.refusal)
 }
 
-fn say_advanced(out: &mut Printer, answer: Advanced) -> Result<(), Failure> {
-    if answer.reply.refusal == 2 {
-        return say_record(out, answer.reply);
-    }
-    say(out, answer.reply.refusal, answer.ticks.0)
-}
-
-// After a 13 or 19 the month and the place of the number at fault stand in the place of the values.
-fn say_closed(out: &mut Printer, answer: Closed) -> Result<(), Failure> {
-    let reply = answer.reply;
-    if reply.refusal == 2 {
-        return say_record(out, reply);
-    }
-    if answer.position.month != 0 {
-        return say_position(out, reply.refusal, answer.position);
-    }
-    let sums = answer.sums;
+fn say_closed(out: &mut Printer, answer: Result<ClosingSums, Refusal>) -> Result<(), Failure> {
+    let sums = match answer {
+        Ok(sums) => sums,
+        Err(refusal) => return say_refused(out, refusal, " 0 0 0 0 0 0 0"),
+    };
     let balance = sums.balance.0;
     let values = format_args!(
         "{} {} {} {} {} {} {balance}",
@@ -81,15 +75,14 @@ fn say_closed(out: &mut Printer, answer: Closed) -> Result<(), Failure> {
         sums.liquidation.0,
         sums.lapsed.0
     );
-    say(out, reply.refusal, values)
+    say(out, 0, values)
 }
 
-fn say_stated(out: &mut Printer, answer: Stated) -> Result<(), Failure> {
-    let reply = answer.reply;
-    if reply.refusal == 2 {
-        return say_record(out, reply);
-    }
-    let sums = answer.sums;
+fn say_stated(out: &mut Printer, answer: Result<Sums, Refusal>) -> Result<(), Failure> {
+    let sums = match answer {
+        Ok(sums) => sums,
+        Err(refusal) => return say_refused(out, refusal, " 0 0 0 0 0 0 0 0 0 0 0"),
+    };
     let balance = sums.balance.0;
     let values = format_args!(
         "{} {} {} {} {} {} {} {} {balance} {} {}",
@@ -104,34 +97,15 @@ fn say_stated(out: &mut Printer, answer: Stated) -> Result<(), Failure> {
         sums.advances.0,
         sums.closed_advances.0
     );
-    say(out, reply.refusal, values)
+    say(out, 0, values)
 }
 
 // 1 and the least addition, or zeros where there is none.
-fn say_more_sun(out: &mut Printer, answer: MoreSun) -> Result<(), Failure> {
-    let reply = answer.reply;
-    if reply.refusal == 2 {
-        return say_record(out, reply);
-    }
-    if answer.position.month != 0 {
-        return say_position(out, reply.refusal, answer.position);
-    }
-    match answer.addition {
-        Some(added) => say(out, reply.refusal, format_args!("1 {}", added.0)),
-        None => say(out, reply.refusal, "0 0"),
-    }
-}
-
-// A refused call: what it objects to in one place stands in the place of the values, else zeros do, each with a blank before it.
-fn say_refused(out: &mut Printer, refusal: Refusal, zeros: &str) -> Result<(), Failure> {
-    let number = refusal.number();
-    match refusal {
-        Refusal::FaultyRecord(record) => say(out, number, record.0),
-        Refusal::WrongLine(line) => say(out, number, line),
-        Refusal::AboveLimit(position) | Refusal::UnusedBand(position) => say_position(
-            out, number, position,
-        ),
-        _ => out.line(format_args!("{number}{zeros}")),
+fn say_more_sun(out: &mut Printer, answer: Result<Option<Kwh>, Refusal>) -> Result<(), Failure> {
+    match answer {
+        Ok(Some(added)) => say(out, 0, format_args!("1 {}", added.0)),
+        Ok(None) => say(out, 0, "0 0"),
+        Err(refusal) => say_refused(out, refusal, " 0 0"),
     }
 }
 
@@ -148,10 +122,7 @@ fn rearrange<F: FnOnce(&[u8], &mut [u8]) -> Result<(), Refusal>>(
     let source = source.bytes(alloc)?;
     let mut buffer = buffer.bytes(alloc)?;
     match work(&source, &mut buffer) {
-        Ok(()) => {
-            let digits = text::hex_of(alloc, &buffer)?;
-            say(out, 0, digits.as_str())
-        }
+        Ok(()) => { say(out, 0, InHexadecimal(&buffer)) }
         Err(refusal) => say_refused(out, refusal, ""),
     }
 }
@@ -166,10 +137,7 @@ fn write_measures(
     let sheet = sheet.bytes(alloc)?;
     let mut text = buffer.bytes(alloc)?;
     match sheet_text::write_measures(&sheet, &mut text) {
-        Ok(length) => {
-            let digits = text::hex_of(alloc, &text)?;
-            say(out, 0, format_args!("{length} {}", digits.as_str()))
-        }
+        Ok(length) => { say(out, 0, format_args!("{length} {}", InHexadecimal(&text))) }
         Err(refusal) => say_refused(out, refusal, " 0"),
     }
 }
@@ -180,12 +148,8 @@ fn raise(out: &mut Printer, alloc: Global, sheet: Hex<'_>, factor: u32) -> Resul
     match sheet_losses::raise(&mut sheet, factor) {
         Ok(rests) => {
             let [first, second, third] = rests;
-            let digits = text::hex_of(alloc, &sheet)?;
-            say(
-                out,
-                0,
-                format_args!("{first} {second} {third} {}", digits.as_str()),
-            )
+            let sheet = InHexadecimal(&sheet);
+            say(out, 0, format_args!("{first} {second} {third} {sheet}"))
         }
         Err(refusal) => say_refused(out, refusal, " 0 0 0"),
     }
@@ -212,7 +176,7 @@ fn call(
             *book = bytes.bytes(alloc)?;
             Ok(())
         }
-        Request::Fresh => say_fresh(out, check_book::fresh(book)),
+        Request::Fresh => say_done(out, check_book::fresh(book)),
         Request::Enrol {
             number,
             class,
@@ -231,10 +195,8 @@ fn call(
                 month,
                 island,
             };
-            say_record(
-                out,
-                call_enrol::enrol(book, UserNumber(number), details, option),
-            )
+            let entered = call_enrol::enrol(book, UserNumber(number), details, option);
+            say_number(out, entered.map(|index| index.0))
         }
         Request::Elect {
             number,
@@ -243,7 +205,7 @@ fn call(
             month,
             day,
         } => {
-            say_elected(
+            say_done(
                 out,
                 call_elect::elect(book, UserNumber(number), option, year, month, day),
             )
@@ -256,22 +218,22 @@ fn call(
             estimate1,
             estimate2,
         } => {
-            let estimates = (WideKwh(estimate1), WideKwh(estimate2));
-            say_advanced(
-                out,
-                call_advance::advance(
-                    book,
-                    UserNumber(number),
-                    year,
-                    run,
-                    Rate(rate),
-                    estimates.0,
-                    estimates.1,
-                ),
-            )
+            let paid = call_advance::advance(
+                book,
+                UserNumber(number),
+                year,
+                run,
+                Rate(rate),
+                WideKwh(estimate1),
+                WideKwh(estimate2),
+            );
+            say_number(out, paid.map(|ticks| ticks.0))
         }
         Request::Close(sheet) => say_closed(out, call_close::close(book, &sheet.bytes(alloc)?)),
-        Request::Charge(number) => say_record(out, call_charge::charge(book, UserNumber(number))),
+        Request::Charge(number) => {
+            let charged = call_charge::charge(book, UserNumber(number));
+            say_number(out, charged.map(|index| index.0))
+        }
         Request::Statement(number) => say_stated(
             out,
             call_statement::statement(book, UserNumber(number)),
@@ -307,7 +269,7 @@ fn call(
                 call_more_sun::more_sun(book, &sheet.bytes(alloc)?, month, band),
             )
         }
-        Request::Dump => out.line(text::hex_of(alloc, book)?.as_str()),
+        Request::Dump => out.line(InHexadecimal(book)),
         Request::List => list(out, alloc, book),
     }
 }

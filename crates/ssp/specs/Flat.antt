@@ -8,6 +8,9 @@ use Rattle.refusals.specs.Refusals.{refusal_in, line_in, position_in}
 use Rattle.account_steps.specs.declared.ClosingSums.{ClosingSums}
 use Rattle.statements.specs.declared.Sums as statements
 use Rattle.sheet_text.specs.Reading.{Answer}
+use Rattle.units.specs.declared.Ticks.{Ticks}
+use Rattle.ssp.specs.declared.Booked.{Booked}
+use Rattle.ssp.specs.declared.Advanced.{Advanced}
 use Rattle.ssp.specs.declared.Closed.{Closed}
 use Rattle.ssp.specs.declared.Read.{Read}
 use Rattle.ssp.specs.declared.Written.{Written}
@@ -24,6 +27,12 @@ details_of class plant power year month island =
 
 abbrev pub position_of : ℕ → ℕ → Position
 position_of month place = record { month = month; place = place }
+
+abbrev pub flat_booked : ℕ → ℕ → Booked
+flat_booked refusal named = record { refusal = refusal; «record» = named }
+
+abbrev pub flat_advanced : ℕ → ℕ → Ticks → Advanced
+flat_advanced refusal named paid = record { refusal = refusal; «record» = named; ticks = paid.0 }
 
 unfoldable pub flat_closed : ℕ → ℕ → Position → ClosingSums → Closed
 flat_closed refusal named position s =

@@ -1,7 +1,7 @@
 -- A flat answer to how much more sun: "the least added kWh .., or the answer that none does" as two numbers.
 use Rattle.std.specs.Prelude.{ℕ, Option, Some, None}
-use Rattle.refusals.specs.declared.Position.{Position}
 use Rattle.units.specs.declared.Kwh.{Kwh}
+use Rattle.refusals.specs.declared.Position.{Position}
 use Rattle.ssp.specs.declared.Sun.{Sun}
 
 -- 1 and the kWh, or zeros where there is none

@@ -2,15 +2,15 @@
 // an ordinary input. What is read stands at the front, and what stands after it is handed out with it.
 #![tactic(auto)]
 
-ghost use Rattle.std.specs.Prelude.{◌≡◌, true, false, ◌/◌, ◌<◌, ◌≤◌, length, None, Some, MatchOption, IfOk, string_bytes};
-ghost use Rattle.std.specs.Fmt.{digit_glyph};
+ghost use Rattle.std.specs.Prelude.{◌≡◌, true, false, ◌/◌, ◌<◌, ◌≤◌, length, None, Some, MatchOption, IfOk};
+ghost use Rattle.std.specs.Fmt.{digit_glyph, WritesOnOk};
 ghost use Rattle.std.specs.List.{list_all};
 ghost use Rattle.std.specs.Str.Parse.{AllDigits};
 ghost use Rattle.text.specs.Text.{digits, number_of, first_number, field, fields, word_length, first_word, after_word};
 ghost use Rattle.text.specs.Text.{is_hex_digit, is_hex, hex_of};
 
 use std::alloc::{AllocError, Global};
-use std::str;
+use std::{fmt, str};
 
 /// How many digits a text begins with.
 fn digits(text: &[u8]) -> usize
@@ -152,14 +152,24 @@ impl<'a> Hex<'a> {
     }
 }
 
-/// Bytes in hexadecimal, in lower case.
-#[tactic(auto, using(crate::proofs::Spellings::hex_of_more), unfolding(crate::specs::Text::hex_of))]
-pub fn hex_of(alloc: Global, bytes: &[u8]) -> Result<String, AllocError>
-    ensures { IfOk result (λ text. string_bytes text ≡ hex_of bytes.now) }
-{
-    let mut text = String::new(alloc);
-    for byte in bytes {
-        write!(text, "{byte:02x}")?;
+/// Bytes that print in hexadecimal, in lower case: two digits for each, the upper half first.
+#[derive(Clone, Copy, Debug, PartialEq, Eq)]
+pub struct InHexadecimal<'a>(pub &'a [u8]);
+
+impl fmt::Display for InHexadecimal<'_> {
+    ghost output = { λ bytes. Some (hex_of bytes.0.now) };
+
+    fn fmt<W: fmt::Write>(&self, f: &mut fmt::Formatter<W>) -> fmt::Result {
+        spell(self.0, f)
     }
-    Ok(text)
+}
+
+#[tactic(auto, unfolding(crate::specs::Text::hex_of))]
+fn spell<W: fmt::Write>(bytes: &[u8], f: &mut fmt::Formatter<W>) -> fmt::Result
+    ensures { WritesOnOk W.write_str_gives f.old result (hex_of bytes.now) f.new }
+{
+    for byte in bytes {
+        write!(f, "{byte:02x}")?;
+    }
+    Ok(())
 }

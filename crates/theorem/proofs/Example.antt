@@ -8,8 +8,8 @@ use native.Mathlib.Omega.{arith}
 use borrow.Author.Tests.{ltb-true}
 use lib.Dec.{ltb}
 use lib.ListN.{replicate}
-use Rattle.std.specs.Int.{int_wrap}
 use Rattle.std.specs.Prelude.{Ok}
+use Rattle.std.specs.Int.{int_wrap}
 use Rattle.units.proofs.Bools.{and_left, and_right}
 use Rattle.units.specs.Folds.{sum_below, all_below, any_below}
 use Rattle.codec.specs.Bytes.{little_endian, bytes_of, part, number, stored, zeros}

@@ -1,3 +1,4 @@
 pub mod Example
+pub mod Replies
 pub mod Steps
 pub mod Theorem

@@ -1,6 +1,6 @@
 -- One call of a run: what it says and leaves is what its definition has, and it can be made, whatever it brings; so for every list.
 use Prim.Native.Nat.{ℕ}
-use mathlib.Core.Path.{◌≡◌, refl, ap, ap₂, ◌∙◌, subst}
+use mathlib.Core.Path.{◌≡◌, refl, sym, ap, ap₂, ◌∙◌, subst, subst₂}
 use mathlib.Core.List.{List, ◌∷◌, []}
 use Rattle.call_rules.specs.Calls.{Call, refusal_of, book_after, enrol, elect, advance, close, statement, charge, named_by, rules_of, change_of, booked, record_named, AllTyped}
 use Rattle.call_answers.specs.Answers.{Answered}
@@ -16,21 +16,27 @@ use mathlib.Core.Bool.{Bool, true, false, cond, not}
 use lib.Dec.{eqb}
 use denote.Ref.{Bor}
 use denote.MutBor.{MutBor}
-use Rattle.units.specs.Units.{user_number}
+use Rattle.units.specs.Units.{record_index, user_number, ticks}
+use Rattle.units.specs.declared.RecordIndex.{RecordIndex}
+use Rattle.units.specs.declared.Ticks.{Ticks}
 use Rattle.units.specs.declared.Rate.{Rate}
 use Rattle.units.specs.declared.WideKwh.{WideKwh}
-use Rattle.sheet.specs.YearSheet.{sheet_user, sheet_year, refused11, refused14, tells, Past13}
+use Rattle.refusals.specs.declared.Position.{Position}
+use Rattle.refusals.specs.Refusals.{nowhere, refusal_in, record_in}
+use Rattle.sheet.specs.YearSheet.{sheet_user, sheet_year, refused11, refused14, tells, Tells, Past13}
 use Rattle.sheet.proofs.Faults.{telling}
+use Rattle.sheet_values.specs.YearsValues.{year_values}
+use Rattle.account_steps.specs.declared.ClosingSums.{ClosingSums}
+use Rattle.account_steps.specs.Account.{settled}
+use Rattle.chains.specs.Statements.{statement_at}
+use Rattle.statements.specs.declared.Sums.{Sums}
+use Rattle.statements.specs.InnerWalk.{sums_of}
 use Rattle.book_rules.specs.Find.{find_user}
 use Rattle.book_rules.specs.Book.{length_fits, used, sound}
-use Rattle.call_rules.specs.Refusals.{look_at, present, year_open}
+use Rattle.call_rules.specs.Refusals.{look_at, present, year_open, user_at}
 use Rattle.call_rules.specs.Rules.{refused_by}
-use Rattle.call_rules.specs.Changes.{applied}
-use Rattle.call_answers.specs.declared.Reply.{Reply}
-use Rattle.call_answers.specs.Replies.{reply_of}
-use Rattle.call_advance.specs.Advances.{ticks_answered}
-use Rattle.call_close.specs.Closings.{sums_answered}
-use Rattle.call_statement.specs.Stated.{sums_stated}
+use Rattle.call_rules.specs.Changes.{applied, run_amount}
+use Rattle.theorem.proofs.Replies.{Given, with-numbers, said-so}
 
 -- WHAT A CALL SAYS
 
@@ -115,45 +121,67 @@ module _ (b : List ℕ) where
       let answer : Other (refusal_of b (close s)) = rw (past.0, past.1) by-book in
       answer.told-not
 
-  -- the reply of a call that names no record but after a 2
-  abbrev unnamed : Call → Reply
-  unnamed c = reply_of (refusal_of b c) (record_named b (refusal_of b c) 0)
+  -- an answer to the call with its numbers, and its value where it is accepted
+  module _ {A : Type 0} (f : A → ℕ) (v : A) (c : Call) where
+    abbrev replied : (p : Position) → (tells (refusal_of b c) ≡ false → p ≡ nowhere) → Given f v (refusal_of b c) (record_named b (refusal_of b c) (f v)) p
+    replied p zeros = with-numbers f v p (right c (f v)) zeros
+
+    performs : (after : List ℕ) (p : Position) (g : Given f v (refusal_of b c) (record_named b (refusal_of b c) (f v)) p)
+        → Calls b (made c (refusal_in g.answer)) after → Calls b (made c (refusal_of b c)) after
+    performs after p g = subst (λ n. Calls b (made c n) after) g.refusal-is
 
   performed : (c : Call) → Calls b (made c (refusal_of b c)) (book_after b c)
   performed (enrol n d o) =
       let c = enrol n d o in
-      enrols ([], tt) (lent b, (user_number n, (d, (o, tt)))) (reply_of (refusal_of b c) (record_named b (refusal_of b c) (used b))) (lent (book_after b c), (user_number n, (d, (o, tt))))
-      (right c (used b))
+      let f : RecordIndex → ℕ = λ i. i.0 in
+      let v = record_index (used b) in
+      let g = replied f v c nowhere (λ e. refl) in
+      performs f v c (book_after b c) nowhere g
+      (enrols ([], tt) (lent b, (user_number n, (d, (o, tt)))) g.answer (lent (book_after b c), (user_number n, (d, (o, tt)))) (said-so f v nowhere (right c (used b)) g))
   performed (elect n o y m d) =
       let c = elect n o y m d in
-      elects ([], tt) (lent b, (user_number n, (o, (y, (m, (d, tt)))))) (unnamed c) (lent (book_after b c), (user_number n, (o, (y, (m, (d, tt))))))
-      (right c 0)
+      let f : Unit {0} → ℕ = λ u. 0 in
+      let g = replied f tt c nowhere (λ e. refl) in
+      performs f tt c (book_after b c) nowhere g
+      (elects ([], tt) (lent b, (user_number n, (o, (y, (m, (d, tt)))))) g.answer (lent (book_after b c), (user_number n, (o, (y, (m, (d, tt))))))
+      (said-so f tt nowhere (right c 0) g))
   performed (advance n y r p e₁ e₂) =
       let c = advance n y r p e₁ e₂ in
       let price : Rate = record { 0 = p } in
       let estimate1 : WideKwh = record { 0 = e₁ } in
       let estimate2 : WideKwh = record { 0 = e₂ } in
-      advances ([], tt) (lent b, (user_number n, (y, (r, (price, (estimate1, (estimate2, tt)))))))
-      (record { reply = unnamed c; ticks = ticks_answered b n y r p e₁ e₂ (refusal_of b c) })
-      (lent (book_after b c), (user_number n, (y, (r, (price, (estimate1, (estimate2, tt))))))) (right c 0, refl)
+      let f : Ticks → ℕ = λ t. 0 in
+      let v = ticks (run_amount (user_at b n) y r p e₁ e₂) in
+      let g = replied f v c nowhere (λ e. refl) in
+      performs f v c (book_after b c) nowhere g
+      (advances ([], tt) (lent b, (user_number n, (y, (r, (price, (estimate1, (estimate2, tt))))))) g.answer
+      (lent (book_after b c), (user_number n, (y, (r, (price, (estimate1, (estimate2, tt))))))) (said-so f v nowhere (right c 0) g, g.value))
   performed (close s) =
       let c = close s in
       let at = telling s (refusal_of b c) (others s) in
-      closes ([], ([], tt)) (lent b, (shown s, tt))
-      (record { reply = unnamed c; position = at.position; sums = sums_answered b s (refusal_of b c) })
-      (lent (book_after b c), (shown s, tt)) (right c 0, (at.told, refl))
+      let f : ClosingSums → ℕ = λ x. 0 in
+      let v = settled (user_at b (sheet_user s)) (year_values s (user_at b (sheet_user s)).details) in
+      let g = replied f v c at.position at.told.zeros in
+      performs f v c (book_after b c) at.position g
+      (closes ([], ([], tt)) (lent b, (shown s, tt)) g.answer (lent (book_after b c), (shown s, tt))
+      (said-so f v at.position (right c 0) g, (subst₂ (Tells s) (sym g.refusal-is) (sym g.position-is) at.told, g.value)))
   performed (charge n) =
       let c = charge n in
-      charges ([], tt) (lent b, (user_number n, tt)) (reply_of (refusal_of b c) (record_named b (refusal_of b c) (find_user b n))) (lent (book_after b c), (user_number n, tt))
-      (right c (find_user b n))
+      let f : RecordIndex → ℕ = λ i. i.0 in
+      let v = record_index (find_user b n) in
+      let g = replied f v c nowhere (λ e. refl) in
+      performs f v c (book_after b c) nowhere g
+      (charges ([], tt) (lent b, (user_number n, tt)) g.answer (lent (book_after b c), (user_number n, tt)) (said-so f v nowhere (right c (find_user b n)) g))
   performed (statement n) =
       let c = statement n in
       let same = stated-left n in
+      let f : Sums → ℕ = λ x. 0 in
+      let v = sums_of (statement_at b (find_user b n)) in
+      let g = replied f v c nowhere (λ e. refl) in
       rw same
-      (states ([], tt) (shown b, (user_number n, tt))
-      (record { reply = unnamed c; sums = sums_stated b n (refusal_of b c) })
-      (shown b, (user_number n, tt))
-      (subst (Answered b c 0 (refusal_of b c) (record_named b (refusal_of b c) 0)) same (right c 0), refl))
+      (performs f v c b nowhere g
+      (states ([], tt) (shown b, (user_number n, tt)) g.answer (shown b, (user_number n, tt))
+      (subst (Answered b c 0 (refusal_in g.answer) (record_in f g.answer)) same (said-so f v nowhere (right c 0) g), g.value)))
 
 pub possible : (b : List ℕ) (cs : List Call) → AllTyped cs → Runs Calls b (made_of b cs) (book_after_all b cs)
 unfolding made_of book_after_all AllTyped

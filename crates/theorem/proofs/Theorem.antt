@@ -10,13 +10,16 @@ use lib.ListN.{length}
 use Rattle.book_rules.specs.Book.{length_fits, fresh_book}
 use Rattle.check_book.specs.Verdicts.{fresh_answer, fresh_after}
 use Rattle.check_book.proofs.Contract.{fresh-says}
-use Rattle.ledger.specs.Ledger.{Ledger, enrolled}
+use Rattle.std.specs.Prelude.{Result, Ok, Err, IfOk}
+use Rattle.refusals.specs.declared.Refusal.{Refusal}
+use Rattle.refusals.specs.Refusals.{refusal_in, record_in}
+use Rattle.ledger.specs.Ledger.{Ledger, Statement, enrolled}
 use Rattle.chains.specs.Statements.{statement_at}
 use Rattle.book_rules.specs.Find.{find_user}
 use Rattle.call_rules.specs.Calls.{Call, enrol, elect, advance, close, statement, charge, named_by, refusal_of, record_named}
 use Rattle.statements.specs.InnerWalk.{sums_of, statement_in}
 use Rattle.ledger.specs.Accounting.{Accounts}
-use Rattle.call_statement.specs.Stated.{sums_stated}
+use Rattle.statements.specs.declared.Sums.{Sums}
 use Rattle.call_statement.proofs.Contract.{statement-says}
 use Rattle.call_statement.proofs.statement.Reads as statement-of
 use Rattle.ledger_agrees.specs.Lists.{Made, calls_of, Runs, made_of, book_after_all}
@@ -59,14 +62,22 @@ module _ (b : List ℕ) (number : ℕ) (known : refusal_of b (statement number) 
   sums-back =
       refl
 
-  statement-answers : (κs : _) (a : _) (r : _) (s : _) → statement-of.Post κs a r s → a.0.now ≡ b → a.1.0.0 ≡ number
-      → (r.reply.refusal ≡ 0) × (r.reply.«record».0 ≡ 0) × (statement_in r.sums ≡ statement_at b (find_user b number))
-  unfolding sums_stated record_named
-  statement-answers κs a r s p is-book is_number =
+  -- .. and what holds of it holds of the answer
+  answered-so : (P : Statement → Type 0) → P (statement_at b (find_user b number)) → (r : Result Sums Refusal)
+      → IfOk r (λ sums. sums ≡ sums_of (statement_at b (find_user b number))) → IfOk r (λ sums. P (statement_in sums))
+  answered-so P holds (Ok sums) e = subst (λ x. P (statement_in x)) (sym e) (subst P (sym sums-back) holds)
+  answered-so P holds (Err refusal) e = tt
+
+  statement-answers : (P : Statement → Type 0) → P (statement_at b (find_user b number))
+      → (κs : _) (a : _) (r : _) (s : _) → statement-of.Post κs a r s → a.0.now ≡ b → a.1.0.0 ≡ number
+      → (refusal_in r ≡ 0) × (record_in (λ sums. 0) r ≡ 0) × IfOk r (λ sums. P (statement_in sums))
+  unfolding record_named
+  statement-answers P holds κs a r s p is-book is_number =
       let says = statement-says κs a r s p in
-      let zero : r.reply.refusal ≡ 0 = says.0.refusal_is ∙ rw (is-book, is_number, known) in
-      let sums : r.sums ≡ sums_of (statement_at b (find_user b number)) = says.1 ∙ rw (is-book, is_number, zero) in
-      (zero, says.0.record_is ∙ rw zero refl, ap statement_in sums ∙ sums-back)
+      let zero : refusal_in r ≡ 0 = says.0.refusal_is ∙ rw (is-book, is_number, known) in
+      let sums : IfOk r (λ x. x ≡ sums_of (statement_at b (find_user b number)))
+      = subst₂ (λ c n. IfOk r (λ x. x ≡ sums_of (statement_at c (find_user c n)))) is-book is_number says.1 in
+      (zero, says.0.record_is ∙ rw zero refl, answered-so P holds r sums)
 
 -- the claim, from the demand over the definitions
 module _ (b : List ℕ) (fits : length_fits b ≡ true) (ms : List Made) (b' : List ℕ) (run : Runs Calls (fresh_book (length b)) ms b') where
@@ -87,9 +98,7 @@ module _ (b : List ℕ) (fits : length_fits b ≡ true) (ms : List Made) (b' : L
       record {
         ledger = l.0;
         fed = l.1;
-        statement = λ κs a r s p is-book is_number.
-            let said = statement-answers b' number known κs a r s p is-book is_number in
-            (said.0, said.1, subst (Accounts l.0 (value_fed number l.0.details ms)) (sym said.2) right);
+        statement = statement-answers b' number known (Accounts l.0 (value_fed number l.0.details ms)) right;
         charges = subst (λ (x : List ℕ). ChargesKept x number l.0) (sym left) d.charges;
       }
 

@@ -3,6 +3,7 @@
 -- for, and nothing depends on them. The book is the first argument.
 use Rattle.std.specs.Prelude.{ℕ, List}
 use Rattle.std.specs.Borrow.{Bor}
+use Rattle.refusals.specs.Refusals.{refusal_in}
 use Rattle.units.specs.declared.UserNumber.{UserNumber}
 use Rattle.units.specs.declared.Rate.{Rate}
 use Rattle.units.specs.declared.WideKwh.{WideKwh}
@@ -40,15 +41,16 @@ number_by (book, (number, end)) = number.0
 abbrev pub statement_by : {B U : Type 0} → B × (UserNumber × U) → Call
 statement_by a = statement (number_by a)
 
--- one call: the book before it, what was called and answered, the book after it
+-- one call: the book before it, what was called and answered, the book after it. An answer is a `Result`, of which the number of its
+-- refusal is kept, 0 of an accepted call.
 pub data Calls : List ℕ → Made → List ℕ → Type 1 where
-  enrols : (κs : _) (a : _) (r : _) (s : _) → enrol-of.Post κs a r s → Calls a.0.now (made (enrol_by a) r.refusal) s.0.now
-  elects : (κs : _) (a : _) (r : _) (s : _) → elect-of.Post κs a r s → Calls a.0.now (made (elect_by a) r.refusal) s.0.now
+  enrols : (κs : _) (a : _) (r : _) (s : _) → enrol-of.Post κs a r s → Calls a.0.now (made (enrol_by a) (refusal_in r)) s.0.now
+  elects : (κs : _) (a : _) (r : _) (s : _) → elect-of.Post κs a r s → Calls a.0.now (made (elect_by a) (refusal_in r)) s.0.now
   advances : (κs : _) (a : _) (r : _) (s : _) → advance-of.Post κs a r s
-      → Calls a.0.now (made (advance_by a) r.reply.refusal) s.0.now
+      → Calls a.0.now (made (advance_by a) (refusal_in r)) s.0.now
   closes : (κs : _) (a : _) (r : _) (s : _) → close-of.Post κs a r s
-      → Calls a.0.now (made (close_by a) r.reply.refusal) s.0.now
-  charges : (κs : _) (a : _) (r : _) (s : _) → charge-of.Post κs a r s → Calls a.0.now (made (charge_by a) r.refusal) s.0.now
+      → Calls a.0.now (made (close_by a) (refusal_in r)) s.0.now
+  charges : (κs : _) (a : _) (r : _) (s : _) → charge-of.Post κs a r s → Calls a.0.now (made (charge_by a) (refusal_in r)) s.0.now
   -- a statement is lent the book to read only, so that the book after it is the one before it
   states : (κs : _) (a : _) (r : _) (s : _) → statement-of.Post κs a r s
-      → Calls a.0.now (made (statement_by a) r.reply.refusal) a.0.now
+      → Calls a.0.now (made (statement_by a) (refusal_in r)) a.0.now

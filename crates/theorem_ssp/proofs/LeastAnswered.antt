@@ -1,10 +1,10 @@
 -- What the exported function says, and that what it says is the least.
-use Rattle.std.specs.Prelude.{Option, Some, None}
 use Prim.Native.Nat.{ℕ, ◌-◌, ◌<◌}
 use mathlib.Core.Path.{◌≡◌, sym, ap, ◌∙◌}
 use mathlib.Core.Bool.{Bool, true, false}
 use mathlib.Core.List.{List}
 use native.Mathlib.Omega.{arith}
+use Rattle.std.specs.Prelude.{Option, Some, None}
 use Rattle.refusals.specs.declared.Position.{Position}
 use Rattle.sheet.specs.YearSheet.{sheet_user}
 use Rattle.call_rules.specs.Refusals.{user_at}

@@ -2,18 +2,20 @@
 use Prim.Native.Nat.{ℕ}
 use mathlib.Core.Path.{◌≡◌, refl, ap, sym, subst, ◌∙◌}
 use mathlib.Core.List.{List}
-use Rattle.std.specs.Prelude.{Ok}
+use Rattle.std.specs.Prelude.{Ok, IfOk}
+use Rattle.refusals.specs.Refusals.{nowhere}
 use Rattle.units.specs.Units.{user_number}
 use Rattle.units.specs.declared.UserNumber.{UserNumber}
 use Rattle.ledger.specs.Accounting.{Accounts}
 use Rattle.statements.specs.declared.Sums.{Sums}
 use Rattle.statements.specs.InnerWalk as statements
-use Rattle.call_answers.specs.Replies.{reply_of}
-use Rattle.call_statement.specs.declared.Stated.{Stated}
+use Rattle.book_rules.specs.Find.{find_user}
+use Rattle.chains.specs.Statements.{statement_at}
 use Rattle.call_statement.specs.Stated.{sums_stated}
 use Rattle.ledger_agrees.specs.Lists.{Made}
 use Rattle.ledger_agrees.specs.Fed.{value_fed}
 use Rattle.theorem.specs.Claims as beneath
+use Rattle.theorem.proofs.Replies.{with-numbers, said-so}
 use Rattle.theorem.proofs.Theorem as functions
 use Rattle.ssp.specs.declared.Sums as ssp
 use Rattle.ssp.specs.Flat.{flat_sums}
@@ -21,10 +23,12 @@ use Rattle.ssp.proofs.Contract.{statement-says}
 use Rattle.theorem_ssp.specs.Exported.{statement_answered, Claim, ThirdDemand, EveryList}
 use Rattle.theorem_ssp.proofs.Steps.{lift, flat}
 
--- a flat answer is the statement of the sums beneath it
-same-statement : (r : ssp.Sums) (refusal named : ℕ) (sums : Sums) → r ≡ flat_sums refusal named sums → statement_answered r ≡ statements.statement_in sums
-unfolding statement_answered flat_sums statements.statement_in
-same-statement r refusal named sums e = ap statement_answered e
+-- an accepted flat answer is the statement of the sums beneath it
+same-statement : (b : List ℕ) (number : ℕ) (r : ssp.Sums) → r ≡ flat_sums r.refusal r.«record» (sums_stated b number r.refusal) → r.refusal ≡ 0
+    → statement_answered r ≡ statements.statement_in (statements.sums_of (statement_at b (find_user b number)))
+unfolding statement_answered flat_sums sums_stated statements.statement_in
+same-statement b number r e zero =
+    ap statement_answered (e ∙ ap (λ n. flat_sums r.refusal r.«record» (sums_stated b number n)) zero)
 
 module _ (ms : List Made) (b : List ℕ) (number : ℕ) (c : beneath.Claim ms b number) where
   claimed : Claim ms b number
@@ -34,14 +38,15 @@ module _ (ms : List Made) (b : List ℕ) (number : ℕ) (c : beneath.Claim ms b 
         fed = c.fed;
         statement = λ κs a r s p is-book is_number.
             let said = statement-says κs a r s p in
-            let sums = sums_stated a.0.now a.1.0 r.refusal in
+            let right = Accounts c.ledger (value_fed number c.ledger.details ms) in
+            let f : Sums → ℕ = λ sums. 0 in
+            let v = statements.sums_of (statement_at a.0.now (find_user a.0.now a.1.0)) in
+            let g = with-numbers f v nowhere said.0 (λ e. refl) in
             let brought : UserNumber × Unit {0} = (user_number a.1.0, tt) in
-            let answer : Stated = record { reply = reply_of r.refusal r.«record»; sums = sums } in
-            let under = c.statement κs (a.0, brought) answer (s.0, brought) (said.0, refl) is-book is_number in (
-              under.0,
-              under.1,
-              subst (Accounts c.ledger (value_fed number c.ledger.details ms)) (sym (same-statement r r.refusal r.«record» sums said.1)) under.2,
-            );
+            let under = c.statement κs (a.0, brought) g.answer (s.0, brought) (said-so f v nowhere said.0 g, g.value) is-book is_number in
+            let zero = sym g.refusal-is ∙ under.0 in
+            let answered = subst (λ x. IfOk x (λ sums. right (statements.statement_in sums))) (g.accepted zero) under.2 in
+            (zero, sym g.record-is ∙ under.1, subst right (sym (same-statement a.0.now a.1.0 r said.1 zero)) answered);
         charges = c.charges;
       }
 

@@ -5,6 +5,7 @@
 use input::{Line, Lines};
 use output::{Failure, Printer};
 use refusals::Refusal;
+use sheet::FormedSheet;
 use sheet_values::{Details, YearValues};
 use std::alloc::Global;
 use tariff::UNITS_PER_EURO_MWH;
@@ -43,8 +44,8 @@ fn say_error(out: &mut Printer) -> Result<(), Failure> {
     out.line("error")
 }
 
-fn say_refused(out: &mut Printer, number: u32) -> Result<(), Failure> {
-    out.line(format_args!("refused {number}"))
+fn say_refused(out: &mut Printer, refusal: Refusal) -> Result<(), Failure> {
+    out.line(format_args!("refused {}", refusal.number()))
 }
 
 // The bytes that a line spells to its end, at most so many.
@@ -70,19 +71,12 @@ fn sheet_of(line: &[u8]) -> Option<(Details, Hex<'_>)> {
     Some((details, sheet))
 }
 
-// The values, or the number of the refusal.
-fn values_of(sheet: &[u8], details: Details) -> Result<YearValues, u32> {
-    if sheet::header_wrong(sheet) {
-        return Err(11);
+fn values_of(sheet: &[u8], details: Details) -> Result<YearValues, Refusal> {
+    let sheet = FormedSheet::new(sheet)?.passed()?;
+    if sheet::domestic_excess(details.class, sheet.bytes) {
+        return Err(Refusal::DomesticExcess);
     }
-    let fault = sheet::fault_objection(sheet);
-    if fault.refusal != 0 {
-        return Err(fault.refusal);
-    }
-    if sheet::domestic_excess(details.class, sheet) {
-        return Err(14);
-    }
-    Ok(sheet_values::year_values(sheet, details))
+    Ok(YearValues::of(sheet, details))
 }
 
 fn answer_values(out: &mut Printer, alloc: Global, line: &[u8]) -> Result<(), Failure> {
@@ -103,7 +97,7 @@ fn answer_values(out: &mut Printer, alloc: Global, line: &[u8]) -> Result<(), Fa
                 value.0, cost.0, flat_rate.0, half1.0, half2.0
             ))
         }
-        Err(number) => say_refused(out, number),
+        Err(refusal) => say_refused(out, refusal),
     }
 }
 
@@ -139,7 +133,7 @@ fn answer_verdict(out: &mut Printer, alloc: Global, line: &[u8]) -> Result<(), F
     match check_book::check(&book.bytes(alloc)?) {
         Ok(_) => out.line("sound"),
         Err(Refusal::FaultyRecord(index)) => out.line(format_args!("faulty {}", index.0)),
-        Err(refusal) => say_refused(out, refusal.number()),
+        Err(refusal) => say_refused(out, refusal),
     }
 }
 

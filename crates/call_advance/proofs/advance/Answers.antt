@@ -1,90 +1,71 @@
 -- By the look at the book, the user found, then the rules of an advance.
-use native.Mathlib.Omega.{arith}
+use Rattle.std.proofs.Common.{rules, refl, ◌∙◌}
 use Rattle.call_rules.specs.Calls as calls
-use Rattle.call_answers.proofs.Answers.{damaged, refuses}
-use Rattle.call_answers.proofs.Judged.{Judged, judged-refused}
-use Rattle.call_answers.proofs.Rooms.{found-stands}
-use Rattle.call_advance.proofs.Advancing.{leaves, advance-absent, advance-judged, advance-booked, halves-fit, order-fits}
-use Rattle.call_advance.proofs.Advancing.{run_fits, ticks-answered}
+use Rattle.call_answers.proofs.Answers.{damaged, objected}
+use Rattle.call_answers.proofs.Named.{Named, found-named, unknown}
+use Rattle.call_advance.proofs.Advancing.{advance-order, advance-past-6, halves-fit, order-fits, run_fits, paid-is, advance-booked}
 use Rattle.call_advance.proofs.advance.Goals as goal
-use Rattle.call_advance.proofs.advance.Goals.{After-advance_objection-refusal}
+use Rattle.call_advance.proofs.advance.Goals.{After-account-account}
 
--- what is known where the objection was made
-judged-here : (c : goal.After-advance_objection-refusal)
-    → Judged c.args.book.now ((let a = c.args in calls.advance a.number.0 a.year a.run a.price.0 a.estimate1.0 a.estimate2.0))
-    c.look-looked.result.user
-    c.account_at-account.result c.advance_objection-refusal.result
-judged-here c =
-    let a = c.args in
-    let looked = c.look-looked.ensures in
-    let none = c.if-reply-ne0.false in
-    let read = c.account_at-account in
-    let left = c.has_room-room in
-    advance-judged a.book.now a.number.0 a.year a.run a.price.0 a.estimate1.0 a.estimate2.0 (looked.is-sound none) _ (looked.found
-    none)
-    c.if-user-eq0.false read.result read.ensures left.result left.ensures c.advance_objection-refusal.result
-    c.advance_objection-refusal.ensures
+-- the user that the book shows
+named : (c : goal.After-account-account) → Named c.args.book.now c.args.number.0 c.in_ok-user.user
+named c =
+    let look = c.in_ok-_book.ensures in
+    found-named c.args.book.now c.args.number.0 look.1.0 _ look.1.1 _ c.in_ok-user.ensures.ok_part
 
-pub returns-then-reply-ne0 : goal.returns-then-reply-ne0
-returns-then-reply-ne0 c =
+pub returns-in_err-_book-clause-reply : goal.returns-in_err-_book-clause-reply
+returns-in_err-_book-clause-reply c =
     let a = c.args in
-    let some = c.if-reply-ne0.true in
-    let all = leaves a.book.now a.number.0 a.year a.run a.price.0 a.estimate1.0 a.estimate2.0 c.look-looked.result.reply some
-    (damaged a.book.now (calls.advance a.number.0 a.year a.run a.price.0 a.estimate1.0 a.estimate2.0) 0 c.look-looked.ensures
-    some) in record { reply = all.0; ticks = all.1 }
+    let h = damaged a.book.now (calls.advance a.number.0 a.year a.run a.price.0 a.estimate1.0 a.estimate2.0) 0 _ c.in_err-_book.ensures in
+    search rules
 
-pub returns-then-user-eq0 : goal.returns-then-user-eq0
-returns-then-user-eq0 c =
+pub returns-in_err-user-clause-reply : goal.returns-in_err-user-clause-reply
+unfolding calls.named_by
+returns-in_err-user-clause-reply c =
     let a = c.args in
-    let looked = c.look-looked.ensures in
-    let none = c.if-reply-ne0.false in
-    let reply = c.refused in
-    let all = leaves a.book.now a.number.0 a.year a.run a.price.0 a.estimate1.0 a.estimate2.0 reply.result (refuses 6 reply.result
-    reply.ensures (omega arith))
-    (advance-absent a.book.now a.number.0 a.year a.run a.price.0 a.estimate1.0 a.estimate2.0 (looked.is-sound none) _
-    (looked.found none) c.if-user-eq0.true
-    reply.result reply.ensures) in record { reply = all.0; ticks = all.1 }
+    let look = c.in_ok-_book.ensures in
+    let gone = c.in_err-user.ensures in
+    let order = advance-order a.book.now a.number.0 a.year a.run a.price.0 a.estimate1.0 a.estimate2.0 in
+    let h = unknown a.book.now (calls.advance a.number.0 a.year a.run a.price.0 a.estimate1.0 a.estimate2.0) refl _ order look.1.0 _ look.1.1
+    gone.ok_part _ gone.value 0 in
+    search rules
 
-pub account_at-account-requires : goal.account_at-account-requires
-account_at-account-requires c =
+pub returns-in_err-may_advance-clause-reply : goal.returns-in_err-may_advance-clause-reply
+returns-in_err-may_advance-clause-reply c =
     let a = c.args in
-    let looked = c.look-looked.ensures in
-    let none = c.if-reply-ne0.false in
-    found-stands a.book.now (looked.is-sound none) a.number.0 _ (looked.found none)
-
-pub returns-then-refusal-ne0 : goal.returns-then-refusal-ne0
-returns-then-refusal-ne0 c =
-    let a = c.args in
-    let reply = c.refused-then-refusal-ne0 in
-    let all = leaves a.book.now a.number.0 a.year a.run a.price.0 a.estimate1.0 a.estimate2.0 reply.result
-    (refuses c.advance_objection-refusal.result reply.result reply.ensures c.if-refusal-ne0.true)
-    (judged-refused _ _ (judged-here (goal.at.returns-then-refusal-ne0 c).After-advance_objection-refusal) 0 c.if-refusal-ne0.true
-    reply.result reply.ensures) in record { reply = all.0; ticks = all.1 }
+    let k = named (goal.at.returns-in_err-may_advance-clause-reply c).After-account-account in
+    let by-rule = advance-past-6 a.book.now a.number.0 a.year a.run a.price.0 a.estimate1.0 a.estimate2.0 k c.account-account.ensures c.has_room-room.ensures in
+    let h = objected a.book.now (calls.advance a.number.0 a.year a.run a.price.0 a.estimate1.0 a.estimate2.0) k.sound 0 _ (by-rule ∙ c.in_err-may_advance.ensures) in
+    search rules
 
 pub run_amount-paid-requires : goal.run_amount-paid-requires
 run_amount-paid-requires c =
     let a = c.args in
-    let j = judged-here (goal.at.run_amount-paid-requires c).After-advance_objection-refusal in
+    let k = named (goal.at.run_amount-paid-requires c).After-account-account in
+    let read = c.account-account.ensures in
+    let left = c.has_room-room.ensures in
+    let none = c.in_ok-may_advance.ensures in
     record {
-      year_bound = halves-fit _ a.number.0 a.year a.run a.price.0 a.estimate1.0 a.estimate2.0 j c.if-refusal-ne0.false;
-      order = order-fits _ a.number.0 a.year a.run a.price.0 a.estimate1.0 a.estimate2.0 j c.if-refusal-ne0.false;
+      year_bound = halves-fit a.book.now a.number.0 a.year a.run a.price.0 a.estimate1.0 a.estimate2.0 k read left none;
+      order = order-fits a.book.now a.number.0 a.year a.run a.price.0 a.estimate1.0 a.estimate2.0 k read left none;
     }
 
 pub book_run-requires : goal.book_run-requires
 book_run-requires c =
     let a = c.args in
-    let paid = c.run_amount-paid in
-    run_fits _ a.number.0 a.year a.run a.price.0 a.estimate1.0 a.estimate2.0 (judged-here (goal.at.book_run-requires
-    c).After-advance_objection-refusal) c.if-refusal-ne0.false paid.result paid.ensures
+    let k = named (goal.at.book_run-requires c).After-account-account in
+    run_fits a.book.now a.number.0 a.year a.run a.price.0 a.estimate1.0 a.estimate2.0 k c.account-account.ensures c.has_room-room.ensures
+    c.in_ok-may_advance.ensures c.run_amount-paid.ensures
 
 pub returns : goal.returns
 returns c =
     let a = c.args in
-    let none = c.if-refusal-ne0.false in
-    let paid = c.run_amount-paid in record {
-      reply = advance-booked _ a.number.0 a.year a.run a.price.0 a.estimate1.0
-          a.estimate2.0 (judged-here (goal.at.returns c).After-advance_objection-refusal) none paid.result paid.ensures _
-          c.book_run.ensures;
-      ticks = ticks-answered _ a.number.0 a.year a.run a.price.0 a.estimate1.0 a.estimate2.0 (judged-here
-          (goal.at.returns c).After-advance_objection-refusal) none paid.result paid.ensures;
+    let k = named (goal.at.returns c).After-account-account in
+    let read = c.account-account.ensures in
+    let left = c.has_room-room.ensures in
+    let none = c.in_ok-may_advance.ensures in
+    let paid = c.run_amount-paid.ensures in
+    record {
+      reply = advance-booked a.book.now a.number.0 a.year a.run a.price.0 a.estimate1.0 a.estimate2.0 k read left none paid c.book_run.ensures;
+      ticks = paid-is a.book.now a.number.0 a.year a.run a.price.0 a.estimate1.0 a.estimate2.0 k read left none paid;
     }

@@ -1,123 +1,118 @@
--- By the look at the book, the sheet's header, the user found, then the other rules of a closing.
-use native.Mathlib.Omega.{arith}
-use lib.ListN.{length}
-use mathlib.Core.Path.{ap, sym, ◌∙◌}
+-- By the look at the book, the sheet's form, the user found, then the other rules of a closing.
+use Rattle.std.proofs.Common.{rules, refl, subst, ap, ℕ, List, ◌≡◌, ◌∙◌, Bool}
 use Rattle.units.specs.declared.UserNumber.{UserNumber}
-use Rattle.units.specs.Units.{record_index}
-use Rattle.sheet.proofs.Limits.{passed_length}
-use Rattle.sheet.proofs.Faults.{untold-before}
-use Rattle.book_rules.specs.Find.{find_user}
+use Rattle.refusals.specs.Refusals.{number_of, position_of}
+use Rattle.refusals.specs.declared.Refusal.{Refusal}
+use Rattle.refusals.specs.declared.Refusal.TheVariants.{SheetForm, UnknownUser}
+use Rattle.sheet.specs.YearSheet.{sheet_user, Tells}
+use Rattle.sheet.proofs.Faults.{untold}
+use Rattle.account_steps.specs.declared.Account.{Account}
+use Rattle.sheet_values.specs.InnerArrays.{ValuesWorked}
 use Rattle.call_rules.specs.Calls as calls
-use Rattle.call_answers.proofs.Answers.{damaged}
-use Rattle.call_answers.proofs.Judged.{Judged}
-use Rattle.call_answers.proofs.Rooms.{found-stands}
-use Rattle.call_close.proofs.Closing.{leaves, leaves-early, close-unread, close-absent, judged, close-refused, close-booked}
-use Rattle.call_close.proofs.Closing.{passed, year-fits}
+use Rattle.call_rules.specs.Rules.{refused_by}
+use Rattle.call_refusals.specs.Orders.{close_rules}
+use Rattle.call_refusals.proofs.Refused.{told-nowhere}
+use Rattle.call_answers.proofs.Answers.{damaged, untold-damaged, objected}
+use Rattle.call_answers.proofs.Named.{Named, found-named, told-unknown, unknown}
+use Rattle.call_close.proofs.Closing.{unformed, close-order, close-past-6, year-fits, close-booked, sums-settled}
 use Rattle.call_close.proofs.close.Goals as goal
-use Rattle.call_close.proofs.close.Goals.{After-close_objection-objection}
+use Rattle.call_close.proofs.close.Goals.{After-account-account}
 
--- what is known where the objection was made
-judged-here : (c : goal.After-close_objection-objection)
-    → Judged c.args.book.now (calls.close c.args.s.now)
-    c.look-looked.result.user
-    c.account_at-account.result c.close_objection-objection.result.refusal
-judged-here c =
-    let b = c.args.book.now in
-    let looked = c.look-looked.ensures in
-    let none = c.if-reply-ne0.false in
-    let right = sym c.header_wrong.ensures ∙ c.if-header_wrong.false in
-    let there = looked.found none ∙ ap (λ (n : UserNumber). record_index (find_user b n.0)) c.user.ensures in
-    let read = c.account_at-account in
-    let left = c.has_room-room in
-    judged b c.args.s.now (looked.is-sound none) right _ there c.if-user-eq0.false read.result read.ensures left.result
-    left.ensures
-    _ c.whole.ensures c.close_objection-objection.result.refusal c.close_objection-objection.ensures.refused
+-- the user that the book shows
+named : (c : goal.After-account-account) → Named c.args.book.now (sheet_user c.args.sheet.now) c.in_ok-user.user
+named c =
+    let look = c.in_ok-_book.ensures in
+    let k = found-named c.args.book.now _ look.1.0 _ look.1.1 _ c.in_ok-user.ensures.ok_part in
+    subst (λ (x : UserNumber). Named c.args.book.now x.0 c.in_ok-user.user) c.user.ensures k
 
-pub returns-then-reply-ne0 : goal.returns-then-reply-ne0
-returns-then-reply-ne0 c =
-    let looked = c.look-looked in
+pub returns-in_err-_book-clause-reply : goal.returns-in_err-_book-clause-reply
+returns-in_err-_book-clause-reply c =
+    let h = damaged c.args.book.now (calls.close c.args.sheet.now) 0 _ c.in_err-_book.ensures in
+    search rules
+
+pub returns-in_err-_book-clause-position : goal.returns-in_err-_book-clause-position
+returns-in_err-_book-clause-position c =
+    let h = untold-damaged c.args.book.now c.args.sheet.now _ c.in_err-_book.ensures in
+    search rules
+
+pub returns-in_err-formed-clause-reply : goal.returns-in_err-formed-clause-reply
+returns-in_err-formed-clause-reply c =
     let a = c.args in
-    let b = a.book.now in
-    let s = a.s.now in
-    let some = c.if-reply-ne0.true in
-    let all = leaves b s looked.result.reply _ some (damaged b (calls.close s) 0 looked.ensures some) (untold-before s _ (omega
-    (arith, looked.ensures.to-2))) c.without_sums.result
-    c.without_sums.ensures in record { reply = all.0; position = all.1.0; sums = all.1.1 }
+    let look = c.in_ok-_book.ensures in
+    let wrong = c.in_err-formed.ensures in
+    let h = objected a.book.now (calls.close a.sheet.now) look.1.0 0 SheetForm (unformed a.book.now a.sheet.now wrong.0) in
+    let is = wrong.1 in
+    search rules
 
-pub returns-then-header_wrong : goal.returns-then-header_wrong
-returns-then-header_wrong c =
+pub returns-in_err-formed-clause-position : goal.returns-in_err-formed-clause-position
+returns-in_err-formed-clause-position c =
+    let h = told-nowhere c.args.sheet.now SheetForm refl in
+    let is = c.in_err-formed.ensures.1 in
+    search rules
+
+pub returns-in_err-user-clause-reply : goal.returns-in_err-user-clause-reply
+unfolding calls.named_by
+returns-in_err-user-clause-reply c =
     let a = c.args in
-    let b = a.book.now in
-    let s = a.s.now in
-    let looked = c.look-looked.ensures in
-    let none = c.if-reply-ne0.false in
-    let reply = c.refused in
-    let all = leaves-early b s 11 (omega arith) (omega arith) reply.result reply.ensures
-    (close-unread b s (looked.is-sound none) (sym c.header_wrong.ensures ∙ c.if-header_wrong.true) reply.result reply.ensures)
-    c.without_sums-then-header_wrong.result c.without_sums-then-header_wrong.ensures in record {
-      reply = all.0;
-      position = all.1.0;
-      sums = all.1.1;
-    }
+    let look = c.in_ok-_book.ensures in
+    let gone = c.in_err-user.ensures in
+    let h = unknown a.book.now (calls.close a.sheet.now) (ap (λ (n : UserNumber). n.0) c.user.ensures) _ (close-order a.book.now a.sheet.now c.in_ok-formed.ensures.0)
+    look.1.0 _ look.1.1 gone.ok_part _ gone.value 0 in
+    search rules
 
-pub returns-then-user-eq0 : goal.returns-then-user-eq0
-returns-then-user-eq0 c =
+pub returns-in_err-user-clause-position : goal.returns-in_err-user-clause-position
+returns-in_err-user-clause-position c =
+    let gone = c.in_err-user.ensures in
+    let is = told-unknown _ _ gone.value gone.ok_part in
+    let h = told-nowhere c.args.sheet.now UnknownUser refl in
+    search rules
+
+-- what the sheet's rules and the account's answer, of the sheet as it was given
+by-rules : {s t : List ℕ} → t ≡ s → (a : Account) (room : Bool) (e : Refusal)
+    → (refused_by (close_rules a t room) ≡ number_of e) × Tells t (number_of e) (position_of e)
+    → (refused_by (close_rules a s room) ≡ number_of e) × Tells s (number_of e) (position_of e)
+by-rules same a room e said = rw same at said
+
+pub returns-in_err-passed-clause-reply : goal.returns-in_err-passed-clause-reply
+returns-in_err-passed-clause-reply c =
     let a = c.args in
-    let b = a.book.now in
-    let s = a.s.now in
-    let looked = c.look-looked.ensures in
-    let none = c.if-reply-ne0.false in
-    let right = sym c.header_wrong.ensures ∙ c.if-header_wrong.false in
-    let there = looked.found none ∙ ap (λ (n : UserNumber). record_index (find_user b n.0)) c.user.ensures in
-    let reply = c.refused-then-user-eq0 in
-    let all = leaves-early b s 6 (omega arith) (omega arith) reply.result reply.ensures
-    (close-absent b s (looked.is-sound none) right _ there c.if-user-eq0.true reply.result reply.ensures)
-    c.without_sums-then-user-eq0.result c.without_sums-then-user-eq0.ensures in record {
-      reply = all.0;
-      position = all.1.0;
-      sums = all.1.1;
-    }
+    let k = named (goal.at.returns-in_err-passed-clause-reply c).After-account-account in
+    let formed = c.in_ok-formed.ensures in
+    let said = by-rules formed.1 _ _ _ c.in_err-passed.ensures in
+    let order = close-past-6 a.book.now a.sheet.now formed.0 k c.account-account.ensures c.has_room-room.ensures in
+    let h = objected a.book.now (calls.close a.sheet.now) k.sound 0 _ (order ∙ said.0) in
+    search rules
 
-pub account_at-account-requires : goal.account_at-account-requires
-account_at-account-requires c =
-    let looked = c.look-looked.ensures in
-    let none = c.if-reply-ne0.false in
-    found-stands c.args.book.now (looked.is-sound none) _ _ (looked.found none)
+pub returns-in_err-passed-clause-position : goal.returns-in_err-passed-clause-position
+returns-in_err-passed-clause-position c =
+    let said = by-rules c.in_ok-formed.ensures.1 _ _ _ c.in_err-passed.ensures in
+    let h = said.1 in
+    search rules
 
-pub whole-requires : goal.whole-requires
-whole-requires c =
-    passed_length c.args.s.now
-    (sym c.header_wrong.ensures ∙ c.if-header_wrong.false)
+-- the rules are met, of the sheet as it was given
+met : {s t u : List ℕ} → t ≡ s → (a : Account) (room : Bool) → (u ≡ t) × (refused_by (close_rules a t room) ≡ 0) → (u ≡ s) × (refused_by (close_rules a s room) ≡ 0)
+met same a room said = rw same at said
 
-pub close_objection-objection-requires : goal.close_objection-objection-requires
-close_objection-objection-requires c =
-    ap length c.whole.ensures ∙ passed_length
-    c.args.s.now (sym
-    c.header_wrong.ensures ∙ c.if-header_wrong.false)
-
-pub returns-then-objection-ne0 : goal.returns-then-objection-ne0
-returns-then-objection-ne0 c =
-    let objection = c.close_objection-objection in
-    let told = rw c.whole.ensures at objection.ensures.told in
-    let reply = c.refused-then-objection-ne0 in
-    let all = close-refused _ _ (judged-here (goal.at.returns-then-objection-ne0 c).After-close_objection-objection)
-    c.if-objection-ne0.true objection.result.position told reply.result reply.ensures c.without_sums-then-objection-ne0.result
-    c.without_sums-then-objection-ne0.ensures in record { reply = all.0; position = all.1.0; sums = all.1.1 }
-
-pub year_values-values-requires : goal.year_values-values-requires
-year_values-values-requires c = passed _ _ (judged-here (goal.at.year_values-values-requires c).After-close_objection-objection)
-    c.if-objection-ne0.false
-
-pub book_year-sums-requires : goal.book_year-sums-requires
-book_year-sums-requires c =
-    let values = c.year_values-values in
-    year-fits _ _ (judged-here (goal.at.book_year-sums-requires c).After-close_objection-objection) c.if-objection-ne0.false
-    values.result values.ensures
+pub book_year-requires : goal.book_year-requires
+book_year-requires c =
+    let a = c.args in
+    let k = named (goal.at.book_year-requires c).After-account-account in
+    let formed = c.in_ok-formed.ensures in
+    let all = met formed.1 _ _ c.in_ok-passed.ensures in
+    let worked = subst (λ (x : List ℕ). ValuesWorked x c.account-account.result.details c.of-values.result) all.0 c.of-values.ensures in
+    year-fits a.book.now a.sheet.now formed.0 k c.account-account.ensures c.has_room-room.ensures all.1 worked
 
 pub returns : goal.returns
 returns c =
-    let values = c.year_values-values in
-    let booked = c.book_year-sums in
-    let all = close-booked _ _ (judged-here (goal.at.returns c).After-close_objection-objection) c.if-objection-ne0.false
-    values.result values.ensures
-    _ booked.ensures.book booked.result booked.ensures.sums in record { reply = all.0; position = all.1.0; sums = all.1.1 }
+    let a = c.args in
+    let k = named (goal.at.returns c).After-account-account in
+    let formed = c.in_ok-formed.ensures in
+    let all = met formed.1 _ _ c.in_ok-passed.ensures in
+    let worked = subst (λ (x : List ℕ). ValuesWorked x c.account-account.result.details c.of-values.result) all.0 c.of-values.ensures in
+    let read = c.account-account.ensures in
+    let left = c.has_room-room.ensures in
+    record {
+      reply = close-booked a.book.now a.sheet.now formed.0 k read left all.1 worked c.book_year.ensures.book;
+      position = untold a.sheet.now 0 refl;
+      sums = sums-settled a.book.now a.sheet.now formed.0 k read left all.1 worked c.book_year.ensures.sums;
+    }

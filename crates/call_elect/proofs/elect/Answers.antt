@@ -1,58 +1,49 @@
 -- By the look at the book, the user found, then the rules of an election.
+use Rattle.std.proofs.Common.{rules, refl, ◌∙◌}
 use Rattle.call_rules.specs.Calls as calls
-use Rattle.call_answers.proofs.Answers.{damaged}
-use Rattle.call_answers.proofs.Judged.{Judged, judged-refused}
-use Rattle.call_answers.proofs.Rooms.{found-stands}
-use Rattle.call_elect.proofs.Electing.{elect-absent, elect-judged, elect-booked}
+use Rattle.call_answers.proofs.Answers.{damaged, objected}
+use Rattle.call_answers.proofs.Named.{Named, found-named, unknown}
+use Rattle.call_answers.proofs.Rooms.{user-stands}
+use Rattle.call_elect.proofs.Electing.{elect-order, elect-past-6, elect-booked}
 use Rattle.call_elect.proofs.elect.Goals as goal
-use Rattle.call_elect.proofs.elect.Goals.{After-elect_objection-refusal}
+use Rattle.call_elect.proofs.elect.Goals.{After-account-account}
 
--- what is known where the objection was made
-judged-here : (c : goal.After-elect_objection-refusal)
-    → Judged c.args.book.now (calls.elect c.args.number.0 c.args.option c.args.year c.args.month c.args.day)
-    c.look-looked.result.user c.account_at-account.result c.elect_objection-refusal.result
-judged-here c =
+-- the user that the book shows
+named : (c : goal.After-account-account) → Named c.args.book.now c.args.number.0 c.in_ok-user.user
+named c =
+    let look = c.in_ok-_book.ensures in
+    found-named c.args.book.now c.args.number.0 look.1.0 _ look.1.1 _ c.in_ok-user.ensures.ok_part
+
+pub returns-in_err-_book : goal.returns-in_err-_book
+returns-in_err-_book c =
     let a = c.args in
-    let looked = c.look-looked.ensures in
-    let none = c.if-reply-ne0.false in
-    let read = c.account_at-account in
-    elect-judged a.book.now (looked.is-sound none) a.number.0 a.option a.year a.month a.day _ (looked.found none)
-    c.if-user-eq0.false
-    read.result read.ensures c.elect_objection-refusal.result c.elect_objection-refusal.ensures
+    let h = damaged a.book.now (calls.elect a.number.0 a.option a.year a.month a.day) 0 _ c.in_err-_book.ensures in
+    search rules
 
-pub returns-then-reply-ne0 : goal.returns-then-reply-ne0
-returns-then-reply-ne0 c =
+pub returns-in_err-user : goal.returns-in_err-user
+unfolding calls.named_by
+returns-in_err-user c =
     let a = c.args in
-    damaged a.book.now (calls.elect a.number.0 a.option a.year a.month a.day) 0 c.look-looked.ensures c.if-reply-ne0.true
+    let look = c.in_ok-_book.ensures in
+    let order = elect-order a.book.now a.number.0 a.option a.year a.month a.day in
+    let gone = c.in_err-user.ensures in
+    let h = unknown a.book.now (calls.elect a.number.0 a.option a.year a.month a.day) refl _ order look.1.0 _ look.1.1 gone.ok_part _ gone.value 0 in
+    search rules
 
-pub returns-then-user-eq0 : goal.returns-then-user-eq0
-returns-then-user-eq0 c =
+pub returns-in_err-may_elect : goal.returns-in_err-may_elect
+returns-in_err-may_elect c =
     let a = c.args in
-    let looked = c.look-looked.ensures in
-    let none = c.if-reply-ne0.false in
-    elect-absent a.book.now (looked.is-sound none) a.number.0 a.option a.year a.month a.day _ (looked.found none)
-    c.if-user-eq0.true c.refused.result
-    c.refused.ensures
-
-pub account_at-account-requires : goal.account_at-account-requires
-account_at-account-requires c =
-    let a = c.args in
-    let looked = c.look-looked.ensures in
-    let none = c.if-reply-ne0.false in
-    found-stands a.book.now (looked.is-sound none) a.number.0 _ (looked.found none)
-
-pub returns-then-refusal-ne0 : goal.returns-then-refusal-ne0
-returns-then-refusal-ne0 c = judged-refused _ _ (judged-here (goal.at.returns-then-refusal-ne0 c).After-elect_objection-refusal) 0
-    c.if-refusal-ne0.true c.refused-then-refusal-ne0.result c.refused-then-refusal-ne0.ensures
+    let k = named (goal.at.returns-in_err-may_elect c).After-account-account in
+    let by-rule = elect-past-6 a.book.now a.number.0 a.option a.year a.month a.day k c.account-account.ensures in
+    let h = objected a.book.now (calls.elect a.number.0 a.option a.year a.month a.day) k.sound 0 _ (by-rule ∙ c.in_err-may_elect.ensures) in
+    search rules
 
 pub write_account-requires : goal.write_account-requires
-write_account-requires c = let j = judged-here (goal.at.write_account-requires c).After-elect_objection-refusal in
-    found-stands _ j.sound _ _ j.there
+write_account-requires c = user-stands _ _ _ (named (goal.at.write_account-requires c).After-account-account)
 
 pub returns : goal.returns
 returns c =
     let a = c.args in
-    let elected = c.elected in
-    elect-booked _ a.number.0 a.option a.year a.month a.day (judged-here (goal.at.returns c).After-elect_objection-refusal)
-    c.if-refusal-ne0.false
-    elected.result elected.ensures _ c.write_account.ensures
+    let k = named (goal.at.returns c).After-account-account in
+    elect-booked a.book.now a.number.0 a.option a.year a.month a.day k c.account-account.ensures c.in_ok-may_elect.ensures
+    c.elected.ensures c.write_account.ensures

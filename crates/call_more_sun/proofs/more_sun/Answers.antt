@@ -1,111 +1,129 @@
--- By the look at the book, the sheet's header, the user found, the sheet's numbers and the field asked for.
-use mathlib.Core.Path.{ap, sym, ◌∙◌}
+-- By the look at the book, the sheet's form, the user found, the sheet's numbers and the field asked for.
+use Rattle.std.proofs.Common.{rules, refl, subst, sym, ap, ℕ, List, ◌≡◌, ◌∙◌}
 use Rattle.units.specs.declared.UserNumber.{UserNumber}
-use Rattle.units.specs.Units.{record_index}
-use Rattle.sheet.proofs.Limits.{passed_length}
+use Rattle.refusals.specs.declared.Refusal.TheVariants.{SheetForm, UnknownUser, NoSuchField}
+use Rattle.sheet.specs.YearSheet.{sheet_user, Past13}
+use Rattle.sheet.specs.Objections.{Faulted}
+use Rattle.sheet.proofs.Faults.{untold}
 use Rattle.book_rules.specs.Find.{find_user}
-use Rattle.call_answers.proofs.Rooms.{found-stands}
-use Rattle.call_more_sun.proofs.Asking.{leaves-damaged, leaves-unread, leaves-absent, Judged, judged, leaves_field, field-met}
-use Rattle.call_more_sun.proofs.Asking.{passed, answers}
-use Rattle.call_more_sun.proofs.Fields.{Has, has, field-stands}
+use Rattle.call_refusals.proofs.Refused.{told-nowhere}
+use Rattle.call_answers.proofs.Answers.{untold-damaged}
+use Rattle.call_answers.proofs.Named.{Named, found-named, found-none, told-unknown, named-some, account-is}
+use Rattle.call_more_sun.specs.Asked.{has_field}
+use Rattle.call_more_sun.proofs.Asking.{damaged, objected, unformed, absent, by-fault, no-field, answered}
+use Rattle.call_more_sun.proofs.Fields.{has, field-stands}
 use Rattle.call_more_sun.proofs.more_sun.Goals as goal
-use Rattle.call_more_sun.proofs.more_sun.Goals.{After-field_objection-objection}
+use Rattle.call_more_sun.proofs.more_sun.Goals.{After-passed-passed}
 
--- what is known where the objection was made
-judged-here : (c : goal.After-field_objection-objection)
-    → Judged c.args.book.now c.args.s.now c.args.month c.args.band
-    c.look-looked.result.user c.field_objection-objection.result.refusal
-judged-here c =
-    let a = c.args in
-    let looked = c.look-looked.ensures in
-    let none = c.if-reply-ne0.false in
-    let right = sym c.header_wrong.ensures ∙ c.if-header_wrong.false in
-    let there = looked.found none ∙ ap (λ (n : UserNumber). record_index (find_user a.book.now n.0)) c.user.ensures in
-    judged a.book.now a.s.now a.month a.band (looked.is-sound none) right _ there c.if-user-eq0.false
-    c.field_objection-objection.result.refusal c.field_objection-objection.ensures.refused
+-- the user that the book shows
+named : (c : goal.After-passed-passed) → Named c.args.book.now (sheet_user c.args.sheet.now) c.in_ok-user.user
+named c =
+    let look = c.in_ok-_book.ensures in
+    let k = found-named c.args.book.now _ look.1.0 _ look.1.1 _ c.in_ok-user.ensures.ok_part in
+    subst (λ (x : UserNumber). Named c.args.book.now x.0 c.in_ok-user.user) c.user.ensures k
 
-pub returns-then-reply-ne0 : goal.returns-then-reply-ne0
-returns-then-reply-ne0 c =
+pub returns-in_err-_book-clause-reply : goal.returns-in_err-_book-clause-reply
+returns-in_err-_book-clause-reply c =
     let a = c.args in
-    let look = c.look-looked in
-    let all = leaves-damaged a.book.now a.s.now a.month a.band look.result.reply look.ensures c.if-reply-ne0.true
-    c.nothing_added.result c.nothing_added.ensures in record { reply = all.0; position = all.1.0; addition = all.1.1 }
+    let h = damaged a.book.now a.sheet.now a.month a.band _ c.in_err-_book.ensures in
+    search rules
 
-pub returns-then-header_wrong : goal.returns-then-header_wrong
-returns-then-header_wrong c =
+pub returns-in_err-_book-clause-position : goal.returns-in_err-_book-clause-position
+returns-in_err-_book-clause-position c =
+    let h = untold-damaged c.args.book.now c.args.sheet.now _ c.in_err-_book.ensures in
+    search rules
+
+pub returns-in_err-formed-clause-reply : goal.returns-in_err-formed-clause-reply
+returns-in_err-formed-clause-reply c =
     let a = c.args in
-    let b = a.book.now in
-    let s = a.s.now in
-    let looked = c.look-looked.ensures in
-    let none = c.if-reply-ne0.false in
-    let reply = c.refused in
-    let all = leaves-unread b s a.month a.band (looked.is-sound none) (sym c.header_wrong.ensures ∙ c.if-header_wrong.true)
-    reply.result reply.ensures
-    c.nothing_added-then-header_wrong.result c.nothing_added-then-header_wrong.ensures in record {
-      reply = all.0;
-      position = all.1.0;
-      addition = all.1.1;
+    let wrong = c.in_err-formed.ensures in
+    let is = wrong.1 in
+    let h = objected a.book.now a.sheet.now a.month a.band c.in_ok-_book.ensures.1.0 SheetForm (unformed a.book.now a.sheet.now a.month a.band wrong.0) in
+    search rules
+
+pub returns-in_err-formed-clause-position : goal.returns-in_err-formed-clause-position
+returns-in_err-formed-clause-position c =
+    let h = told-nowhere c.args.sheet.now SheetForm refl in
+    let is = c.in_err-formed.ensures.1 in
+    search rules
+
+pub returns-in_err-user-clause-reply : goal.returns-in_err-user-clause-reply
+returns-in_err-user-clause-reply c =
+    let a = c.args in
+    let look = c.in_ok-_book.ensures in
+    let gone = c.in_err-user.ensures in
+    let is = told-unknown _ _ gone.value gone.ok_part in
+    let none = subst (λ (x : UserNumber). find_user a.book.now x.0 ≡ 0) c.user.ensures (found-none a.book.now _ _ look.1.1 gone.ok_part) in
+    let h = objected a.book.now a.sheet.now a.month a.band look.1.0 UnknownUser (absent a.book.now a.sheet.now a.month a.band c.in_ok-formed.ensures.0 none) in
+    search rules
+
+pub returns-in_err-user-clause-position : goal.returns-in_err-user-clause-position
+returns-in_err-user-clause-position c =
+    let gone = c.in_err-user.ensures in
+    let is = told-unknown _ _ gone.value gone.ok_part in
+    let h = told-nowhere c.args.sheet.now UnknownUser refl in
+    search rules
+
+pub returns-in_err-passed-clause-reply : goal.returns-in_err-passed-clause-reply
+returns-in_err-passed-clause-reply c =
+    let a = c.args in
+    let k = named (goal.at.returns-in_err-passed-clause-reply c).After-passed-passed in
+    let formed = c.in_ok-formed.ensures in
+    let fault = subst (λ (x : List ℕ). Faulted x _) formed.1 c.in_err-passed.ensures in
+    let h = objected a.book.now a.sheet.now a.month a.band k.sound _
+    (by-fault a.book.now a.sheet.now a.month a.band formed.0 (named-some a.book.now _ _ k) _ fault) in
+    search rules
+
+pub returns-in_err-passed-clause-position : goal.returns-in_err-passed-clause-position
+returns-in_err-passed-clause-position c =
+    let fault = subst (λ (x : List ℕ). Faulted x _) c.in_ok-formed.ensures.1 c.in_err-passed.ensures in
+    let h = fault.tells in
+    search rules
+
+-- the sheet that passed is the one that was given
+same : (c : goal.After-has_field) → c.in_ok-passed.passed.bytes.now ≡ c.args.sheet.now
+same c = c.in_ok-passed.ensures ∙ c.in_ok-formed.ensures.1
+
+past : (c : goal.After-has_field) → Past13 c.args.sheet.now
+past c = subst Past13 (same c) c.in_ok-passed.passed.passed.past13
+
+pub returns-then-not-has_field : goal.returns-then-not-has_field
+returns-then-not-has_field c =
+    let a = c.args in
+    let here = (goal.at.returns-then-not-has_field c).After-has_field in
+    let k = named (goal.at.returns-then-not-has_field c).After-passed-passed in
+    let gone = ap (λ (s : List ℕ). has_field s a.month a.band) (sym (same here)) ∙ sym c.has_field.ensures ∙ c.if-not-has_field.true in
+    record {
+      reply = objected a.book.now a.sheet.now a.month a.band k.sound NoSuchField
+          (no-field a.book.now a.sheet.now a.month a.band c.in_ok-formed.ensures.0 (named-some a.book.now _ _ k) (past here) gone);
+      position = told-nowhere a.sheet.now NoSuchField refl;
+      addition = tt;
     }
-
-pub returns-then-user-eq0 : goal.returns-then-user-eq0
-returns-then-user-eq0 c =
-    let a = c.args in
-    let b = a.book.now in
-    let s = a.s.now in
-    let looked = c.look-looked.ensures in
-    let none = c.if-reply-ne0.false in
-    let there = looked.found none ∙ ap (λ (n : UserNumber). record_index (find_user b n.0)) c.user.ensures in
-    let right = sym c.header_wrong.ensures ∙ c.if-header_wrong.false in
-    let reply = c.refused-then-user-eq0 in
-    let all = leaves-absent b s a.month a.band (looked.is-sound none) right _ there c.if-user-eq0.true reply.result reply.ensures
-    c.nothing_added-then-user-eq0.result
-    c.nothing_added-then-user-eq0.ensures in record { reply = all.0; position = all.1.0; addition = all.1.1 }
-
-pub field_objection-objection-requires : goal.field_objection-objection-requires
-field_objection-objection-requires c =
-    passed_length c.args.s.now
-    (sym c.header_wrong.ensures ∙ c.if-header_wrong.false)
-
-pub returns-then-objection-ne0 : goal.returns-then-objection-ne0
-returns-then-objection-ne0 c =
-    let objection = c.field_objection-objection in
-    let reply = c.refused-then-objection-ne0 in
-    let all = leaves_field _ _ _ _ (judged-here (goal.at.returns-then-objection-ne0 c).After-field_objection-objection)
-    c.if-objection-ne0.true objection.result.position objection.ensures.told reply.result reply.ensures
-    c.nothing_added-then-objection-ne0.result
-    c.nothing_added-then-objection-ne0.ensures in record { reply = all.0; position = all.1.0; addition = all.1.1 }
-
-pub account_at-account-requires : goal.account_at-account-requires
-account_at-account-requires c =
-    let j = judged-here (goal.at.account_at-account-requires c).After-field_objection-objection in
-    found-stands c.args.book.now j.sound _ _ j.there
 
 pub overflow_sub-month : goal.overflow_sub-month
-overflow_sub-month c = ((let fact : Has c.args.s.now c.args.month c.args.band = let a = c.args in
-    has a.s.now a.month a.band (field-met _ _ _ _ (judged-here (goal.at.overflow_sub-month c).After-field_objection-objection)
-    c.if-objection-ne0.false) in fact)).month-from
+overflow_sub-month c =
+    let a = c.args in
+    (has c.in_ok-passed.passed.bytes.now a.month a.band (sym c.has_field.ensures ∙ c.if-not-has_field.false)).month-from
 
 pub overflow_sub-band : goal.overflow_sub-band
-overflow_sub-band c = ((let fact : Has c.args.s.now c.args.month c.args.band = let a = c.args in
-    has a.s.now a.month a.band (field-met _ _ _ _ (judged-here (goal.at.overflow_sub-band c).After-field_objection-objection)
-    c.if-objection-ne0.false) in fact)).band-from
-
-pub more_sun-addition-requires : goal.more_sun-addition-requires
-more_sun-addition-requires c =
+overflow_sub-band c =
     let a = c.args in
-    let z = c.if-objection-ne0.false in
-    record {
-      sheet_passed = passed _ _ _ _ (judged-here (goal.at.more_sun-addition-requires c).After-field_objection-objection) z;
-      field_stands = field-stands a.s.now a.month a.band (field-met _ _ _ _ (judged-here (goal.at.more_sun-addition-requires
-          c).After-field_objection-objection) z);
-    }
+    (has c.in_ok-passed.passed.bytes.now a.month a.band (sym c.has_field.ensures ∙ c.if-not-has_field.false)).band-from
+
+pub least_addition-requires : goal.least_addition-requires
+least_addition-requires c =
+    let a = c.args in
+    field-stands c.in_ok-passed.passed.bytes.now a.month a.band (sym c.has_field.ensures ∙ c.if-not-has_field.false)
 
 pub returns : goal.returns
 returns c =
-    let read = c.account_at-account in
-    let all = answers _ _ _ _ (judged-here (goal.at.returns c).After-field_objection-objection) c.if-objection-ne0.false
-    read.result read.ensures c.more_sun-addition.result c.more_sun-addition.ensures in record {
-      reply = all.0;
-      position = all.1.0;
-      addition = all.1.1;
+    let a = c.args in
+    let here = (goal.at.returns c).After-has_field in
+    let k = named (goal.at.returns c).After-passed-passed in
+    let stands = ap (λ (s : List ℕ). has_field s a.month a.band) (sym (same here)) ∙ sym c.has_field.ensures ∙ c.if-not-has_field.false in
+    let read = account-is a.book.now _ _ k _ c.account-account.ensures in
+    record {
+      reply = answered a.book.now a.sheet.now a.month a.band c.in_ok-formed.ensures.0 (named-some a.book.now _ _ k) (past here) k.sound stands;
+      position = untold a.sheet.now 0 refl;
+      addition = c.least_addition.ensures ∙ rw (same here, read);
     }

@@ -1,50 +1,28 @@
 -- By the look at the book, then by the user found.
-use native.Mathlib.Omega.{arith}
+use Rattle.std.proofs.Common.{rules, refl}
 use Rattle.call_rules.specs.Calls as calls
-use Rattle.call_answers.proofs.Answers.{damaged, refuses}
-use Rattle.call_statement.proofs.Stating.{leaves, unknown, known, known-user, sums-stated}
+use Rattle.call_answers.proofs.Answers.{damaged}
+use Rattle.call_answers.proofs.Named.{found-named, unknown}
+use Rattle.call_statement.proofs.Stating.{statement-order, stated, sums-stated}
 use Rattle.call_statement.proofs.statement.Goals as goal
 
-pub returns-then-reply-ne0 : goal.returns-then-reply-ne0
-returns-then-reply-ne0 c =
-    let a = c.args in
-    let some = c.if-reply-ne0.true in
-    let all = leaves a.book.now a.number.0 c.look-looked.result.reply some
-    (damaged a.book.now (calls.statement a.number.0) 0 c.look-looked.ensures some) c.no_statement.result c.no_statement.ensures in
-    record { reply = all.0; sums = all.1 }
+pub returns-in_err-_book-clause-reply : goal.returns-in_err-_book-clause-reply
+returns-in_err-_book-clause-reply c =
+    let h = damaged c.args.book.now (calls.statement c.args.number.0) 0 _ c.in_err-_book.ensures in
+    search rules
 
-pub returns-then-user-eq0 : goal.returns-then-user-eq0
-returns-then-user-eq0 c =
+pub returns-in_err-user-clause-reply : goal.returns-in_err-user-clause-reply
+unfolding calls.named_by
+returns-in_err-user-clause-reply c =
     let a = c.args in
-    let looked = c.look-looked.ensures in
-    let none = c.if-reply-ne0.false in
-    let reply = c.refused in
-    let all = leaves a.book.now a.number.0 reply.result (refuses 6 reply.result reply.ensures (omega arith))
-    (unknown a.book.now a.number.0 (looked.is-sound none) _ (looked.found none) c.if-user-eq0.true reply.result reply.ensures)
-    c.no_statement-then-user-eq0.result
-    c.no_statement-then-user-eq0.ensures in record { reply = all.0; sums = all.1 }
-
-pub invariant_of-statement_of : goal.invariant_of-statement_of
-invariant_of-statement_of c =
-    let a = c.args in
-    let looked = c.look-looked.ensures in
-    let none = c.if-reply-ne0.false in
-    record { length = (looked.is-sound none).fits; no_fault = (looked.is-sound none).is_sound }
-
-pub invariant_of-statement_of-2 : goal.invariant_of-statement_of-2
-invariant_of-statement_of-2 c =
-    let a = c.args in
-    let looked = c.look-looked.ensures in
-    let none = c.if-reply-ne0.false in
-    record { user_record = known-user a.book.now a.number.0 (looked.is-sound none) _ (looked.found none) c.if-user-eq0.false }
+    let look = c.in_ok-_book.ensures in
+    let gone = c.in_err-user.ensures in
+    let h = unknown a.book.now (calls.statement a.number.0) refl _ (statement-order a.book.now a.number.0) look.1.0 _ look.1.1 gone.ok_part _ gone.value 0 in
+    search rules
 
 pub returns : goal.returns
 returns c =
     let a = c.args in
-    let looked = c.look-looked.ensures in
-    let none = c.if-reply-ne0.false in record {
-      reply = known a.book.now a.number.0 (looked.is-sound none) _ (looked.found none)
-          c.if-user-eq0.false;
-      sums = sums-stated a.book.now a.number.0 (looked.is-sound none) _
-          (looked.found none) c.if-user-eq0.false c.statement_of.result c.statement_of.ensures;
-    }
+    let look = c.in_ok-_book.ensures in
+    let k = found-named a.book.now a.number.0 look.1.0 _ look.1.1 _ c.in_ok-user.ensures.ok_part in
+    record { reply = stated a.book.now a.number.0 k; sums = sums-stated a.book.now a.number.0 k c.statement_of.ensures }
