@@ -16,9 +16,10 @@ use units::Kwh;
 
 // 23: a month or a band that the reading does not have.
 fn has_field(sheet: PassedSheet<'_>, month: u32, band: u32) -> bool
-    ensures { result ≡ has_field sheet.bytes.now month band }
+    ensures { result ≡ has_field sheet.entry.bytes.now month band }
 {
-    let bands = sheet::injected_reading(sheet.bytes) == 1;
+    let bytes = sheet.bytes;
+    let bands = sheet::injected_reading(bytes) == 1;
     ((1 <= month) & (month <= 12)) & (((1 <= band) & (band <= 3)) & (bands | (band == 1)))
 }
 

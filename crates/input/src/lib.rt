@@ -75,6 +75,7 @@ fn read_into<R: io::Read>(from: &mut R, most: usize, bytes: &mut Vec<u8>) -> io:
     ensures retried { IfErr result (λ e. error_kind e ≢ ErrorKind.Interrupted) }
 {
     let mut left = most;
+    // No `for`: what is counted is the bytes that are left, and a read brings any number of them.
     while left > 0 {
         let count = read_piece(from, left, bytes)?;
         if count == 0 {
@@ -294,9 +295,7 @@ mod tests {
                 return Err(io::Error::from_raw_os_error(5));
             }
             let count = self.most.min(buf.len()).min(self.rest.len());
-            for k in 0..count {
-                buf[k] = self.rest[k];
-            }
+            buf[..count].copy_from_slice(&self.rest[..count]);
             self.rest = &self.rest[count..];
             Ok(count)
         }

@@ -77,7 +77,8 @@ const LONGEST_BOOK: usize = 65_536;
 
 const LONGEST_LINE: usize = 4 + 1 + 2 * LONGEST_BOOK;
 
-// The largest numbers of the widths that the exported interface has.
+// The largest numbers of the widths that the exported interface has. What `arguments` lets through is cast to its width by `as`: a
+// `try_from` would have a failure that no number meets.
 const MOST8: u64 = 255;
 
 const MOST16: u64 = 65_535;

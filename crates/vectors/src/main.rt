@@ -13,7 +13,7 @@ use text::Hex;
 
 const USAGE: &str = "give values, table1, verdicts or listings, and the lines on standard input";
 
-// The longest word that names a question has fewer bytes.
+// The longest word that names a question has fewer bytes. An argument is read into lent bytes, which std wants sized.
 const WORD: usize = 16;
 
 // More bytes are not read of a sheet or of a book: none has so many.
