@@ -72,7 +72,7 @@ fn book_run(book: &mut [u8], user: RecordIndex, account: Account, year: u32, run
     call_writes::write_entry(book, user, after.withheld(withheld), entry);
 }
 
-/// Books an advance of a user, and answers what the run pays.
+/// Books an advance of a user, and answers what the run pays. Rate and estimates one by one, as the theorem names a call's arguments.
 pub fn advance(
     book: &mut [u8],
     number: UserNumber,

@@ -9,7 +9,7 @@ use calendar::Day;
 use refusals::Refusal;
 use units::UserNumber;
 
-/// Sets the option of a user's open year and those after it.
+/// Sets the option of a user's open year and those after it. Year, month and day one by one, as the theorem names a call's arguments.
 pub fn elect(
     book: &mut [u8],
     number: UserNumber,

@@ -23,7 +23,7 @@ use units::{
     WideKwh,
 };
 
-// The last year that a run or a closing may name: "9 .. above 2099", "12 .. above 2099".
+// The last year that a run or a closing may name: "9 .. above 2099", "12 .. above 2099". A cast, since `From` is not const.
 const LAST_YEAR: u32 = LAST_ACTIVATION as u32;
 
 const MAX_ESTIMATE: u64 = MAX_HALF_KWH as u64;
@@ -46,6 +46,7 @@ impl Order {
     }
 }
 
+// Of any bytes, since the order has it last: it is asked while the call still only reads. The tests below are `&` and `|`, as the rules are.
 #[tactic(auto, unfolding(call_rules::specs::Refusals::has_room))]
 pub fn has_room(book: &[u8]) -> bool
     ensures { result ≡ has_room book.now }

@@ -1,4 +1,5 @@
-// What an accepted call writes into the book: whole records, one after the other (document 01, "Book").
+// What an accepted call writes into the book: whole records, one after the other (document 01, "Book"). What is asked of the book
+// stays in `requires`: it holds of the bytes before the write, which no view outlives. Three functions, since each call makes one change.
 #![tactic(auto)]
 
 ghost use Rattle.std.specs.Prelude.{◌≡◌, ◌+◌, ◌*◌, ◌≤◌, ◌<◌, ◌^◌, length};

@@ -13,10 +13,10 @@ use Rattle.call_more_sun.specs.Asked.{has_field}
 use Rattle.call_more_sun.proofs.Asking.{damaged, objected, unformed, absent, by-fault, no-field, answered}
 use Rattle.call_more_sun.proofs.Fields.{has, field-stands}
 use Rattle.call_more_sun.proofs.more_sun.Goals as goal
-use Rattle.call_more_sun.proofs.more_sun.Goals.{After-passed-passed}
+use Rattle.call_more_sun.proofs.more_sun.Goals.{After-passed, After-has_field}
 
 -- the user that the book shows
-named : (c : goal.After-passed-passed) → Named c.args.book.now (sheet_user c.args.sheet.now) c.in_ok-user.user
+named : (c : goal.After-passed) → Named c.args.book.now (sheet_user c.args.sheet.now) c.in_ok-user.user
 named c =
     let look = c.in_ok-_book.ensures in
     let k = found-named c.args.book.now _ look.1.0 _ look.1.1 _ c.in_ok-user.ensures.ok_part in
@@ -67,16 +67,16 @@ returns-in_err-user-clause-position c =
 pub returns-in_err-passed-clause-reply : goal.returns-in_err-passed-clause-reply
 returns-in_err-passed-clause-reply c =
     let a = c.args in
-    let k = named (goal.at.returns-in_err-passed-clause-reply c).After-passed-passed in
+    let k = named (goal.at.returns-in_err-passed-clause-reply c).After-passed in
     let formed = c.in_ok-formed.ensures in
-    let fault = subst (λ (x : List ℕ). Faulted x _) formed.1 c.in_err-passed.ensures in
+    let fault = subst (λ (x : List ℕ). Faulted x c.in_err-passed.field-0.0) formed.1 c.in_err-passed.ensures in
     let h = objected a.book.now a.sheet.now a.month a.band k.sound _
     (by-fault a.book.now a.sheet.now a.month a.band formed.0 (named-some a.book.now _ _ k) _ fault) in
     search rules
 
 pub returns-in_err-passed-clause-position : goal.returns-in_err-passed-clause-position
 returns-in_err-passed-clause-position c =
-    let fault = subst (λ (x : List ℕ). Faulted x _) c.in_ok-formed.ensures.1 c.in_err-passed.ensures in
+    let fault = subst (λ (x : List ℕ). Faulted x c.in_err-passed.field-0.0) c.in_ok-formed.ensures.1 c.in_err-passed.ensures in
     let h = fault.tells in
     search rules
 
@@ -91,7 +91,7 @@ pub returns-then-not-has_field : goal.returns-then-not-has_field
 returns-then-not-has_field c =
     let a = c.args in
     let here = (goal.at.returns-then-not-has_field c).After-has_field in
-    let k = named (goal.at.returns-then-not-has_field c).After-passed-passed in
+    let k = named (goal.at.returns-then-not-has_field c).After-passed in
     let gone = ap (λ (s : List ℕ). has_field s a.month a.band) (sym (same here)) ∙ sym c.has_field.ensures ∙ c.if-not-has_field.true in
     record {
       reply = objected a.book.now a.sheet.now a.month a.band k.sound NoSuchField
@@ -113,13 +113,13 @@ overflow_sub-band c =
 pub least_addition-requires : goal.least_addition-requires
 least_addition-requires c =
     let a = c.args in
-    field-stands c.in_ok-passed.passed.bytes.now a.month a.band (sym c.has_field.ensures ∙ c.if-not-has_field.false)
+    record { field_stands = field-stands c.in_ok-passed.passed.bytes.now a.month a.band (sym c.has_field.ensures ∙ c.if-not-has_field.false) }
 
 pub returns : goal.returns
 returns c =
     let a = c.args in
     let here = (goal.at.returns c).After-has_field in
-    let k = named (goal.at.returns c).After-passed-passed in
+    let k = named (goal.at.returns c).After-passed in
     let stands = ap (λ (s : List ℕ). has_field s a.month a.band) (sym (same here)) ∙ sym c.has_field.ensures ∙ c.if-not-has_field.false in
     let read = account-is a.book.now _ _ k _ c.account-account.ensures in
     record {
