@@ -46,7 +46,7 @@ impl Order {
     }
 }
 
-// Of any bytes, since the order has it last: it is asked while the call still only reads. The tests below are `&` and `|`, as the rules are.
+// Of any bytes, since the order has it last: it is asked while a call still only reads. The tests below are `&` and `|`, as the rules are.
 #[tactic(auto, unfolding(call_rules::specs::Refusals::has_room))]
 pub fn has_room(book: &[u8]) -> bool
     ensures { result ≡ has_room book.now }
