@@ -1,4 +1,3 @@
 pub mod Places
 pub mod Cells
 pub mod ByteRanges
-pub mod Named

@@ -5,7 +5,7 @@ use mathlib.Core.Path.{◌≡◌, sym, ap, ◌∙◌}
 use mathlib.Core.List.{List}
 use native.Mathlib.Decide.{dec_le, dec_lt}
 use native.Mathlib.Omega.{arith}
-use lib.ListN.{length, get_or, take, drop, length-take, length-drop, drop_of_length-le}
+use lib.ListN.{length, get_or, take, drop, length-drop, drop_of_length-le}
 use lib.Seq.{take_all, get_or-take, get_or-drop}
 use Rattle.units.specs.Limits.{record_length}
 use Rattle.codec.specs.Bytes.{part, number, stored}
@@ -40,10 +40,6 @@ part-clipped w at s = by_order (dec_le (at + w) (length s))
         take_all (min (at + w) (length s) - min at (length s)) (drop (min at (length s)) s) (rw length-drop (omega (arith, h)))
         ∙ drop-clipped at s
         ∙ sym (take_all w (drop at s) (rw length-drop (omega (arith, h))))
-
-pub length-record : (b : List ℕ) (i : ℕ) → record_length * i + record_length ≤ length b → length (record_at b i) ≡ record_length
-unfolding record_at part
-length-record b i h = simp (length-take, length-drop) (omega arith)
 
 pub length-put : (i : ℕ) (r b : List ℕ) → length r ≡ record_length → record_length * i + record_length ≤ length b
     → length (put_record i r b) ≡ length b

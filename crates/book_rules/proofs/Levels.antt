@@ -1,5 +1,5 @@
 -- What stands in order: the end in the activation year, or an entry whose level, with the year that it ends, is due.
-use Prim.Native.Nat.{ℕ, ◌+◌, ◌≤◌}
+use Prim.Native.Nat.{ℕ, ◌+◌}
 use mathlib.Core.Path.{◌≡◌, sym, ◌∙◌}
 use mathlib.Core.Bool.{true, false, ◌&&◌, or-true}
 use mathlib.Core.Logic.{◌⊎◌, inl, inr}
@@ -8,14 +8,9 @@ use native.Mathlib.Omega.{arith}
 use native.Mathlib.Nat.{add-zero}
 use borrow.Author.Tests.{eq-eqb, ne_eqb}
 use lib.Dec.{eqb}
-use Rattle.units.proofs.Bools.{cond-capped}
 use Rattle.book_layout.specs.Fields.{advance_kind, closing_kind}
 use Rattle.book_rules.specs.Book.{kind_at, is_entry, is_closing, keeps_year, level_of, years_ended, in_order}
 use Rattle.book_rules.proofs.RecordKinds.{kind-is, entry-index, year-cases}
-
-pub ended-small : (kind : ℕ) → years_ended kind ≤ 1
-unfolding years_ended
-ended-small kind = cond-capped (eqb kind closing_kind) (omega arith) (omega arith)
 
 module _ (b : List ℕ) (e : ℕ) where
   kept-level : keeps_year b e ≡ true → level_of b e + years_ended (kind_at b e) ≡ level_of b e

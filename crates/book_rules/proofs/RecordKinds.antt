@@ -12,7 +12,7 @@ use Rattle.book_layout.specs.Fields.{user_kind, advance_kind, closing_kind}
 use Rattle.book_rules.specs.Book.{used, kind_at, has_kind, is_user, is_advance, is_closing, entry_kind, is_entry, keeps_year}
 
 -- of a record below u the kind decides
-pub kind-decides : (b : List ℕ) (kind i : ℕ) → 1 ≤ i → i < used b → has_kind b kind i ≡ eqb (kind_at b i) kind
+kind-decides : (b : List ℕ) (kind i : ℕ) → 1 ≤ i → i < used b → has_kind b kind i ≡ eqb (kind_at b i) kind
 unfolding has_kind
 kind-decides b kind i p h = rw (lt-ltb 0 i p, lt-ltb i (used b) h)
 

@@ -9,8 +9,8 @@ ghost use Rattle.book_rules.specs.Book.{length_fits, used, used_fits, good_head,
 ghost use Rattle.check_pass.specs.InnerSteps.{first_due, due_behind, UserLeads, EntryLeads, KeptRecord, last_met, Tables, KeptAfter};
 ghost use Rattle.check_pass.specs.InnerSteps.{Followed, BrokenFirst, PassedThrough};
 
-use book_layout::{Record, field, place};
 use book_layout::kind::Kind;
+use book_layout::{Record, field, place};
 use book_view::{HeadedBook, UsedBook};
 use check_numbers::PLACES;
 use units::{MOST_RECORDS, RecordIndex, UserNumber};

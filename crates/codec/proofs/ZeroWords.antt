@@ -9,7 +9,6 @@ use lib.Dec.{eqb}
 use lib.ListN.{get_or, take, drop}
 use Rattle.std.specs.Simd.{first_chunks}
 use Rattle.std.proofs.lemmas.List.{drop-drop}
-use Rattle.units.specs.Folds.{all_below}
 use Rattle.units.proofs.Folds.{all-at, all_of}
 use Rattle.codec.specs.Bytes.{little_endian, number, part, zeros}
 use Rattle.codec.proofs.Numbers.{table, number-bytes, number-part}

@@ -1,5 +1,5 @@
 -- By words, and then byte by byte, what stands within the string is zero.
-use Rattle.std.proofs.Common.{◌∙◌, ◌≡◌, ◌+◌, ◌*◌, ◌/◌, ◌%◌, ◌-◌, ◌<◌, ◌≤◌, ℕ, List, length, arith, ap, sym, length-take, length-drop}
+use Rattle.std.proofs.Common.{◌∙◌, ◌≡◌, ◌+◌, ◌*◌, ◌/◌, ◌-◌, ◌<◌, ◌≤◌, ℕ, List, length, arith, ap, length-take, length-drop}
 use lib.ListN.{get_or, take, drop}
 use Rattle.std.proofs.lemmas.List.{get_or-take, get_or-drop}
 use Rattle.codec.specs.Bytes.{zeros}
@@ -35,8 +35,8 @@ loop-b-preserved c =
     let room : n / 8 * 8 + b < n = omega (arith, bytes, c.loop-b-test.true) in
     let next : n / 8 * 8 + b + 1 ≡ n / 8 * 8 + (b + 1) = omega arith in
     let byte : get_or c.as_chunks.result.1.now b 0 ≡ get_or c.args.s.now (c.min-first.result + (n / 8 * 8 + b)) 0 =
-        rw back (get_or-drop (n / 8 * 8) (take n (drop c.min-first.result c.args.s.now)) b 0
-        ∙ get_or-take n _ (n / 8 * 8 + b) 0 room ∙ get_or-drop c.min-first.result c.args.s.now (n / 8 * 8 + b) 0) in
+    rw back (get_or-drop (n / 8 * 8) (take n (drop c.min-first.result c.args.s.now)) b 0
+    ∙ get_or-take n _ (n / 8 * 8 + b) 0 room ∙ get_or-drop c.min-first.result c.args.s.now (n / 8 * 8 + b) 0) in
     zeros_next c.min-first.result (n / 8 * 8 + b) c.args.s.now c.loop-b.invariant byte
     ∙ ap (λ (k : ℕ). zeros c.min-first.result k c.args.s.now) next
 
