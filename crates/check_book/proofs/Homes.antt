@@ -3,18 +3,14 @@
 -- before `bad` was judged.
 use Prim.Native.Nat.{ℕ, ◌+◌, ◌-◌, ◌≤◌, ◌<◌}
 use mathlib.Core.Path.{◌≡◌, refl, sym, ◌∙◌}
-use mathlib.Core.Bool.{Bool, true, false, cond, not, ◌&&◌, true≢false, false≢true}
-use mathlib.Core.Logic.{◌⊎◌, inl, inr}
+use mathlib.Core.Bool.{Bool, true, false, ◌&&◌, true≢false, false≢true}
 use mathlib.Core.List.{List}
-use Rattle.std.proofs.Common.{Option, Some, None, IfSome, MatchOption}
-use Rattle.std.proofs.lemmas.Option.{IfSome_then}
+use Rattle.std.proofs.Common.{Option, Some, None, IfSome}
 use Rattle.units.specs.declared.RecordIndex.{RecordIndex}
 use Rattle.units.specs.Units.{record_index}
-use native.Mathlib.Decide.{dec_lt, ℕ_discrete}
+use native.Mathlib.Decide.{dec_lt}
 use native.Mathlib.Omega.{arith}
 use borrow.Author.Count.{below_more}
-use borrow.Author.Tests.{eq-eqb, ne_eqb, ltb-false}
-use lib.Dec.{eqb, ltb}
 use Rattle.units.proofs.Bools.{and_left, and_right}
 use Rattle.book_layout.specs.Fields.{user_kind}
 use Rattle.book_rules.specs.Book.{used, is_user, is_entry, owner_of, owner_fits, good_record}
@@ -106,32 +102,12 @@ pub record EntriesMet (b : List ℕ) (bad user : ℕ) (next : Option RecordIndex
   pub fine : (k : ℕ) → user < k → owns b user k ≡ true → IfSome next (λ i. k < i.0) → Fine b bad k
   pub here : IfSome next (λ i. owns b user i.0 ≡ true)
 
--- no entry of the user is before the next one
-not_before : (next : Option RecordIndex) (k : ℕ) → MatchOption next ⊥ (λ i. i.0 ≤ k) → IfSome next (λ i. k < i.0) → ⊥
-not_before None k n l = n
-not_before (Some i) k n l = omega (arith, n, l)
-
-pub entries_none : (b : List ℕ) (bad user : ℕ) (next : Option RecordIndex) → NextOwned b user 0 next → EntriesMet b bad user next
-entries_none b bad user next first =
-    record {
-      fine = λ k p q d. absurd (not_before next k (first.none_before k (omega arith) q) d);
-      here = IfSome_then next first.here (λ i h. h.0);
-    }
-
 module _ (b : List ℕ) (bad user e : ℕ) (met : EntriesMet b bad user (Some (record_index e))) where
   pub entry_here : is_entry b e ≡ true
   entry_here = owns-entry b user e met.here
 
   pub entry_place : (1 ≤ e) × (e < used b)
   entry_place = entry-index b e entry_here
-
-  pub entries_next : {next : Option RecordIndex} → NextOwned b user (e + 1) next → good_record b e ≡ true → EntriesMet b bad user next
-  entries_next {next} later g = record { fine = λ k p q d. by_place k p q d (dec_lt k e) (dec_lt e k); here = IfSome_then next later.here (λ i h. h.0) }
-    where
-      by_place : (k : ℕ) → user < k → owns b user k ≡ true → IfSome next (λ i. k < i.0) → Dec (k < e) → Dec (e < k) → Fine b bad k
-      by_place k p q d (yes under) t = met.fine k p q under
-      by_place k p q d (no n) (yes over) = absurd (not_before next k (later.none_before k (omega arith) q) d)
-      by_place k p q d (no n) (no m) = λ _. let same : k ≡ e = omega (arith, n, m) in rw same g
 
   -- the entries are left at e: it is the smallest faulty one, or `bad` stands before it
   pub entries-left : (sooner : ℕ) → sooner ≤ bad → sooner ≤ e → (k : ℕ) → user < k → owns b user k ≡ true → Fine b sooner k
@@ -169,7 +145,8 @@ unfoldable pub ahead : ℕ → Option RecordIndex → ℕ
 ahead records None = 0
 ahead records (Some i) = records - i.0
 
-pub ahead-less : (b : List ℕ) (user records e : ℕ) (next : Option RecordIndex) → records ≡ used b → e < used b → NextOwned b user (e + 1) next → ahead records next < ahead records (Some (record_index e))
+pub ahead-less : (b : List ℕ) (user records e : ℕ) (next : Option RecordIndex) → records ≡ used b → e < used b
+    → NextOwned b user (e + 1) next → ahead records next < ahead records (Some (record_index e))
 unfolding ahead
 ahead-less b user records e None all under later = omega arith
 ahead-less b user records e (Some i) all under later =

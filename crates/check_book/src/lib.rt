@@ -117,7 +117,7 @@ fn pass(book: &[u8], number: UserNumber) -> Result<Option<RecordIndex>, Refusal>
 }
 
 // The user that was found in a sound book, as one of its users.
-#[tactic(auto, using(check_lookup::proofs::Search::found_index, check_lookup::proofs::Search::found_is_user, check_lookup::proofs::Search::found_nobody))]
+#[tactic(auto, using(check_lookup::proofs::Search::found))]
 fn user_in<'a>(
     book: SoundBook<'a>,
     number: UserNumber,

@@ -47,9 +47,9 @@ unfolding found_user
 found_nowhere b n left s l = rw (s.same, found_none b n left l)
 
 -- the record that is found, or the head where none is
-found_or_none : (b : List ℕ) (n : ℕ) → unwrap_or (found_user b n) (record_index 0) ≡ record_index (find_user b n)
+found-or-none : (b : List ℕ) (n : ℕ) → unwrap_or (found_user b n) (record_index 0) ≡ record_index (find_user b n)
 unfolding found_user
-found_or_none b n = by_value (ℕ_discrete (find_user b n) 0)
+found-or-none b n = by_value (ℕ_discrete (find_user b n) 0)
   where
     by_value : Dec (find_user b n ≡ 0) → unwrap_or (cond (eqb (find_user b n) 0) None (Some (record_index (find_user b n)))) (record_index 0) ≡ record_index (find_user b n)
     by_value (yes z) = rw z
@@ -60,8 +60,8 @@ unfolding found_user
 none-found b n z = rw z
 
 -- where no record is found the search ends at the head
-pub found_nobody : (b : List ℕ) (n : ℕ) → None ≡ found_user b n → find_user b n ≡ 0
-found_nobody b n none = sym (ap (λ (i : RecordIndex). i.0) (ap (λ (o : Option RecordIndex). unwrap_or o (record_index 0)) none ∙ found_or_none b n))
+found-nobody : (b : List ℕ) (n : ℕ) → None ≡ found_user b n → find_user b n ≡ 0
+found-nobody b n none = sym (ap (λ (i : RecordIndex). i.0) (ap (λ (o : Option RecordIndex). unwrap_or o (record_index 0)) none ∙ found-or-none b n))
 
 -- what is found is a user
 below-user : (b : List ℕ) (n k : ℕ) → (find_below b n k ≡ 0 → ⊥) → is_user b (find_below b n k) ≡ true
@@ -75,11 +75,14 @@ below-user b n (suc k) some = by_value (is_user b k && eqb (number_of b k) n) re
     by_value false e rest some = rest some
 
 module _ (b : List ℕ) (n : ℕ) (i : RecordIndex) (found : Some i ≡ found_user b n) where
-  pub found_index : i ≡ record_index (find_user b n)
-  found_index = ap (λ (o : Option RecordIndex). unwrap_or o (record_index 0)) found ∙ found_or_none b n
+  found-index : i ≡ record_index (find_user b n)
+  found-index = ap (λ (o : Option RecordIndex). unwrap_or o (record_index 0)) found ∙ found-or-none b n
 
-  pub found_is_user : is_user b i.0 ≡ true
+  found-is-user : is_user b i.0 ≡ true
   unfolding find_user
-  found_is_user =
+  found-is-user =
       let some : find_user b n ≡ 0 → ⊥ = λ z. true≢false (ap is_some (found ∙ none-found b n z)) in
-      rw found_index (below-user b n (used b) some)
+      rw found-index (below-user b n (used b) some)
+
+-- for searches: the record that is found is the user's, or there is none
+pub ruleset found = (found-index, found-is-user, found-nobody)

@@ -273,7 +273,8 @@ module _ (b : List ℕ) {wanted left expected : ℕ} {found : Option RecordIndex
         }
 
 -- all records but the head are met
-pub descended : (b : List ℕ) {wanted left expected : ℕ} {found : Option RecordIndex} {dues : List (Option Due)} {seen : List ℕ} → left ≤ 1 → Descended b wanted left expected found dues seen → expected ≡ 0
+pub descended : (b : List ℕ) {wanted left expected : ℕ} {found : Option RecordIndex} {dues : List (Option Due)} {seen : List ℕ} → left ≤ 1
+    → Descended b wanted left expected found dues seen → expected ≡ 0
     → used_fits b ≡ true → all_zero unnamed_of_head (record_at b 0) ≡ true → sound b ≡ true
 descended b l s e fits rest =
     let p = s.place in

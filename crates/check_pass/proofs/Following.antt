@@ -10,7 +10,7 @@ use Rattle.book_rules.specs.Book.{used, used_fits, first_user, own_rules_fit, go
 use Rattle.book_rules.proofs.Faults.{used-within}
 use Rattle.check_numbers.specs.InnerHeld.{Inserted}
 use Rattle.check_pass.specs.declared.Due.{Due}
-use Rattle.check_pass.specs.InnerSteps.{due_of, due_behind, UserLeads, EntryLeads, KeptUser, KeptEntry, last_met, Tables, KeptAfter, Joined}
+use Rattle.check_pass.specs.InnerSteps.{due_of, due_behind, UserLeads, EntryLeads, KeptUser, KeptEntry, last_met, Tables, Joined}
 use Rattle.check_pass.proofs.Descended.{Descended, started, user-met, entry-met, descended, searched}
 
 pub record Following (b : List ℕ) (n records places left expected : ℕ) (found : Option RecordIndex) (dues : List (Option Due)) (seen : List ℕ) : Type 0 where
@@ -37,12 +37,8 @@ module _ (b : List ℕ) {n records places left expected : ℕ} {found : Option R
   pub inside : index < used b
   inside = let w = s.within in omega arith
 
-  pub placed : used b ≤ records → index < length dues
+  placed : used b ≤ records → index < length dues
   placed room = let size = s.dues-size in let i = inside in omega arith
-
-  -- the chains are left at it
-  pub left-at : KeptAfter b index
-  left-at = record { to = inside; own = λ i from to. s.own i (omega arith) to }
 
   module _ (lo : 1 ≤ index) (own : own_rules_fit b index ≡ true) where
     own-here : (i : ℕ) → index ≤ i → i < used b → own_rules_fit b i ≡ true
@@ -89,6 +85,3 @@ module _ (b : List ℕ) {n records places left expected : ℕ} {found : Option R
         is_sound = descended b end s.chains z u (and_right _ (all_zero unnamed_of_head (record_at b 0)) g);
         found = searched b end found s.chains.sought;
       }
-
-  pub unended : KeptAfter b 0
-  unended = let lo = s.chains.some in let w = s.within in record { to = omega arith; own = λ i from to. s.own i (omega arith) to }

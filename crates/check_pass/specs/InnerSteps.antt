@@ -1,7 +1,8 @@
 -- What the pass keeps of each user, and what it tests where it meets a record.
-use Rattle.std.specs.Prelude.{ℕ, ◌+◌, ◌≤◌, ◌<◌, ◌≡◌, true, false, cond, Option, Some, None, Result, MatchResult, unwrap_or, List, eqb, length, get_or}
-use Rattle.book_layout.specs.Fields.{get, kind_field, next_field, first_entry_field, activation_year_field, open_year_field, number_field, owner_field, user_kind}
-use Rattle.book_layout.specs.Fields.{record_at}
+use Rattle.std.specs.Prelude.{ℕ, ◌+◌, ◌≤◌, ◌<◌, ◌≡◌, true, false, cond, eqb, List, length, get_or}
+use Rattle.std.specs.Prelude.{Option, Some, None, unwrap_or, Result, MatchResult}
+use Rattle.book_layout.specs.Fields.{get, record_at, kind_field, next_field, number_field, owner_field, user_kind}
+use Rattle.book_layout.specs.Fields.{first_entry_field, activation_year_field, open_year_field}
 use Rattle.units.specs.declared.RecordIndex.{RecordIndex}
 use Rattle.units.specs.Units.{record_index}
 use Rattle.book_rules.specs.Book.{used, level_in, years_ended, own_rules_fit, good_record, sound}

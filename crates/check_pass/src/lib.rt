@@ -2,10 +2,10 @@
 // whether the chains lead to every record, and finds the user with a number on its way.
 #![tactic(auto)]
 
-ghost use Rattle.std.specs.Prelude.{◌≡◌, true, false, ◌≤◌, ◌<◌, MatchOption, MatchResult, length};
+ghost use Rattle.std.specs.Prelude.{◌≡◌, true, false, ◌≤◌, ◌<◌, MatchOption};
 ghost use Rattle.units.specs.Limits.{most_records};
 ghost use Rattle.check_numbers.specs.InnerHeld.{places};
-ghost use Rattle.book_rules.specs.Book.{length_fits, used, used_fits, good_head, good_record};
+ghost use Rattle.book_rules.specs.Book.{used, good_record};
 ghost use Rattle.check_pass.specs.InnerSteps.{first_due, due_behind, UserLeads, EntryLeads, KeptRecord, last_met, Tables, KeptAfter};
 ghost use Rattle.check_pass.specs.InnerSteps.{Followed, BrokenFirst, PassedThrough};
 

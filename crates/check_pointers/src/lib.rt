@@ -3,7 +3,7 @@
 // more than a book can have.
 #![tactic(auto)]
 
-ghost use Rattle.std.specs.Prelude.{◌≡◌, true, ℕ, ◌+◌, ◌≤◌, ◌<◌, get_or, length};
+ghost use Rattle.std.specs.Prelude.{◌≡◌, ℕ, ◌≤◌, ◌<◌, get_or, length};
 ghost use Rattle.units.specs.Limits.{most_records};
 ghost use Rattle.book_rules.specs.Book.{pointers_to, used};
 ghost use Rattle.check_pointers.specs.InnerPointers.{PointerCounted};

@@ -106,7 +106,6 @@ fn follows(r: &[u8], owner: RecordIndex, level: u16) -> bool
 }
 
 // Owner, next and order together: each of the records that they name is read once, and only where its index is below the entry's.
-#[tactic(auto, unfolding(book_rules::specs::Book::owner_fits, book_rules::specs::Book::entry_next_fits, book_rules::specs::Book::next_in_order, book_rules::specs::Book::in_order, book_rules::specs::Book::has_kind, book_rules::specs::Book::is_entry, book_rules::specs::Book::kind_at, book_rules::specs::Book::owner_of, book_rules::specs::Book::next_of, book_rules::specs::Book::level_of, book_rules::specs::Book::activation_of, book_rules::specs::Book::entry_kind, crate::specs::InnerFollows::follows_entry))]
 fn entry_links_fit(book: UsedBook<'_>, index: RecordIndex) -> bool
     requires index_bound { index.0 < used book.bytes.now }
     ensures { result ≡ ((owner_fits book.entry.bytes.now index.0 && entry_next_fits book.entry.bytes.now index.0)

@@ -1,5 +1,5 @@
 -- Every index before this one has had its turn: what it has seen is good, or not before `bad`.
-use Rattle.std.proofs.Common.{◌≡◌, ℕ, ◌≤◌, ◌<◌, true, Option, Some, None, unwrap_or, refl, sym, ap, ◌∙◌, rules, arith}
+use Rattle.std.proofs.Common.{◌≡◌, ℕ, ◌<◌, true, Option, Some, None, unwrap_or, refl, sym, ap, ◌∙◌, rules, arith}
 use Rattle.units.specs.declared.RecordIndex.{RecordIndex}
 use Rattle.units.specs.declared.UserNumber.{UserNumber}
 use Rattle.units.specs.Units.{record_index}
@@ -13,8 +13,10 @@ use Rattle.check_book.proofs.SeenNumbers.{has-number, seen_none, seen-new}
 use Rattle.check_book.proofs.Turns.{user-turn, other-turn, searched}
 use Rattle.check_book.proofs.faulty_record.Goals as goal
 use Rattle.check_book.proofs.faulty_record.Goals.{In-Some, then-is_user+else-not-good_record+in-Some+then-bad-e}
-use Rattle.check_book.proofs.faulty_record.Goals.{then-is_user+else-not-good_record+in-Some+else-bad-e+then-not-good_record-2, then-is_user+else-not-good_record+in_default, else-is_user+else-not-owned}
-use Rattle.check_book.proofs.faulty_record.Goals.{else-users-test, then-users-test+then-i-bad, then-users-test+else-i-bad+then-is_user+then-not-good_record, then-users-test+else-i-bad+else-is_user+then-not-owned}
+use Rattle.check_book.proofs.faulty_record.Goals.{then-is_user+else-not-good_record+in-Some+else-bad-e+then-not-good_record-2}
+use Rattle.check_book.proofs.faulty_record.Goals.{then-is_user+else-not-good_record+in_default, else-is_user+else-not-owned}
+use Rattle.check_book.proofs.faulty_record.Goals.{else-users-test, then-users-test+then-i-bad}
+use Rattle.check_book.proofs.faulty_record.Goals.{then-users-test+else-i-bad+then-is_user+then-not-good_record, then-users-test+else-i-bad+else-is_user+then-not-owned}
 
 -- where no record breaks a rule by itself, the search goes to the end
 unwrapped : (n : ℕ) (o : Option RecordIndex) → (unwrap_or o (record_index n)).0 ≡ index_or n o
@@ -90,21 +92,24 @@ users-preserved c =
           let e = w.in-Some.field-0.0 in
           let met : EntriesMet b bad i (Some w.in-Some.field-0) = rw w.in-Some.is at w.entries.invariant.1 in
           rw (w.seen-is, w.all_seen-is, w.bad-is, w.entries.invariant.0)
-          (user-turn b s (user ∙ w.if-is_user.true) (sym w.good_record.ensures ∙ w.if-not-good_record.false) (ap (λ (n : UserNumber). n.0) w.number_of.ensures) w.insert-all_seen.result w.insert-all_seen.ensures
+          (user-turn b s (user ∙ w.if-is_user.true) (sym w.good_record.ensures ∙ w.if-not-good_record.false)
+          (ap (λ (n : UserNumber). n.0) w.number_of.ensures) w.insert-all_seen.result w.insert-all_seen.ensures
           bad (omega arith) below s.is (entries-left b bad i e met bad (omega arith) (omega (arith, w.if-bad-e.true, w.entries.invariant.0))))
       | then-is_user+else-not-good_record+in-Some+else-bad-e+then-not-good_record-2 w ↦
           let e = w.in-Some.field-0.0 in
           let met : EntriesMet b bad i (Some w.in-Some.field-0) = rw w.in-Some.is at w.entries.invariant.1 in
           let at = entry_place b bad i e met in
           rw (w.seen-is, w.all_seen-is, w.bad-is)
-          (user-turn b s (user ∙ w.if-is_user.true) (sym w.good_record.ensures ∙ w.if-not-good_record.false) (ap (λ (n : UserNumber). n.0) w.number_of.ensures) w.insert-all_seen.result w.insert-all_seen.ensures
+          (user-turn b s (user ∙ w.if-is_user.true) (sym w.good_record.ensures ∙ w.if-not-good_record.false)
+          (ap (λ (n : UserNumber). n.0) w.number_of.ensures) w.insert-all_seen.result w.insert-all_seen.ensures
           e (omega (arith, w.if-bad-e.false, w.entries.invariant.0)) (entry-after b bad i e s.homes (user ∙ w.if-is_user.true) met.here)
           (bad-here b e at.0 at.1 (sym w.good_record-in-Some.ensures ∙ w.if-not-good_record-2.true))
           (entries-left b bad i e met e (omega (arith, w.if-bad-e.false, w.entries.invariant.0)) (omega arith)))
       | then-is_user+else-not-good_record+in_default w ↦
           let none : w.entries.next ≡ None = search rules in
           rw (w.seen-is, w.all_seen-is, w.bad-is, w.entries.invariant.0)
-          (user-turn b s (user ∙ w.if-is_user.true) (sym w.good_record.ensures ∙ w.if-not-good_record.false) (ap (λ (n : UserNumber). n.0) w.number_of.ensures) w.insert-all_seen.result w.insert-all_seen.ensures
+          (user-turn b s (user ∙ w.if-is_user.true) (sym w.good_record.ensures ∙ w.if-not-good_record.false)
+          (ap (λ (n : UserNumber). n.0) w.number_of.ensures) w.insert-all_seen.result w.insert-all_seen.ensures
           bad (omega arith) below s.is (entries-all b bad i (rw none at w.entries.invariant.1)))
       | else-is_user+else-not-owned w ↦
           rw (w.seen-is, w.all_seen-is, w.bad-is) (other-turn b s (user ∙ w.if-is_user.false) (sym w.owned.ensures ∙ w.if-not-owned.false) below)

@@ -1,5 +1,5 @@
 -- Every index before this one has had its turn: what it has seen is good, or not before `bad`.
-use Rattle.std.proofs.Common.{◌≡◌, ℕ}
+use Rattle.std.proofs.Common.{◌≡◌}
 use Rattle.check_book.proofs.Homes.{EntriesMet, ahead}
 use Rattle.check_book.proofs.Turns.{UsersMet}
 use Rattle.check_book.proofs.faulty_record.Given as goal

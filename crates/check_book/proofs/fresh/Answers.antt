@@ -1,5 +1,5 @@
 -- All bytes are zero, then the first is one.
-use Rattle.std.proofs.Common.{◌≡◌, ℕ, zero, suc, ◌-◌, ◌≤◌, true, false, List, length, set, replicate, refl, sym, ap, ◌∙◌, arith}
+use Rattle.std.proofs.Common.{◌≡◌, ℕ, zero, suc, ◌-◌, ◌≤◌, true, false, List, length, set, replicate, sym, ap, ◌∙◌, arith}
 use Rattle.book_rules.specs.Book.{length_fits, fresh_book}
 use Rattle.book_rules.proofs.Lengths.{length-least}
 use Rattle.check_book.specs.Verdicts.{fresh_answer, fresh_after}

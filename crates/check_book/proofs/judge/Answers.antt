@@ -1,5 +1,5 @@
 -- The records, then the user.
-use Rattle.std.proofs.Common.{◌≡◌, ℕ, ◌≤◌, ◌<◌, true, not, Option, unwrap_or, List, ap, ◌∙◌, arith}
+use Rattle.std.proofs.Common.{◌≡◌, ℕ, ◌≤◌, ◌<◌, true, not, List, ap, ◌∙◌, arith}
 use Rattle.book_rules.specs.Book.{length_fits, used, used_fits, good_head}
 use Rattle.book_rules.proofs.Faults.{faulty-record, faulty-not-sound, good-sound, smallest-record}
 use Rattle.check_book.specs.Verdicts.{RecordsJudged, Accepted, Objected}

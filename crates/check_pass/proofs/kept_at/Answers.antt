@@ -2,7 +2,7 @@
 use Rattle.std.proofs.Common.{◌≡◌, refl, sym, ◌∙◌, arith}
 use borrow.Author.Tests.{eqb-true, eqb-false}
 use Rattle.book_rules.specs.Book.{own_rules_fit}
-use Rattle.book_rules.proofs.Faults.{used-whole, own-bad}
+use Rattle.book_rules.proofs.Faults.{own-bad}
 use Rattle.check_pass.proofs.OwnRules.{number-some, user-own, entry-own, owner-bad}
 use Rattle.check_pass.proofs.kept_at.Goals as goal
 use Rattle.check_pass.proofs.kept_at.Goals.{After-user_record_fits, After-entry_record_fits, then-home-eq0-via-then-home-eq0, then-home-eq0-via-else-home-eq0+then-le}
