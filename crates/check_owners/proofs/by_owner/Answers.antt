@@ -10,7 +10,6 @@ use lib.Dec.{ltb}
 use lib.ListN.{length-set}
 use Rattle.units.proofs.Bools.{and_left, and_right}
 use Rattle.units.specs.declared.RecordIndex.{RecordIndex}
-use Rattle.units.specs.Units.{record_index}
 use Rattle.book_layout.specs.Fields.{get, record_at, kind_field, owner_field}
 use Rattle.book_rules.specs.Book.{used, kind_at, entry_kind, is_entry, owner_of}
 use Rattle.check_owners.proofs.Lists.{LinkedFrom, linked-none, linked-entry, linked-other, linked-all}

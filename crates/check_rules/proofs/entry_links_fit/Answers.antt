@@ -8,9 +8,9 @@ pub returns-then-owner-eq0 : goal.returns-then-owner-eq0
 unfolding owner_fits entry_next_fits next_in_order in_order has_kind is_entry kind_at owner_of next_of level_of activation_of entry_kind follows_entry
 returns-then-owner-eq0 c = search rules
 
-pub returns-then-kind_of-ne-USER : goal.returns-then-kind_of-ne-USER
+pub returns-then-not-is_of : goal.returns-then-not-is_of
 unfolding owner_fits entry_next_fits next_in_order in_order has_kind is_entry kind_at owner_of next_of level_of activation_of entry_kind follows_entry
-returns-then-kind_of-ne-USER c = search rules
+returns-then-not-is_of c = search rules
 
 pub returns-then-next-eq0 : goal.returns-then-next-eq0
 unfolding owner_fits entry_next_fits next_in_order in_order has_kind is_entry kind_at owner_of next_of level_of activation_of entry_kind follows_entry
