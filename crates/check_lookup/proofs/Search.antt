@@ -60,7 +60,7 @@ unfolding found_user
 none-found b n z = rw z
 
 -- where no record is found the search ends at the head
-found-nobody : (b : List ℕ) (n : ℕ) → None ≡ found_user b n → find_user b n ≡ 0
+pub found-nobody : (b : List ℕ) (n : ℕ) → None ≡ found_user b n → find_user b n ≡ 0
 found-nobody b n none = sym (ap (λ (i : RecordIndex). i.0) (ap (λ (o : Option RecordIndex). unwrap_or o (record_index 0)) none ∙ found-or-none b n))
 
 -- what is found is a user
@@ -75,10 +75,10 @@ below-user b n (suc k) some = by_value (is_user b k && eqb (number_of b k) n) re
     by_value false e rest some = rest some
 
 module _ (b : List ℕ) (n : ℕ) (i : RecordIndex) (found : Some i ≡ found_user b n) where
-  found-index : i ≡ record_index (find_user b n)
+  pub found-index : i ≡ record_index (find_user b n)
   found-index = ap (λ (o : Option RecordIndex). unwrap_or o (record_index 0)) found ∙ found-or-none b n
 
-  found-is-user : is_user b i.0 ≡ true
+  pub found-is-user : is_user b i.0 ≡ true
   unfolding find_user
   found-is-user =
       let some : find_user b n ≡ 0 → ⊥ = λ z. true≢false (ap is_some (found ∙ none-found b n z)) in

@@ -93,7 +93,6 @@ fn first_in_order(book: &[u8], index: RecordIndex) -> bool
 
 // An entry that stands behind one of an owner and of a level: it has the same owner, and its level is that one, or it is the closing
 // of the year before.
-#[tactic(auto, unfolding(crate::specs::InnerFollows::follows_entry))]
 fn follows(r: &[u8], owner: RecordIndex, level: u16) -> bool
     ensures { result ≡ follows_entry r.now owner.0 level }
 {
