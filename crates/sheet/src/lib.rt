@@ -114,7 +114,6 @@ pub fn number(s: &[u8], month: u8, place: u8) -> u32
 }
 
 // 11: a length, a header or a zero word that is wrong. Bytes 8 and 12–15 of the header are parts of their own.
-#[tactic(auto, unfolding(crate::specs::YearSheet::header_fits))]
 fn header_fits(s: &[u8]) -> bool
     ensures { result ≡ header_fits s.now }
 {
@@ -196,7 +195,6 @@ fn stray_band(s: &[u8], number: u32, place: u8) -> bool
     unused_band(s, place) & !(number == 0)
 }
 
-#[tactic(auto, unfolding(crate::specs::YearSheet::at_fault, crate::specs::YearSheet::above_limit, crate::specs::YearSheet::stray_band))]
 fn at_fault(s: &[u8], month: u8, place: u8) -> bool
     ensures { result ≡ at_fault s.now month place }
 {

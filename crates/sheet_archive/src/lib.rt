@@ -41,7 +41,8 @@ fn number_in(places: usize, table: &[u8], line: usize, place: usize) -> u32
     codec::get(table, place_in(places, line, place))
 }
 
-// "The header goes first."
+// "The header goes first." A buffer that is written is a slice with its length in a clause: std's `try_from` of a `&mut [T]` does not tell
+// what the slice holds afterwards.
 fn copy_header(from: &[u8], to: &mut [u8])
     requires whole_source { length from.now ≡ sheet_length }
     requires whole_destination { length to.old ≡ sheet_length }

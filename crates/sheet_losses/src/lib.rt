@@ -94,6 +94,7 @@ fn raised_year(sheet: &[u8], factor: Factor) -> Result<([[Kwh; 3]; 12], [u32; 3]
     Ok((months, rests))
 }
 
+// A sheet that is written is a slice: std's `try_from` of a `&mut [T]` does not tell what the slice holds afterwards.
 fn store_month(sheet: &mut [u8], month: usize, readings: [Kwh; 3])
     requires { (length sheet.old ≡ sheet_length) × (month < 12) }
     ensures { sheet.new ≡ stored (injected_place month) (three_readings (in_band readings)) sheet.old }

@@ -83,6 +83,7 @@ pub fn measures_of(text: &[u8]) -> Result<[[Kwh; READINGS]; MONTHS], Refusal>
     Ok(year)
 }
 
+// A sheet that is written is a slice: std's `try_from` of a `&mut [T]` does not tell what the slice holds afterwards.
 fn fill_month(sheet: &mut [u8], month: usize, kwh: [Kwh; READINGS])
     requires { (length sheet.old ≡ sheet_length) × (month < months) }
     ensures { sheet.new ≡ month_filled (kwh_of kwh) month readings sheet.old }
