@@ -1,35 +1,25 @@
 -- The earliest number at fault: there is one where any number is at fault, and no sheet has two. It decides between 13 and 19.
-use Prim.Native.Nat.{ℕ, ◌+◌, ◌-◌, ◌≤◌, ◌<◌}
+use Prim.Native.Nat.{ℕ, ◌+◌, ◌-◌, ◌<◌}
 use mathlib.Core.Path.{◌≡◌, refl, sym, ap, ap₂, ◌∙◌}
 use mathlib.Core.Bool.{Bool, true, false, not, ◌&&◌, ◌||◌, true≢false}
 use mathlib.Core.Logic.{◌⊎◌, inl, inr, ⊎_elim}
 use mathlib.Core.List.{List}
 use native.Mathlib.Omega.{arith}
-use borrow.Author.Tests.{ne_eqb, not-true}
+use borrow.Author.Tests.{not-true}
 use Rattle.units.specs.Folds.{all_below, any_below}
 use Rattle.units.proofs.Bools.{and_left, and_right, and_both, or-neither}
 use Rattle.units.proofs.Folds.{all-at, all_of, none-at, none_of, any_of, First, first_below_lem}
 use Rattle.std.specs.Prelude.{Result, Ok, Err, is_ok}
 use Rattle.refusals.specs.declared.Position.{Position}
-use Rattle.sheet.specs.declared.Objection.{Objection}
 use Rattle.sheet.specs.YearSheet.{above_limit, stray_band, at_fault, earliest, refused13, refused19, EarliestAt, OneEarliest, tells, Tells, Past13}
 use Rattle.refusals.specs.Refusals.{nowhere}
 use Rattle.refusals.specs.declared.Refusal.{Refusal}
 use Rattle.refusals.specs.Refusals.{number_of, position_of, position_at, refusal_in, position_in}
-use Rattle.sheet.specs.Objections.{number_of_fault, answer_to, Faulted, FaultTold}
+use Rattle.sheet.specs.Objections.{number_of_fault, answer_to, Faulted}
 
 -- every other answer tells zeros
 pub untold : (s : List ℕ) (n : ℕ) → tells n ≡ false → Tells s n nowhere
 untold s n other = record { position = λ e. absurd (true≢false (sym e ∙ other)); zeros = λ e. refl }
-
-pub untold-before : (s : List ℕ) (n : ℕ) → n ≤ 12 → Tells s n nowhere
-untold-before s n l = untold s n (rw (ne_eqb n 13 (λ e. let z : ⊥ = omega (arith, e) in z), ne_eqb n 19 (λ e. let z : ⊥ = omega (arith, e) in z)) refl)
-
--- neither fault
-neither : (above stray : Bool) → number_of_fault above stray ≡ 0 → (above ≡ false) × (stray ≡ false)
-neither true y e = let z : ⊥ = omega (arith, e) in absurd z
-neither false true e = let z : ⊥ = omega (arith, e) in absurd z
-neither false false e = (refl, refl)
 
 module _ (s : List ℕ) where
   -- none of the months before m has a number at fault
@@ -196,10 +186,6 @@ some-fault s m p at e answer = by-test (above_limit s m p) refl (stray_band s m 
     by-test true a y b = refl
     by-test false a true b = refl
     by-test false a false b = let none : ◌≡◌ {A = Result (Unit {0}) Refusal} (Err e) (Ok tt) = answer ∙ rw (a, b) refl in absurd (true≢false (sym (ap is_ok none)))
-
--- a sheet that brings neither
-pub told-past : (s : List ℕ) (o : Objection) → FaultTold s o → o.refusal ≡ 0 → Past13 s
-told-past s o f none = neither (refused13 s) (refused19 s) (sym f.refusal_is ∙ none)
 
 -- there is a position to tell of every sheet
 pub record Telling (s : List ℕ) (n : ℕ) : Type 0 where

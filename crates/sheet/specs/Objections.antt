@@ -3,12 +3,8 @@ use Rattle.std.specs.Prelude.{ℕ, ◌≡◌, Bool, true, false, cond, List, Res
 use Rattle.refusals.specs.declared.Position.{Position}
 use Rattle.refusals.specs.declared.Refusal.{Refusal}
 use Rattle.refusals.specs.declared.Refusal.TheVariants.{AboveLimit, UnusedBand}
-use Rattle.refusals.specs.Refusals.{number_of, position_of, nowhere}
-use Rattle.sheet.specs.declared.Objection.{Objection}
+use Rattle.refusals.specs.Refusals.{number_of, position_of}
 use Rattle.sheet.specs.YearSheet.{refused13, refused19, Tells}
-
-abbrev pub objection_of : ℕ → Objection
-objection_of refusal = record { refusal = refusal; position = nowhere }
 
 -- "where one number has both faults, 13 goes first"
 abbrev pub number_of_fault : (above stray : Bool) → ℕ
@@ -24,7 +20,3 @@ answer_to false false position = Ok tt
 pub record Faulted (s : List ℕ) (e : Refusal) : Type 0 where
   pub number_is : number_of e ≡ number_of_fault (refused13 s) (refused19 s)
   pub tells : Tells s (number_of e) (position_of e)
-
-pub record FaultTold (s : List ℕ) (o : Objection) : Type 0 where
-  pub refusal_is : o.refusal ≡ number_of_fault (refused13 s) (refused19 s)
-  pub tells : Tells s o.refusal o.position

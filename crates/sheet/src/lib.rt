@@ -2,17 +2,17 @@
 // bytes is an ordinary input.
 #![tactic(auto)]
 
-ghost use Rattle.std.specs.Prelude.{◌≡◌, ◌-◌, ◌^◌, min, true, false, not, ◌&&◌, ◌<◌, eqb, ltb, length, MatchResult};
+ghost use Rattle.std.specs.Prelude.{◌≡◌, ◌-◌, ◌^◌, min, true, false, not, ◌&&◌, eqb, ltb, MatchResult};
 ghost use Rattle.units.specs.Units.{user_number, kwh};
 ghost use Rattle.units.specs.Folds.{any_below};
 ghost use Rattle.refusals.specs.Refusals.{position_at};
 ghost use Rattle.refusals.specs.declared.Refusal.TheVariants.{SheetForm};
-ghost use Rattle.sheet.specs.Objections.{objection_of, answer_to, Faulted, FaultTold};
-ghost use Rattle.sheet.specs.YearSheet.{sheet_length, sheet_user, sheet_year, withdrawn_reading, injected_reading, word, limit_at};
+ghost use Rattle.sheet.specs.Objections.{answer_to, Faulted};
+ghost use Rattle.sheet.specs.YearSheet.{sheet_user, sheet_year, withdrawn_reading, injected_reading, word, limit_at};
 ghost use Rattle.sheet.specs.YearSheet.{unused_band, at_fault, above_limit, stray_band, header_fits, last_words_fit, form_fits};
 ghost use Rattle.sheet.specs.YearSheet.{version_zero, point_zero, refused11, refused14, month_withdrawn, Past13, SheetPassed};
 
-use refusals::{NOWHERE, Position, Refusal};
+use refusals::{Position, Refusal};
 use tariff::MONTHLY_THRESHOLD;
 use units::{Kwh, MAX_KWH, MAX_PRICE, UserNumber};
 
@@ -66,13 +66,6 @@ impl<'a> FormedSheet<'a> {
     }
 }
 
-// A refusal, 0 for none, and after 13 or 19 where the number at fault stands.
-#[derive(Clone, Copy)]
-pub struct Objection {
-    pub refusal: u32,
-    pub position: Position,
-}
-
 pub fn user(s: &[u8]) -> UserNumber
     ensures { result ≡ user_number (sheet_user s.now) }
 {
@@ -95,14 +88,6 @@ pub fn injected_reading(s: &[u8]) -> u8
     ensures { result ≡ injected_reading s.now }
 {
     codec::byte_at(s, 7)
-}
-
-// A sheet of the right length as a part of known length, so that no read of it has to look for its end.
-pub fn whole<'a>(s: &'a [u8]) -> &'a [u8]
-    requires { length s.now ≡ sheet_length }
-    ensures { result.now ≡ s.now }
-{
-    &s[0..LENGTH]
 }
 
 // The number at a place of a month, both counted from 0.
@@ -156,7 +141,7 @@ fn point_zero(s: &[u8]) -> bool
 }
 
 #[tactic(auto, unfolding(crate::specs::YearSheet::refused11))]
-pub fn header_wrong(s: &[u8]) -> bool
+fn header_wrong(s: &[u8]) -> bool
     ensures { result ≡ refused11 s.now }
 {
     !(form_fits(s) & (version_zero(s) & point_zero(s)))
@@ -213,16 +198,6 @@ fn month_wrong(s: &[u8], month: u8) -> bool
     wrong
 }
 
-// Zeros for the position.
-pub fn unplaced(refusal: u32) -> Objection
-    ensures { result ≡ objection_of refusal }
-{
-    Objection {
-        refusal,
-        position: NOWHERE,
-    }
-}
-
 // "Where one number has both faults, 13 goes first."
 fn answer_to(above: bool, stray: bool, position: Position) -> Result<(), Refusal>
     ensures { result ≡ answer_to above stray position }
@@ -259,7 +234,7 @@ fn some_wrong(s: &[u8]) -> bool
 }
 
 // 13 or 19 by the earliest number at fault. Only a month at fault is searched.
-pub fn first_fault(s: &[u8]) -> Result<(), Refusal>
+fn first_fault(s: &[u8]) -> Result<(), Refusal>
     ensures { MatchResult result (λ nothing. Past13 s.now) (λ e. Faulted s.now e) }
 {
     if !some_wrong(s) {
@@ -273,19 +248,6 @@ pub fn first_fault(s: &[u8]) -> Result<(), Refusal>
         }
     }
     Ok(())
-}
-
-// The same as a number with a position.
-pub fn fault_objection(s: &[u8]) -> Objection
-    ensures { FaultTold s.now result }
-{
-    match first_fault(s) {
-        Ok(()) => unplaced(0),
-        Err(refusal) => Objection {
-            refusal: refusal.number(),
-            position: refusal.position(),
-        },
-    }
 }
 
 // Energy withdrawn in a month. No number of a sheet past 13 is above 20,000,000, so that 32 bits hold three of them; of other bytes it is

@@ -4,13 +4,12 @@
 
 ghost use Rattle.std.specs.Prelude.{◌≡◌, ◌+◌, ◌-◌, ◌≤◌, ◌<◌};
 ghost use Rattle.units.specs.Limits.{max_kwh, max_price, max_year_ticks};
-ghost use Rattle.sheet.specs.YearSheet.{SheetPassed};
 ghost use Rattle.units.specs.InnerWithin.{NumberWithin};
 ghost use Rattle.sheet_more_sun.specs.MoreSun.{FieldStands, more_sun};
 ghost use Rattle.sheet_more_sun.specs.Laws.{IsLeast};
 ghost use Rattle.sheet_more_sun.specs.InnerSteps.{LeastWorth, InLimits, comes_to, field_price};
 
-use sheet::{PassedSheet, Sheet};
+use sheet::PassedSheet;
 use sheet_prices::Series;
 use sheet_values::Details;
 use units::{Kwh, MAX_KWH, Rate, Ticks, WideKwh};
@@ -77,15 +76,4 @@ pub fn least_addition(
     let cost = sheet_prices::cost(sheet);
     let value = sheet_prices::value(sheet, details.island == 1, details.plant == 1);
     least_for(cost, value, price, field)
-}
-
-// The same of the bytes of a sheet that has passed.
-#[tactic(auto, using(sheet::proofs::Limits::passed_length))]
-pub fn more_sun(s: &[u8], details: Details, month: usize, band: usize) -> Option<Kwh>
-    requires sheet_passed { SheetPassed s.now }
-    requires field_stands { FieldStands s.now month band }
-    ensures { result ≡ more_sun s.now details month band }
-{
-    let bytes = <&Sheet>::try_from(s).unwrap();
-    least_addition(PassedSheet { bytes }, details, month, band)
 }

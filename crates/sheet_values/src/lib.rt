@@ -6,14 +6,14 @@ ghost use Rattle.units.specs.Units.{kwh};
 ghost use Rattle.units.specs.Limits.{max_kwh, max_price, max_tier_rate, max_flat_rate};
 ghost use Rattle.units.specs.Folds.{sum_below, any_below};
 ghost use Rattle.tariff.specs.Tariff.{monthly_threshold, mean_rate};
-ghost use Rattle.sheet.specs.YearSheet.{SheetPassed, month_withdrawn, word};
+ghost use Rattle.sheet.specs.YearSheet.{month_withdrawn, word};
 ghost use Rattle.sheet_prices.specs.InnerArrays.{energy_at, row_total};
 ghost use Rattle.units.specs.InnerWithin.{NumberWithin, KwhWithin, RateWithin, TicksWithin};
 ghost use Rattle.sheet_values.specs.YearsValues.{month_injected, month_exchanged, month_rate, annual_rate, month_flat_rate};
 ghost use Rattle.sheet_values.specs.YearsValues.{annual_flat_rate, flat_rate_over};
 ghost use Rattle.sheet_values.specs.InnerArrays.{Months, MonthsFit, Rates, ValuesWorked, month_energy};
 
-use sheet::{PassedSheet, Sheet};
+use sheet::PassedSheet;
 use sheet_prices::{Energies, Reading};
 use tariff::{MONTHLY_THRESHOLD, Plant};
 use units::{Kwh, Rate, Ticks};
@@ -321,14 +321,4 @@ impl YearValues {
             half2: year.exchanged.over(SECOND_HALF),
         }
     }
-}
-
-// The same of the bytes of a sheet that has passed.
-#[tactic(auto, using(sheet::proofs::Limits::passed_length))]
-pub fn year_values(s: &[u8], details: Details) -> YearValues
-    requires { SheetPassed s.now }
-    ensures { ValuesWorked s.now details result }
-{
-    let bytes = <&Sheet>::try_from(s).unwrap();
-    YearValues::of(PassedSheet { bytes }, details)
 }
