@@ -48,6 +48,7 @@ fn raised(reading: u32, factor: Factor, rest: u32) -> (WideKwh, u32)
     ensures rest { result.1 ≡ thousandths factor.thousandths reading rest % 1000 }
 {
     let thousandths = u64::from(reading) * (1000 + u64::from(factor.thousandths)) + u64::from(rest);
+    // The casts here are of numbers below a limit just seen: `try_from` would bring an error that cannot come.
     let passed = (thousandths % 1000) as u32;
     (WideKwh(thousandths / 1000), passed)
 }
@@ -105,6 +106,7 @@ fn store_month(sheet: &mut [u8], month: usize, readings: [Kwh; 3])
     codec::put(sheet, at + 8, readings[2]);
 }
 
+// Not one function with `sheet_text::fill`: three numbers a month against six, and the laws of the two are told in another shape.
 fn write_year(sheet: &mut [u8], months: [[Kwh; 3]; 12])
     requires { length sheet.old ≡ sheet_length }
     ensures { sheet.new ≡ with_injected (readings_in months) sheet.old 12 }

@@ -93,6 +93,7 @@ fn fill_month(sheet: &mut [u8], month: usize, kwh: [Kwh; READINGS])
     }
 }
 
+// Not one function with `sheet_losses::write_year`: six numbers a month against three, and the laws of the two are told in another shape.
 fn fill(sheet: &mut [u8], year: [[Kwh; READINGS]; MONTHS])
     requires { length sheet.old ≡ sheet_length }
     ensures { sheet.new ≡ filled (kwh_of_year year) sheet.old }
@@ -183,5 +184,6 @@ pub fn write_measures(sheet: &[u8], text: &mut [u8]) -> Result<u32, Refusal>
     if let Some(position) = position_above(sheet) {
         return Err(Refusal::AboveLimit(position));
     }
+    // At most 675: `try_from` would bring an error that cannot come.
     Ok(write_lines(sheet, text) as u32)
 }
