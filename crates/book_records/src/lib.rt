@@ -7,7 +7,7 @@ ghost use Rattle.book_records.specs.Records.{head_image, user_image, advance_ima
 use account_steps::{Account, Balance, Charge, ClosingSums};
 use book_layout::kind::Kind;
 use book_layout::{Record, place};
-use codec::{get, put, read};
+use codec::{get, put};
 use sheet_values::Details;
 use units::{RECORD_LENGTH, RecordIndex, Ticks};
 
@@ -135,52 +135,6 @@ pub fn read_closing(r: &Record) -> ClosingRecord
         sums: read_sums(r),
         owner: get(r, place::OWNER),
         withheld: get(r, place::WITHHELD),
-    }
-}
-
-// ANY BYTES
-
-#[tactic(auto, unfolding(crate::specs::Records::advance_in, book_layout::specs::Fields::get))]
-pub fn advance_of(r: &[u8]) -> AdvanceRecord
-    ensures { result ≡ advance_in r.now }
-{
-    AdvanceRecord {
-        next: read(r, place::NEXT),
-        run: read(r, place::RUN),
-        year: read(r, place::YEAR),
-        ticks: read(r, place::TICKS),
-        owner: read(r, place::OWNER),
-        booked: read(r, place::BOOKED),
-        withheld: read(r, place::WITHHELD),
-    }
-}
-
-#[tactic(auto, unfolding(crate::specs::Records::closing_in, book_layout::specs::Fields::get))]
-fn sums_of(r: &[u8]) -> ClosingSums
-    ensures { result ≡ (closing_in r.now).sums }
-{
-    ClosingSums {
-        value: read(r, place::VALUE),
-        cost: read(r, place::COST),
-        flat_rate: read(r, place::FLAT_RATE),
-        contribution: read(r, place::CONTRIBUTION),
-        liquidation: read(r, place::LIQUIDATION),
-        lapsed: read(r, place::LAPSED),
-        balance: Balance(read::<u64>(r, place::BALANCE).cast_signed()),
-    }
-}
-
-#[tactic(auto, unfolding(crate::specs::Records::closing_in, book_layout::specs::Fields::get))]
-pub fn closing_of(r: &[u8]) -> ClosingRecord
-    ensures { result ≡ closing_in r.now }
-{
-    ClosingRecord {
-        next: read(r, place::NEXT),
-        option: read(r, place::CLOSING_OPTION),
-        year: read(r, place::YEAR),
-        sums: sums_of(r),
-        owner: read(r, place::OWNER),
-        withheld: read(r, place::WITHHELD),
     }
 }
 

@@ -127,6 +127,9 @@ pub fn field<T: Number>(book: &[u8], index: RecordIndex, at: usize) -> T
     book_layout::field(record(book, index), at)
 }
 
+// Each of these is `field` under the name that its definition has in specs/Book: a caller that took `field` would name both, the place
+// and the definition that its proof unfolds, so that it is no plainer.
+
 #[tactic(auto, unfolding(book_rules::specs::Book::owner_of))]
 pub fn owner_of(book: &[u8], index: RecordIndex) -> RecordIndex
     ensures { result ≡ record_index (owner_of book.now index.0) }

@@ -10,7 +10,7 @@ use Rattle.units.specs.Limits.{record_length}
 use Rattle.book_rules.specs.Book.{length_fits, sound, is_user, is_entry, next_of, first_entry_of}
 use Rattle.book_rules.proofs.Faultless.{Faultless, sound-faultless}
 use Rattle.book_rules.proofs.Faults.{used-whole}
-use Rattle.book_rules.proofs.RecordKinds.{user-index, entry-index}
+use Rattle.book_rules.proofs.RecordKinds.{entry-index}
 use Rattle.book_rules.specs.Chains.{chain_from}
 use Rattle.chains.proofs.Chain.{On, Falls, inside, on-next, less, chain-cons}
 use Rattle.chains.proofs.Links.{entry_next, first_entry}
@@ -20,7 +20,7 @@ module _ (P : ℕ → Type 0) (next : ℕ → ℕ) (falls : Falls P next) (at : 
   some : 1 ≤ at
   some = omega arith
 
-  pub walk_here : P at
+  walk_here : P at
   walk_here = inside P at some on
 
   pub walk-on : On P (next at)
@@ -48,10 +48,6 @@ pub begins : (b : List ℕ) (i : ℕ) → length_fits b ≡ true → sound b ≡
 begins b i long good user =
     let f = sound-faultless b long good in
     record { faultless = f; on = ⊎_map (λ z. z) (λ o. o.entry) (first_entry b f i user) }
-
--- a sound book has a user's record whole
-pub user-whole : (b : List ℕ) (i : ℕ) → length_fits b ≡ true → sound b ≡ true → is_user b i ≡ true → record_length * i + record_length ≤ length b
-user-whole b i long good user = used-whole b (sound-faultless b long good).used-fits i (user-index b i user).1
 
 module _ (b : List ℕ) (at : ℕ) (w : Ahead b at) (more : at ≡ 0 → ⊥) where
   pub entry_here : is_entry b at ≡ true

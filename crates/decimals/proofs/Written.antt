@@ -2,7 +2,7 @@
 -- number below 10^k.
 use Prim.Native.Nat.{ℕ, zero, suc, ◌+◌, ◌*◌, ◌/◌, ◌%◌, ◌^◌, ◌≤◌, ◌<◌}
 use mathlib.Core.Path.{◌≡◌, sym, ap, ◌∙◌}
-use mathlib.Core.Bool.{Bool, true, false, cond}
+use mathlib.Core.Bool.{true, false, cond}
 use mathlib.Core.List.{List, [], ◌∷◌, ◌++◌}
 use native.Mathlib.Nat.{pow-suc, one-le-pow}
 use native.Mathlib.Decide.{dec_lt}
@@ -88,30 +88,6 @@ decimal-long (suc k) n h =
     let one : 1 ≤ 10 ^ k = one-le-pow k 10 (omega arith) in
     let rest : 10 ^ k ≤ n / 10 = omega arith in
     omega (arith, length_more n (omega arith), decimal-long k (n / 10) rest)
-
--- written in at most so many digits: they are no more, and they are those of the number where it has no more
-pub most-digits : (k n : ℕ) → length (decimal_of k n) ≤ k
-unfolding decimal_of
-most-digits zero n = omega arith
-most-digits (suc k) n = by_size (ltb n 10) (decimal_of k (n / 10)) (most-digits k (n / 10))
-  where
-    by_size : (small : Bool) (digits : List ℕ) → length digits ≤ k
-        → length (cond small ((48 + n) ∷ []) (digits ++ ((48 + n % 10) ∷ []))) ≤ suc k
-    by_size true digits l = omega arith
-    by_size false digits l = rw length-append (omega arith)
-
-pub all_digits : (k n : ℕ) → n < 10 ^ suc k → decimal_of (suc k) n ≡ decimal n
-unfolding decimal_of
-all_digits zero n h = let small : ltb n 10 ≡ true = lt-ltb n 10 (omega arith) in rw small (sym (decimal_digit n (omega arith)))
-all_digits (suc k) n h = by_size (dec_lt n 10) (all_digits k)
-  where
-    by_size : Dec (n < 10) → ((m : ℕ) → m < 10 ^ suc k → decimal_of (suc k) m ≡ decimal m) → decimal_of (suc (suc k)) n ≡ decimal n
-    by_size (yes less) before = let small : ltb n 10 ≡ true = lt-ltb n 10 less in rw small (sym (decimal_digit n less))
-    by_size (no more) before =
-        let ten : 10 ≤ n = omega (arith, more) in
-        let rest : n / 10 < 10 ^ suc k = let p : 10 ^ suc (suc k) ≡ 10 ^ suc k * 10 = pow-suc 10 (suc k) in omega arith in
-        let large : ltb n 10 ≡ false = le-ltb n 10 ten in
-        rw large (ap (λ (l : List ℕ). l ++ ((48 + n % 10) ∷ [])) (before (n / 10) rest) ∙ sym (decimal-more n ten))
 
 pub field-length : (n stop : ℕ) → length (field n stop) ≡ length (decimal n) + 1
 unfolding field
