@@ -1,22 +1,19 @@
 -- What the entries of a sound book pay: it fits its fields, and so do the sums over a chain.
 use Prim.Native.Nat.{ℕ, ◌+◌, ◌*◌, ◌^◌, ◌≤◌, ◌<◌}
-use mathlib.Core.Path.{◌≡◌, refl, sym, ap, subst, ◌∙◌}
+use mathlib.Core.Path.{◌≡◌, refl, ap}
 use mathlib.Core.Bool.{Bool, true, false, cond, ◌&&◌}
 use mathlib.Core.Logic.{⊎_elim}
 use mathlib.Core.List.{List}
 use native.Mathlib.Omega.{arith}
 use borrow.Author.Tests.{leb-true}
 use lib.Dec.{leb}
-use Rattle.units.specs.declared.RecordIndex.{RecordIndex}
-use Rattle.units.specs.declared.Ticks.{Ticks}
 use Rattle.units.specs.Units.{ticks}
 use Rattle.units.specs.Limits.{max_year_ticks, max_flat_rate, max_contribution}
 use Rattle.units.proofs.Bools.{and_left, and_right}
 use Rattle.book_layout.specs.Fields.{record_at, advance_kind, closing_kind}
-use Rattle.book_records.specs.declared.AdvanceRecord.{AdvanceRecord}
-use Rattle.book_records.specs.declared.ClosingRecord.{ClosingRecord}
 use Rattle.book_records.specs.Records.{advance_in, closing_in}
-use Rattle.book_rules.specs.Book.{length_fits, sound, within, span_of, is_user, is_entry, is_advance, is_closing, next_of, first_entry_of, owner_of, account_at, year_fits, level_from, booked_fits, is_run}
+use Rattle.book_rules.specs.Book.{length_fits, sound, within, span_of, is_user, is_entry, is_advance, is_closing, next_of, first_entry_of}
+use Rattle.book_rules.specs.Book.{owner_of, account_at, year_fits, level_from, booked_fits, is_run}
 use Rattle.book_rules.specs.Book.{advance_fits}
 use Rattle.book_rules.specs.Book.{balance_fits, paid_balance, withheld_fits, closing_fits}
 use Rattle.book_rules.specs.Chains.{entries_of}

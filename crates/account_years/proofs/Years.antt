@@ -12,27 +12,28 @@ use Rattle.std.specs.Prelude.{Option, Some, IfSome}
 use Rattle.units.proofs.Bools.{and_left, cond-capped}
 use Rattle.units.specs.Limits.{max_year_ticks, most_years, record_length}
 use Rattle.units.specs.InnerWithin.{NumberWithin}
+use Rattle.account_steps.specs.declared.Account.{Account}
 use Rattle.account_steps.specs.Closing.{credit_after}
 use Rattle.account_steps.specs.Account.{outcome_of, credit_in}
 use Rattle.account_steps.proofs.Outcomes.{outcome-credit}
 use Rattle.book_layout.specs.Fields.{record_at}
 use Rattle.book_records.specs.declared.ClosingRecord.{ClosingRecord}
-use Rattle.book_records.specs.Records.{account_in, closing_in}
-use Rattle.book_rules.specs.Book.{length_fits, sound, is_user, is_entry, is_advance, is_closing, level_of, activation_of}
+use Rattle.book_records.specs.Records.{closing_in}
+use Rattle.book_rules.specs.Book.{length_fits, sound, is_user, is_entry, is_advance, is_closing, level_of, account_at}
 use Rattle.book_rules.specs.Chains.{entries_of}
 use Rattle.book_rules.proofs.Faultless.{Faultless, sound-faultless}
 use Rattle.book_rules.proofs.RecordKinds.{entry-cases}
-use Rattle.chains.proofs.Ranges.{closing-ranges, user-years}
+use Rattle.chains.proofs.Ranges.{YearsFit, closing-ranges, user-years}
 use Rattle.chain_reader.specs.Entries.{entry_in}
 use Rattle.chain_reader.proofs.Held.{closing_held, advance_held}
 use Rattle.account_years.specs.History.{is_closing_of, closing_among, closing_of, closing_after, credit_over, credit_then, credit_after_years}
 use Rattle.account_years.specs.InnerEntries.{AmountsFit, EntryFits}
 
 -- an activation year leaves room for every year after it
-pub year_room : (b : List ℕ) (i n : ℕ) → length_fits b ≡ true → sound b ≡ true → is_user b i ≡ true → n ≤ most_years → activation_of b i + n < 2 ^ 16
-unfolding activation_of account_in
-year_room b i n long good user most =
-    let y = user-years b (sound-faultless b long good) i user in
+pub year_room : (b : List ℕ) (i n : ℕ) (a : Account) → a ≡ account_at b i → length_fits b ≡ true → sound b ≡ true → is_user b i ≡ true → n ≤ most_years
+    → a.details.year + n < 2 ^ 16
+year_room b i n a read long good user most =
+    let y : YearsFit a = rw read (user-years b (sound-faultless b long good) i user) in
     omega (arith, y.ordered, y.latest)
 
 -- what is found is a closing, whose amounts are within their ranges
@@ -86,9 +87,6 @@ years_on b i n = let one : n + 1 ≡ suc n = omega arith in ap (credit_after_yea
 pub credit_on : (b : List ℕ) (i n credit : ℕ) → Credited b i n credit → (o : Option ClosingRecord) → o ≡ closing_after b i n → (next : ℕ)
     → NumberWithin (credit_then o credit) (credit + max_year_ticks) next → Credited b i (n + 1) next
 credit_on b i n credit s o e next h = record { is = h.is ∙ sym (years_on b i n ∙ rw (e, s.is)); most = omega (arith, s.most, h.most) }
-
-pub one_more : (b : List ℕ) (i n : ℕ) → credit_after_years b i (n + 1) ≡ credit_after_years b i (suc n)
-one_more b i n = let one : n + 1 ≡ suc n = omega arith in ap (credit_after_years b i) one
 
 -- the head of a book stands in it
 pub head_stands : (b : List ℕ) → length_fits b ≡ true → record_length * 0 + record_length ≤ length b

@@ -116,4 +116,4 @@ unfoldable pub closed_year : List ℕ → ℕ → ℕ → Year
 closed_year b i n =
     year_of (unwrap_or (closing_after b i n) (closing_in (record_at b 0))) (activation_of b i + n)
     (payments_of b i (activation_of b i + n) (activation_of b i + n))
-    (credit_after_years b i (suc n))
+    (credit_after_years b i (n + 1))

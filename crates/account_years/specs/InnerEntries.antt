@@ -1,6 +1,5 @@
 -- What an entry is and pays, where it is read.
 use Rattle.std.specs.Prelude.{ℕ, ◌+◌, ◌^◌, ◌<◌, ◌≤◌, cond, eqb, Option, Some, None, ⊤}
-use Rattle.units.specs.Units.{ticks}
 use Rattle.units.specs.Limits.{max_year_ticks}
 use Rattle.book_records.specs.declared.ClosingRecord.{ClosingRecord}
 use Rattle.book_rules.specs.Book.{within}

@@ -8,7 +8,8 @@ ghost use Rattle.units.specs.Limits.{max_year_ticks, max_charge, most_years};
 ghost use Rattle.units.specs.InnerWithin.{NumberWithin};
 ghost use Rattle.book_rules.specs.Book.{activation_of};
 ghost use Rattle.account_years.specs.History.{closing_of, closing_after, by_advance, by_closing, payments_of};
-ghost use Rattle.account_years.specs.History.{charge_of_open, charge_of_each, charges_of, credit_over, credit_then, credit_after_years, closed_year};
+ghost use Rattle.account_years.specs.History.{charge_of_open, charge_of_each, charges_of};
+ghost use Rattle.account_years.specs.History.{credit_over, credit_then, credit_after_years, closed_year};
 ghost use Rattle.account_years.specs.InnerEntries.{closing_in_year, entry_payments, payments_added, AmountsFit, EntryFits, PaymentsRoom};
 
 use account_steps::Balance;
@@ -203,7 +204,6 @@ pub fn charges_of(user: User<'_>) -> Charges
 // WHAT IS CLOSED
 
 // The year n years after the activation.
-#[tactic(auto, using(crate::proofs::Years::year_room), unfolding(book_rules::specs::Book::activation_of, book_records::specs::Records::account_in))]
 fn year_after(user: User<'_>, n: u16) -> u16
     requires { n ≤ most_years }
     ensures { result ≡ activation_of user.entry.book.bytes.now user.entry.index.0 + n }
@@ -254,7 +254,7 @@ fn credit_after_years(user: User<'_>, years: u16) -> Ticks
 }
 
 // The year n years after the activation. One that is not closed has no closing, and the figures that the head's bytes would give.
-#[tactic(auto, using(crate::proofs::Years::head_stands, crate::proofs::Years::one_more), unfolding(crate::specs::History::closed_year, crate::specs::History::year_of))]
+#[tactic(auto, using(crate::proofs::Years::head_stands), unfolding(crate::specs::History::closed_year, crate::specs::History::year_of))]
 pub fn closed_year(user: User<'_>, n: u16) -> Year
     requires { n < most_years }
     ensures { result ≡ closed_year user.entry.book.bytes.now user.entry.index.0 n }

@@ -1,12 +1,12 @@
 -- Where the chains of a sound book begin and go on.
 use Rattle.std.proofs.Common.{◌≡◌, ℕ, ◌+◌, ◌*◌, ◌≤◌, ◌<◌, true, List, length}
-use mathlib.Core.Logic.{◌≢◌, ◌⊎◌, inl, inr, ⊎_elim}
+use mathlib.Core.Logic.{◌≢◌, inr, ⊎_elim}
 use Rattle.units.specs.Limits.{record_length}
 use Rattle.book_rules.specs.Book.{length_fits, sound, is_user, is_entry, first_user, first_entry_of, next_of}
 use Rattle.book_rules.proofs.Faultless.{sound-faultless}
 use Rattle.chains.proofs.Chain.{On}
 use Rattle.chains.proofs.Links.{first-user, users-fall}
-use Rattle.chains.proofs.Walks.{Ahead, begins, entry_here, entry_whole, ahead-next, next-falls, walk-falls, walk-on}
+use Rattle.chains.proofs.Walks.{Ahead, begins, entry_whole, ahead-next, next-falls, walk-falls, walk-on}
 
 -- an index of a set, or the end
 some : (P : ℕ → Type 0) (at : ℕ) → On P at → at ≢ 0 → P at
@@ -26,8 +26,8 @@ module _ (b : List ℕ) (long : length_fits b ≡ true) (good : sound b ≡ true
     pub entry_stands : record_length * at + record_length ≤ length b
     entry_stands = entry_whole b at ahead more
 
-    pub entry_falls : next_of b at < at
-    entry_falls = next-falls b at ahead more
+    pub entry_less : next_of b at < at
+    entry_less = next-falls b at ahead more
 
     pub entry_leads : next_of b at ≢ 0 → is_entry b (next_of b at) ≡ true
     entry_leads = some (λ e. is_entry b e ≡ true) (next_of b at) (ahead-next b at ahead more).on
@@ -36,8 +36,8 @@ module _ (b : List ℕ) (long : length_fits b ≡ true) (good : sound b ≡ true
   first_is_user = some (λ i. is_user b i ≡ true) (first_user b) (first-user b (sound-faultless b long good))
 
   module _ (at : ℕ) (user : is_user b at ≡ true) (more : at ≢ 0) where
-    pub user_falls : next_of b at < at
-    user_falls = walk-falls (λ i. is_user b i ≡ true) (next_of b) (users-fall b (sound-faultless b long good)) at (inr user) more
+    pub user_less : next_of b at < at
+    user_less = walk-falls (λ i. is_user b i ≡ true) (next_of b) (users-fall b (sound-faultless b long good)) at (inr user) more
 
     pub user_leads : next_of b at ≢ 0 → is_user b (next_of b at) ≡ true
     user_leads = some (λ i. is_user b i ≡ true) (next_of b at) (walk-on (λ i. is_user b i ≡ true) (next_of b) (users-fall b (sound-faultless b long good)) at (inr user) more)

@@ -44,7 +44,7 @@ pub struct Entries<'a> {
 
 impl<'a> Entries<'a> {
     /// The entries of a user, newest first.
-    #[tactic(auto, using(crate::proofs::Ahead::first_is_entry), unfolding(book_rules::specs::Book::first_entry_of))]
+    #[tactic(auto, using(crate::proofs::Ahead::first_is_entry))]
     pub fn of(user: User<'a>) -> Entries<'a>
         ensures { (result.book ≡ user.entry.book) × (result.at ≡ record_index (first_entry_of user.entry.book.bytes.now user.entry.index.0)) }
     {
@@ -65,7 +65,7 @@ impl<'a> Iterator for Entries<'a> {
 
     ghost remaining = { λ s. at_most s.at.0 };
 
-    #[tactic(auto, using(crate::proofs::Ahead::entry_stands, crate::proofs::Ahead::entry_falls, crate::proofs::Ahead::entry_leads), unfolding(book_rules::specs::Book::next_of))]
+    #[tactic(auto, using(crate::proofs::Ahead::entry_less, crate::proofs::Ahead::entry_leads), unfolding(book_rules::specs::Book::next_of))]
     fn next(&mut self) -> Option<Entry> {
         let at = self.at;
         if at.0 == 0 {
@@ -87,7 +87,7 @@ pub struct Users<'a> {
 
 impl<'a> Users<'a> {
     /// The users of a sound book, newest first.
-    #[tactic(auto, using(crate::proofs::Ahead::first_is_user), unfolding(book_rules::specs::Book::first_user))]
+    #[tactic(auto, using(crate::proofs::Ahead::first_is_user))]
     pub fn of(book: SoundBook<'a>) -> Users<'a>
         ensures { (result.book ≡ book.entry) × (result.at ≡ record_index (first_user book.entry.bytes.now)) }
     {
@@ -108,7 +108,7 @@ impl<'a> Iterator for Users<'a> {
 
     ghost remaining = { λ s. at_most s.at.0 };
 
-    #[tactic(auto, using(crate::proofs::Ahead::user_falls, crate::proofs::Ahead::user_leads), unfolding(book_rules::specs::Book::next_of))]
+    #[tactic(auto, using(crate::proofs::Ahead::user_less, crate::proofs::Ahead::user_leads), unfolding(book_rules::specs::Book::next_of))]
     fn next(&mut self) -> Option<User<'a>> {
         let index = self.at;
         if index.0 == 0 {

@@ -1,5 +1,5 @@
 -- The walk of `Walk`: it begins with all entries ahead, and an entry that is not the closing of the year is left behind.
-use Rattle.std.proofs.Common.{◌≡◌, sym, ap, ◌∙◌, subst}
+use Rattle.std.proofs.Common.{sym, ap, ◌∙◌, subst}
 use Rattle.account_years.specs.History.{closing_of}
 use Rattle.account_years.specs.InnerEntries.{closing_in_year}
 use Rattle.account_years.proofs.Walk.{Seeking, seek, seek_on, found, nowhere}

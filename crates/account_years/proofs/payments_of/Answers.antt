@@ -1,5 +1,5 @@
 -- The walk of `PaidOut`: it begins with all entries ahead, and each turn adds what an entry pays.
-use Rattle.std.proofs.Common.{◌≡◌, sym, ap, ◌∙◌, subst, subst₂}
+use Rattle.std.proofs.Common.{sym, ap, ◌∙◌, subst, subst₂}
 use Rattle.book_rules.proofs.Faultless.{sound-faultless}
 use Rattle.account_years.specs.History.{payments_of}
 use Rattle.account_years.specs.InnerEntries.{entry_payments, payments_added, EntryFits, PaymentsRoom}

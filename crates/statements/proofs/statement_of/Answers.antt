@@ -1,8 +1,5 @@
 -- The walk of `Walk`: it begins with all entries ahead, each turn adds one, and at the end none is ahead.
-use Rattle.std.proofs.Common.{rules, ◌≡◌, sym, ap, ◌∙◌, subst, subst₂, true}
-use Rattle.book_layout.specs.Fields.{record_at}
-use Rattle.book_rules.specs.Book.{account_at, is_entry}
-use Rattle.chain_reader.specs.Entries.{entry_in}
+use Rattle.std.proofs.Common.{sym, ap, ◌∙◌, subst, subst₂}
 use Rattle.chains.specs.Statements.{statement_at}
 use Rattle.statements.specs.InnerWalk.{sums_of, sums_before, entry_added, EntryRoom}
 use Rattle.statements.proofs.Walk.{Walking, starts, entry_room, turned, ends}
