@@ -144,6 +144,7 @@ pub fn outcome_of(option: u8, credit: Ticks, value: Ticks, cost: Ticks) -> Outco
     }
 }
 
+// One function for the three would hand out all parts, of which each caller wants one.
 impl Outcome {
     ghost use Rattle.account_steps.specs.Account.{liquidation_in, lapsed_in, credit_in};
 

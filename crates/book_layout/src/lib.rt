@@ -17,6 +17,7 @@ pub mod place;
 /// The bytes of a whole record.
 pub type Record = [u8; RECORD_LENGTH];
 
+// By `as`: no `From` leads from 32 bits to `usize`.
 fn start_of(index: RecordIndex) -> usize
     ensures { result ≡ record_length * index.0 }
 {

@@ -22,6 +22,7 @@ pub struct UserRecord {
 // An advance entry. One of the later year has the year that was open when it was booked; else that is 0. An entry keeps what was
 // withheld from what it pays (document 02, ticket 1).
 #[derive(Clone, Copy, Debug, PartialEq, Eq)]
+// The year of booking is a number, 0 for none: the check reads it from any bytes and judges it.
 pub struct AdvanceRecord {
     pub next: RecordIndex,
     pub run: u8,

@@ -59,7 +59,7 @@ impl<'a> UsedBook<'a> {
     }
 }
 
-// THE HEAD
+// THE HEAD. Its two fields have a function each, as in specs/Book: `field` with the head's index and a place is no plainer.
 
 #[tactic(auto, unfolding(book_rules::specs::Book::used))]
 pub fn used(book: &[u8]) -> u32
@@ -75,6 +75,7 @@ pub fn first_user(book: &[u8]) -> RecordIndex
     field(book, RecordIndex(0), place::FIRST_USER)
 }
 
+// By `as`: no `From` leads from 32 bits to `usize`.
 #[tactic(auto, unfolding(book_rules::specs::Book::used_fits))]
 pub fn used_fits(book: &[u8]) -> bool
     ensures { result ≡ used_fits book.now }

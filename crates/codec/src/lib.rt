@@ -9,7 +9,8 @@ ghost use Rattle.codec.specs.Bytes.{zeros as zeroBytes};
 
 use units::{Kwh, RecordIndex, Ticks, UserNumber};
 
-// A number as it stands in a record or a sheet: so many bytes, the lowest first.
+// A number as it stands in a record or a sheet: so many bytes, the lowest first. Each width and each quantity has its few lines: no
+// trait of the library speaks of `to_le_bytes` for all of them, and a second trait would want the same two functions of each.
 pub trait Number: Copy {
     ghost WIDTH: { ℕ };
 
