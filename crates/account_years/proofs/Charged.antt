@@ -1,10 +1,9 @@
 -- What each closed year was charged: none, all, or not kept; and the room for the sums.
-use Prim.Native.Nat.{ℕ, ◌+◌, ◌-◌, ◌*◌, ◌^◌, ◌≤◌, ◌<◌}
+use Prim.Native.Nat.{ℕ, ◌+◌, ◌-◌, ◌^◌, ◌≤◌, ◌<◌}
 use mathlib.Core.Path.{◌≡◌}
 use mathlib.Core.Bool.{true}
 use mathlib.Core.List.{List}
 use Rattle.std.specs.Prelude.{Option}
-use native.Mathlib.Nat.{mul-le-mul}
 use native.Mathlib.Omega.{arith}
 use mir.Syntax.{w64}
 use mir.Val.{Fits}
@@ -21,9 +20,6 @@ use Rattle.call_keeps.proofs.Widths.{account-within}
 use Rattle.account_years.specs.declared.Payments.{Payments}
 use Rattle.account_years.specs.History.{payments_of, charge_of_open, charge_of_each, charges_from, charges_of}
 use Rattle.account_years.proofs.PaidOut.{withheld-small}
-
-pub most_charged : (yearly closed : ℕ) → yearly ≤ max_charge → closed < 2 ^ 16 → yearly * closed ≤ max_charge * 2 ^ 16
-most_charged yearly closed h k = let wide : closed ≤ 2 ^ 16 = omega arith in mul-le-mul h wide
 
 pub open-most : (made yearly : ℕ) → yearly ≤ max_charge → charge_of_open made yearly ≤ max_charge
 unfolding charge_of_open

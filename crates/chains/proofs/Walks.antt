@@ -50,7 +50,7 @@ begins b i long good user =
     record { faultless = f; on = ⊎_map (λ z. z) (λ o. o.entry) (first_entry b f i user) }
 
 module _ (b : List ℕ) (at : ℕ) (w : Ahead b at) (more : at ≡ 0 → ⊥) where
-  pub entry_here : is_entry b at ≡ true
+  entry_here : is_entry b at ≡ true
   entry_here = walk_here (Entry b) (next_of b) (fall b w.faultless) at w.on more
 
   pub ahead-next : Ahead b (next_of b at)

@@ -1,5 +1,5 @@
 -- Printed numbers are the listing's, and the lines of the users ahead.
-use Rattle.std.proofs.Common.{◌≡◌, ℕ, ◌+◌, ◌^◌, ◌<◌, ◌≤◌, true, List, [], ◌∷◌, ◌++◌, refl, ap, sym, ◌∙◌, subst, arith, append_assoc, append-nil}
+use Rattle.std.proofs.Common.{◌≡◌, ℕ, ◌^◌, ◌<◌, true, List, [], ◌∷◌, ◌++◌, refl, ap, sym, ◌∙◌, arith, append_assoc, append-nil}
 use Rattle.std.specs.Fmt.{decimal as printed}
 use Rattle.std.proofs.lemmas.Fmt.{AppendsLastDigit, decimal_from_appends, length-decimal-le}
 use Rattle.std.proofs.lemmas.Bool.Decides.{nat_tests}
@@ -23,7 +23,7 @@ unfolding decimal_of
 last_digit = record { one = λ k n small. grind (arith, nat_tests); more = λ k n large. grind (arith, nat_tests) }
 
 -- twenty digits are all that a number of 64 bits has
-pub printed_is : (n : ℕ) → n < 2 ^ 64 → printed n ≡ decimal n
+printed_is : (n : ℕ) → n < 2 ^ 64 → printed n ≡ decimal n
 printed_is n small = sym (decimal_from_appends decimal_of last_digit most_digits n small (length-decimal-le most_digits n (omega arith) (omega arith) small))
 
 -- the line of an account

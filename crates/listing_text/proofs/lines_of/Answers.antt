@@ -1,5 +1,5 @@
 -- What is written and the lines of the users ahead are those of all users.
-use Rattle.std.proofs.Common.{◌≡◌, ◌≢◌, sym, ap, ◌∙◌, subst, subst₂, ◌++◌, rules}
+use Rattle.std.proofs.Common.{sym, ap, ◌∙◌, subst, subst₂, ◌++◌, rules}
 use Rattle.std.specs.String.{string_bytes}
 use Rattle.book_rules.specs.Book.{account_at}
 use Rattle.book_rules.specs.Chains.{users_of}

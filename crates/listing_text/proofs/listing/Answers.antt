@@ -1,7 +1,6 @@
 -- A refused book prints its number.
-use Rattle.std.proofs.Common.{◌≡◌, ◌∙◌}
+use Rattle.std.proofs.Common.{◌∙◌}
 use Rattle.std.proofs.lemmas.Result.{IfOk-weaker}
-use Rattle.std.proofs.Common.{sym, ap}
 use Rattle.listing_text.proofs.Lines.{refusal_printed}
 use Rattle.listing_text.proofs.listing.Goals as goal
 
