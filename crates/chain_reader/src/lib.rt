@@ -46,7 +46,8 @@ impl<'a> Entries<'a> {
     /// The entries of a user, newest first.
     #[tactic(auto, using(crate::proofs::Ahead::first_is_entry))]
     pub fn of(user: User<'a>) -> Entries<'a>
-        ensures { (result.book ≡ user.entry.book) × (result.at ≡ record_index (first_entry_of user.entry.book.bytes.now user.entry.index.0)) }
+        ensures { (result.book ≡ user.entry.book)
+            × (result.at ≡ record_index (first_entry_of user.entry.book.bytes.now user.entry.index.0)) }
     {
         Entries {
             book: user.book,
