@@ -166,7 +166,8 @@ fn follow_chains(
     }
 }
 
-// The smallest record that breaks a rule by itself, of those up to the one where the chains were left.
+// The smallest record that breaks a rule by itself, of those up to the one where the chains were left. `find` over the range would
+// take a closure that asks of its index what `kept_at` asks, which the loop has from its bounds.
 #[cold]
 #[inline(never)]
 fn first_broken(book: UsedBook<'_>, left: RecordIndex) -> Option<RecordIndex>
