@@ -234,7 +234,7 @@ fn some_wrong(s: &[u8]) -> bool
 }
 
 // 13 or 19 by the earliest number at fault. Only a month at fault is searched.
-fn first_fault(s: &[u8]) -> Result<(), Refusal>
+pub fn first_fault(s: &[u8]) -> Result<(), Refusal>
     ensures { MatchResult result (λ nothing. Past13 s.now) (λ e. Faulted s.now e) }
 {
     if !some_wrong(s) {
