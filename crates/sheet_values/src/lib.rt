@@ -1,7 +1,7 @@
 // The year's values of document 01, "Year's values": C, O, F and the halves of a sheet that has passed 11, 13 and 14.
 #![tactic(auto)]
 
-ghost use Rattle.std.specs.Prelude.{◌≡◌, [], ℕ, ◌+◌, ◌*◌, ◌≤◌, ◌<◌, min, ltb, get_or};
+ghost use Rattle.std.specs.Prelude.{◌≡◌, [], ℕ, ◌+◌, ◌*◌, ◌≤◌, ◌<◌, min, ltb, get_or, take, drop, length};
 ghost use Rattle.units.specs.Units.{kwh};
 ghost use Rattle.units.specs.Limits.{max_kwh, max_price, max_tier_rate, max_flat_rate};
 ghost use Rattle.units.specs.Folds.{sum_below, any_below};
@@ -137,8 +137,8 @@ impl MonthlyKwh {
         ensures { KwhWithin (sum_below stretch.count (λ i. energy_at (stretch.from + i) self.months)) (3 * max_kwh * stretch.count) result }
     {
         let mut sum = 0;
-        for i in 0..stretch.count {
-            sum += self.at(stretch.month(i)).0;
+        for kwh in stretch.of(&self.months) {
+            sum += kwh.0;
         }
         Kwh(sum)
     }
@@ -148,14 +148,23 @@ impl MonthlyKwh {
         ensures { result ≡ any_below stretch.count (λ i. ltb monthly_threshold (energy_at (stretch.from + i) self.months)) }
     {
         let mut above = false;
-        for i in 0..stretch.count {
-            above = above | (MONTHLY_THRESHOLD < self.at(stretch.month(i)).0);
+        for kwh in stretch.of(&self.months) {
+            above = above | (MONTHLY_THRESHOLD < kwh.0);
         }
         above
     }
 }
 
 impl Stretch {
+    // Its part of the months of the year.
+    fn of<'a>(self, months: &'a [Kwh; 12]) -> &'a [Kwh]
+        ensures part { result.now ≡ take self.count (drop self.from months.now) }
+        ensures long { length result.now ≡ self.count }
+    {
+        let from = usize::from(self.from);
+        &months[from..from + usize::from(self.count)]
+    }
+
     fn month(self, i: u8) -> Month
         requires { i < self.count }
         ensures { result.index ≡ self.from + i }
