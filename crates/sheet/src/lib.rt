@@ -22,7 +22,7 @@ pub const HEADER: usize = 32;
 
 pub const MONTHS: usize = 12;
 
-// A month's numbers that have a limit; the one after them is zero.
+// A month's numbers that have a limit; the one after them is zero. Loops go over months and places by number, since these are read at.
 const NUMBERS: u8 = 23;
 
 // The bytes of a sheet, whatever stands in them.

@@ -70,7 +70,7 @@ fn energy_row(s: &[u8], reading: Reading, month: u8) -> [Kwh; 3]
     ]
 }
 
-// The energies of a reading, by month and band, of any bytes.
+// The energies of a reading, by month and band, of any bytes: month by month, since the closure of `array::from_fn` would need a clause.
 fn energy_rows(s: &[u8], reading: Reading) -> [[Kwh; 3]; 12]
     ensures { EnergyRows (energy_row s.now (first_place reading)) result }
 {

@@ -96,6 +96,7 @@ fn row_total(energy: [Kwh; 3]) -> Kwh
     Kwh(energy[0].0 + energy[1].0 + energy[2].0)
 }
 
+// The energy of each month: by number, since the closures of `array::from_fn` and `map` would need a clause here and below.
 fn totals_of(energies: Energies) -> [Kwh; 12]
     ensures { (m : ℕ) → m < 12 → get_or result m (kwh 0) ≡ kwh (row_total (get_or energies.months m [])) }
 {
@@ -200,7 +201,7 @@ fn rate_at(sheet: PassedSheet<'_>, month: Month, column: Column) -> Rate
     Rate(u64::from(sheet::number(bytes, month.index, column.place)))
 }
 
-// The tier rates of a month.
+// The tier rates of a month: tier by tier, whose number is the place of its rates.
 #[tactic(auto, unfolding(crate::specs::YearsValues::month_rate))]
 fn month_rates(sheet: PassedSheet<'_>, month: Month, plant: Plant) -> [Rate; 4]
     ensures { Rates (month_rate sheet.entry.bytes.now plant.kind plant.power month.index) result }
