@@ -78,6 +78,7 @@ pub fn year(s: &[u8]) -> u16
     codec::read(s, 4)
 }
 
+// 0 single, 1 by bands, as a number: 11 judges it on any bytes.
 pub fn withdrawn_reading(s: &[u8]) -> u8
     ensures { result ≡ withdrawn_reading s.now }
 {

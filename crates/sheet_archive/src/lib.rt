@@ -55,6 +55,7 @@ fn archive_column(sheet: &Sheet, archive: &mut [u8], column: usize)
     requires { (length archive.old ≡ sheet_length) × (column < sheet_columns) }
     ensures { archive.new ≡ column_written sheet.now column archive.old }
 {
+    // By number, here and below: a column's number is read at the month, and put at it.
     let mut last = number_in(COLUMNS, sheet, 0, column);
     codec::put(archive, place_in(MONTHS, column, 0), last);
     for month in 1..MONTHS {

@@ -215,7 +215,7 @@ fn month_rates(sheet: PassedSheet<'_>, month: Month, plant: Plant) -> [Rate; 4]
     rates
 }
 
-// A rate of the sheet, summed over a stretch of months.
+// A rate of the sheet, summed over a stretch of months: by number, since a rate is read at its month; so too the months' parts below.
 fn rate_over(sheet: PassedSheet<'_>, column: Column, stretch: Stretch) -> Rate
     ensures { RateWithin (sum_below stretch.count (λ i. word sheet.entry.bytes.now (stretch.from + i) column.place))
         (max_price * stretch.count) result }
@@ -235,7 +235,8 @@ fn mean_over(sheet: PassedSheet<'_>, column: Column, stretch: Stretch) -> Rate
     tariff::mean_rate(rate_over(sheet, column, stretch), u64::from(stretch.count))
 }
 
-// The tier rates of the annual method, "net and system apart".
+// The tier rates of the annual method, "net and system apart". Not one function with `month_rates`: a closure that reads a rate would need
+// clauses that it may be called, and of what it gives.
 #[tactic(auto, unfolding(crate::specs::YearsValues::annual_rate))]
 fn annual_rates(sheet: PassedSheet<'_>, stretch: Stretch, plant: Plant) -> [Rate; 4]
     ensures { Rates (annual_rate sheet.entry.bytes.now plant.kind plant.power stretch.from stretch.count) result }
