@@ -24,7 +24,7 @@ fn start_of(index: RecordIndex) -> usize
     RECORD_LENGTH * (index.0 as usize)
 }
 
-// The bytes of the record at an index: none past the end of the book.
+/// The bytes of the record at an index: none past the end of the book.
 pub fn record<'a>(book: &'a [u8], index: RecordIndex) -> &'a [u8]
     ensures { result.now ≡ record_at book.now index.0 }
 {
@@ -44,7 +44,7 @@ pub fn whole<'a>(book: &'a [u8], index: RecordIndex) -> &'a Record
     <&Record>::try_from(&book[start..start + RECORD_LENGTH]).unwrap()
 }
 
-// The image goes to its record's place.
+/// The image goes to its record's place.
 #[tactic(auto, unfolding(crate::specs::Fields::put_record, codec::specs::Bytes::stored))]
 pub fn store(book: &mut [u8], index: RecordIndex, image: Record)
     requires { record_length * index.0 + record_length ≤ length book.old }
