@@ -32,6 +32,8 @@ const LEAST_BALANCE: i64 = -(MAX_YEAR as i64);
 
 const MOST_BALANCE: i64 = MAX_CONTRIBUTION as i64;
 
+// What is compared with 0 below is an amount, a set of runs or a user's number: 0 is a value of each, and the rules ask it.
+
 /// Whether a book is 2 to 800 records long, which refusal 1 asks.
 #[tactic(auto, unfolding(crate::specs::Book::length_fits))]
 pub fn length_fits(book: &[u8]) -> bool

@@ -125,6 +125,7 @@ pub fn is_entry(book: &[u8], index: RecordIndex) -> bool
 // FIELDS OF A RECORD
 
 /// The number in a field of the record at an index, as wide as its type.
+// A field is known by its place in a record, so that the two are given side by side.
 pub fn field<T: Number>(book: &[u8], index: RecordIndex, at: usize) -> T
     requires { at < record_length }
     ensures { T.value result ≡ get (bytes at T.WIDTH) (record_at book.now index.0) }
@@ -185,11 +186,12 @@ pub fn open_year_of(book: &[u8], index: RecordIndex) -> u16
 }
 
 /// The account of the user whose record stands at an index.
+// That it is whole is asked of any bytes: `User` carries it where the book is known to be sound.
 pub fn account_at(book: &[u8], index: RecordIndex) -> Account
     requires { record_length * index.0 + record_length ≤ length book.now }
     ensures { result ≡ account_at book.now index.0 }
 {
-    book_records::read_account(book_layout::whole(book, index))
+    book_records::read_account(book_layout::whole_record(book, index.0 as usize))
 }
 
 impl<'a> User<'a> {
