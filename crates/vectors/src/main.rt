@@ -73,7 +73,8 @@ fn sheet_of(line: &[u8]) -> Option<(Details, Hex<'_>)> {
 
 fn values_of(sheet: &[u8], details: Details) -> Result<YearValues, Refusal> {
     let sheet = FormedSheet::new(sheet)?.passed()?;
-    if sheet::domestic_excess(details.class, sheet.bytes) {
+    let bytes = sheet.bytes;
+    if sheet::domestic_excess(details.class, bytes) {
         return Err(Refusal::DomesticExcess);
     }
     Ok(YearValues::of(sheet, details))
