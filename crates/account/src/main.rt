@@ -19,12 +19,13 @@ use units::{Ticks, UserNumber};
 
 const USAGE: &str = "give one user number, 1 to 4294967295, and the book on standard input";
 
-// A user number has at most so many digits, with the zeros in front of it.
+// A user number has at most so many digits, with the zeros in front of it; std writes an argument into a buffer that is lent.
 const LONGEST_NUMBER: usize = 64;
 
 const TICKS_PER_EURO: u64 = 100_000;
 
-// An amount in euro with five decimals, at the right of a column of its own.
+// An amount in euro with five decimals, at the right of a column of its own. The sign stands beside the ticks: no number of 64 bits
+// holds both what a `Ticks` and what a `Balance` can be.
 #[derive(Clone, Copy, Debug, PartialEq, Eq)]
 struct Amount {
     is_negative: bool,
@@ -65,6 +66,7 @@ impl fmt::Display for Amount {
             // No number is -0.
             (true, 0) => write!(f, " {:>12}.{decimals:05}", "-0"),
             (true, _) => {
+                // `as`: std has no `From` of 64 bits to signed ones, and these are below 2^48.
                 let euros = -(euros as i64);
                 write!(f, " {euros:>12}.{decimals:05}")
             }
@@ -101,6 +103,7 @@ fn say_headings(out: &mut Printer) -> Result<(), Failure> {
 }
 
 fn say_year(out: &mut Printer, year: Year) -> Result<(), Failure> {
+    // An option is a number, 1 for liquidation, as the account's record holds it.
     out.line(format_args!(
         "{} {:<11}{}{}{}{}{}{}{}{}{}",
         year.year,
@@ -124,6 +127,7 @@ fn say_year(out: &mut Printer, year: Year) -> Result<(), Failure> {
 // The closed years of a user, oldest first.
 fn say_years(out: &mut Printer, user: User<'_>) -> Result<(), Failure> {
     let account = user.account();
+    // The years are counted from the activation: no list holds them.
     for n in 0..account.open_year - account.details.year {
         say_year(out, account_years::closed_year(user, n))?;
     }
@@ -180,6 +184,7 @@ fn say_closed_payments(
     each: Option<Ticks>,
 ) -> Result<(), Failure> {
     let account = user.account();
+    // The years by their numbers: no list holds them.
     for year in account.details.year..account.open_year {
         let payments = account_years::payments_of(user, year, year);
         say_payments(out, year, each, payments)?;

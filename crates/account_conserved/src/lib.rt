@@ -13,6 +13,7 @@ pub fn conserved_sum(sums: Sums) -> Balance
     requires { Small sums }
     ensures { result.0 ≡ conserved_in sums }
 {
+    // `as`: std has no `From` of 64 bits to signed ones, and `Small` bounds each of these.
     let paid = sums.closed_advances.0 as i64 + sums.balance.0;
     let kept = paid - sums.flat_rate.0 as i64;
     let standing = kept + sums.liquidation.0 as i64 + sums.lapsed.0 as i64 + sums.credit.0 as i64;
@@ -24,5 +25,6 @@ pub fn is_conserved(sums: Sums) -> bool
     requires { Small sums }
     ensures { (result ≡ true → conserved_in sums ≡ pos sums.value.0) × (result ≡ false → conserved_in sums ≡ pos sums.value.0 → ⊥) }
 {
+    // `as`: as above.
     conserved_sum(sums).0 == sums.value.0 as i64
 }

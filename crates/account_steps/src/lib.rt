@@ -26,8 +26,9 @@ pub struct Charge {
     pub rest: Ticks,
 }
 
-/// A user's account. Option, runs and what `Charge` has made are numbers, as the details are: the check of a book reads them from any
-/// bytes and judges them, so an enum would want an account of the faulty ones beside it.
+/// A user's account. Runs and advances of its two open years are four fields: the theorem's definitions name each of them, and each
+/// place wants one, so that a struct of both would be no plainer. Option, runs and what `Charge` has made are numbers, as the details
+/// are: the check of a book reads them from any bytes and judges them, so an enum would want an account of the faulty ones beside it.
 #[derive(Clone, Copy, Debug, PartialEq, Eq)]
 pub struct Account {
     pub number: UserNumber,

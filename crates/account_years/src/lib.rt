@@ -247,6 +247,7 @@ fn credit_after_years(user: User<'_>, years: u16) -> Ticks
     ensures { result ≡ ticks (credit_after_years user.entry.book.bytes.now user.entry.index.0 years) }
 {
     let mut credit = Ticks(0);
+    // The years are counted from the activation: no list holds them.
     for n in 0..years {
         credit = next_credit(closing_after(user, n), credit);
     }

@@ -1,4 +1,4 @@
-// What the kind byte of a record says (document 01, "Book").
+// What the kind byte of a record says (document 01, "Book"): "kind 1" of a user, "2 advance, 3 closing" of an entry.
 ghost use Rattle.std.specs.Prelude.{◌≡◌, eqb};
 ghost use Rattle.book_layout.specs.Fields.{get, kind_field, all_zero};
 ghost use Rattle.book_layout.specs.Kinds.{kind_number, kind_named, unnamed_in};

@@ -24,7 +24,7 @@ fn start_of(index: RecordIndex) -> usize
     RECORD_LENGTH * (index.0 as usize)
 }
 
-// The bytes of the record at an index: none past the end of the book.
+/// The bytes of the record at an index: none past the end of the book.
 pub fn record<'a>(book: &'a [u8], index: RecordIndex) -> &'a [u8]
     ensures { result.now ≡ record_at book.now index.0 }
 {
@@ -34,17 +34,27 @@ pub fn record<'a>(book: &'a [u8], index: RecordIndex) -> &'a [u8]
     &book[from..to]
 }
 
-/// A record that the book has whole. Its length is known, so that no read of it has to look for its end.
+/// A record that the book has whole, by its number. Its length is known, so that no read of it has to look for its end.
+// That it is whole is asked at a place in any bytes: `UsedBook` and `User` carry it where the book is known.
 #[tactic(auto, unfolding(crate::specs::Fields::record_at, codec::specs::Bytes::part))]
+pub fn whole_record<'a>(book: &'a [u8], index: usize) -> &'a Record
+    requires { record_length * index + record_length ≤ length book.now }
+    ensures { result.now ≡ record_at book.now index }
+{
+    let start = RECORD_LENGTH * index;
+    <&Record>::try_from(&book[start..start + RECORD_LENGTH]).unwrap()
+}
+
+/// The same, by its index.
 pub fn whole<'a>(book: &'a [u8], index: RecordIndex) -> &'a Record
     requires { record_length * index.0 + record_length ≤ length book.now }
     ensures { result.now ≡ record_at book.now index.0 }
 {
-    let start = start_of(index);
-    <&Record>::try_from(&book[start..start + RECORD_LENGTH]).unwrap()
+    whole_record(book, index.0 as usize)
 }
 
-// The image goes to its record's place.
+/// The image goes to its record's place.
+// Asked as in `whole_record`: after the first of a call's records is written no view of the book holds.
 #[tactic(auto, unfolding(crate::specs::Fields::put_record, codec::specs::Bytes::stored))]
 pub fn store(book: &mut [u8], index: RecordIndex, image: Record)
     requires { record_length * index.0 + record_length ≤ length book.old }
@@ -62,6 +72,7 @@ pub fn head_rest_zero(r: &[u8]) -> bool
 }
 
 /// The number in a field of a record, as wide as its type.
+// A field is known by its place in a record, so that the two are given side by side.
 #[tactic(auto, unfolding(crate::specs::Fields::get))]
 pub fn field<T: Number>(r: &[u8], at: usize) -> T
     requires { at < record_length }

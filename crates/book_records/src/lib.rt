@@ -11,7 +11,7 @@ use codec::{get, put};
 use sheet_values::Details;
 use units::{RECORD_LENGTH, RecordIndex, Ticks};
 
-// A user record: its links and the account.
+/// A user record: its links and the account.
 #[derive(Clone, Copy, Debug, PartialEq, Eq)]
 pub struct UserRecord {
     pub next: RecordIndex,
@@ -19,10 +19,10 @@ pub struct UserRecord {
     pub account: Account,
 }
 
-// An advance entry. One of the later year has the year that was open when it was booked; else that is 0. An entry keeps what was
-// withheld from what it pays (document 02, ticket 1).
-#[derive(Clone, Copy, Debug, PartialEq, Eq)]
+/// An advance entry. One of the later year has the year that was open when it was booked; else that is 0. An entry keeps what was
+/// withheld from what it pays (document 02, ticket 1).
 // The year of booking is a number, 0 for none: the check reads it from any bytes and judges it.
+#[derive(Clone, Copy, Debug, PartialEq, Eq)]
 pub struct AdvanceRecord {
     pub next: RecordIndex,
     pub run: u8,
@@ -33,7 +33,7 @@ pub struct AdvanceRecord {
     pub withheld: Ticks,
 }
 
-// A closing entry.
+/// A closing entry.
 #[derive(Clone, Copy, Debug, PartialEq, Eq)]
 pub struct ClosingRecord {
     pub next: RecordIndex,
@@ -44,9 +44,7 @@ pub struct ClosingRecord {
     pub withheld: Ticks,
 }
 
-// READING
-
-// Each reads a whole record, so that no read looks for the record's end.
+// READING, of whole records, so that no read looks for the record's end.
 
 #[tactic(auto, unfolding(crate::specs::Records::account_in, book_layout::specs::Fields::get))]
 fn read_details(r: &Record) -> Details

@@ -32,7 +32,9 @@ const LEAST_BALANCE: i64 = -(MAX_YEAR as i64);
 
 const MOST_BALANCE: i64 = MAX_CONTRIBUTION as i64;
 
-// Refusal 1 looks at this.
+// What is compared with 0 below is an amount, a set of runs or a user's number: 0 is a value of each, and the rules ask it.
+
+/// Whether a book is 2 to 800 records long, which refusal 1 asks.
 #[tactic(auto, unfolding(crate::specs::Book::length_fits))]
 pub fn length_fits(book: &[u8]) -> bool
     ensures { result ≡ length_fits book.now }
@@ -41,7 +43,7 @@ pub fn length_fits(book: &[u8]) -> bool
     (SHORTEST <= n) & (n <= LONGEST) & (n % RECORD_LENGTH == 0)
 }
 
-// Refusal 5 looks at this.
+/// Whether a user's details and its option are in their ranges, which refusal 5 asks.
 #[tactic(auto, unfolding(crate::specs::Book::details_fit))]
 pub fn details_fit(details: Details, option: u8) -> bool
     ensures { result ≡ details_fit details option }
@@ -69,7 +71,7 @@ fn halves_of(a: Account, run: u8) -> Halves
     calendar::halves_paid(a.details.year, a.details.month, a.open_year, run)
 }
 
-// Whether a run is among those made of a year.
+/// Whether a run is among those made of a year, each of which is a bit.
 #[tactic(auto, unfolding(crate::specs::Book::is_made))]
 pub fn is_made(runs: u8, run: u8) -> bool
     ensures { result ≡ is_made runs run }
@@ -343,8 +345,8 @@ pub fn entry_record_fits(r: &Record, owner: &[u8]) -> bool
     }
 }
 
-#[tactic(auto, unfolding(crate::specs::Book::entry_kind))]
 /// Whether a record is an entry.
+#[tactic(auto, unfolding(crate::specs::Book::entry_kind))]
 pub fn is_entry_record(r: &[u8]) -> bool
     ensures { result ≡ entry_kind (get kind_field r.now) }
 {

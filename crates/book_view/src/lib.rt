@@ -61,6 +61,7 @@ impl<'a> UsedBook<'a> {
 
 // THE HEAD. Its two fields have a function each, as in specs/Book: `field` with the head's index and a place is no plainer.
 
+/// The records that are used, u, the head among them.
 #[tactic(auto, unfolding(book_rules::specs::Book::used))]
 pub fn used(book: &[u8]) -> u32
     ensures { result ≡ usedIn book.now }
@@ -68,6 +69,7 @@ pub fn used(book: &[u8]) -> u32
     field(book, RecordIndex(0), place::USED)
 }
 
+/// The newest user, 0 where there is none.
 #[tactic(auto, unfolding(book_rules::specs::Book::first_user))]
 pub fn first_user(book: &[u8]) -> RecordIndex
     ensures { result ≡ record_index (first_user book.now) }
@@ -75,6 +77,7 @@ pub fn first_user(book: &[u8]) -> RecordIndex
     field(book, RecordIndex(0), place::FIRST_USER)
 }
 
+/// Whether u is at least 1 and counts records that the book has.
 // By `as`: no `From` leads from 32 bits to `usize`.
 #[tactic(auto, unfolding(book_rules::specs::Book::used_fits))]
 pub fn used_fits(book: &[u8]) -> bool
@@ -93,6 +96,7 @@ fn has_kind(book: &[u8], kind: Kind, index: RecordIndex) -> bool
     ((0 < index.0) & (index.0 < used(book))) & kind.is_of(record(book, index))
 }
 
+/// Whether an index is that of a user in use; so an advance, a closing, an entry of either kind.
 pub fn is_user(book: &[u8], index: RecordIndex) -> bool
     ensures { result ≡ is_user book.now index.0 }
 {
@@ -121,6 +125,7 @@ pub fn is_entry(book: &[u8], index: RecordIndex) -> bool
 // FIELDS OF A RECORD
 
 /// The number in a field of the record at an index, as wide as its type.
+// A field is known by its place in a record, so that the two are given side by side.
 pub fn field<T: Number>(book: &[u8], index: RecordIndex, at: usize) -> T
     requires { at < record_length }
     ensures { T.value result ≡ get (bytes at T.WIDTH) (record_at book.now index.0) }
@@ -180,12 +185,13 @@ pub fn open_year_of(book: &[u8], index: RecordIndex) -> u16
     field(book, index, place::OPEN_YEAR)
 }
 
-// Of a record that the book has whole.
+/// The account of the user whose record stands at an index.
+// That it is whole is asked of any bytes: `User` carries it where the book is known to be sound.
 pub fn account_at(book: &[u8], index: RecordIndex) -> Account
     requires { record_length * index.0 + record_length ≤ length book.now }
     ensures { result ≡ account_at book.now index.0 }
 {
-    book_records::read_account(book_layout::whole(book, index))
+    book_records::read_account(book_layout::whole_record(book, index.0 as usize))
 }
 
 impl<'a> User<'a> {

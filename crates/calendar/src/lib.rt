@@ -77,7 +77,7 @@ pub const OCTOBER: u8 = 2;
 
 pub const JANUARY: u8 = 4;
 
-/// The halves of a year that a run pays.
+/// The halves of a year that a run pays: two flags, since a run pays either half, both or none.
 #[derive(Clone, Copy, Debug, PartialEq, Eq)]
 pub struct Halves {
     pub first: bool,

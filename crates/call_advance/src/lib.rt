@@ -28,7 +28,7 @@ fn half_or_estimate(a: Account, half: Kwh, estimate: WideKwh) -> WideKwh
     }
 }
 
-// What a run of a year pays.
+// What a run of a year pays. The year is narrowed below its limit, which std's `try_from` would test again.
 fn run_amount(a: Account, year: u32, run: u8, order: Order) -> Ticks
     requires year_bound { (year < 2 ^ 16) × (halves_fit a ≡ true) }
     requires order { order_fits order.price.0 order.estimate1.0 order.estimate2.0 ≡ true }
@@ -56,6 +56,7 @@ fn book_run(book: &mut [u8], user: RecordIndex, account: Account, year: u32, run
     requires { RunFits book.old user.0 account year run paid.0 }
     ensures { book.new ≡ applied user.0 (run_booked account year run paid.0) book.old }
 {
+    // Narrowed below its limit, as above.
     let named = year as u16;
     let charge = account.charge;
     let withheld = account_steps::withheld_from(charge.rest, paid);

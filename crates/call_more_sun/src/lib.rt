@@ -14,7 +14,7 @@ use refusals::Refusal;
 use sheet::{FormedSheet, PassedSheet};
 use units::Kwh;
 
-// 23: a month or a band that the reading does not have.
+// 23: a month or a band that the reading does not have. The reading's sort is the sheet's byte, 0 or 1.
 fn has_field(sheet: PassedSheet<'_>, month: u32, band: u32) -> bool
     ensures { result ≡ has_field sheet.entry.bytes.now month band }
 {
@@ -40,6 +40,7 @@ pub fn more_sun(book: &[u8], sheet: &[u8], month: u32, band: u32) -> Result<Opti
         return Err(Refusal::NoSuchField);
     }
     let account = user.account();
+    // 32 bits fit a `usize`, for which std has no `From`.
     Ok(sheet_more_sun::least_addition(
         passed,
         account.details,

@@ -3,13 +3,15 @@ use Prim.Native.Nat.{ℕ}
 use mathlib.Core.Path.{◌≡◌, refl, sym, ◌∙◌}
 use mathlib.Core.Bool.{Bool, true, false, cond}
 use mathlib.Core.List.{List}
+use borrow.Author.Tests.{not-true}
 use Rattle.refusals.specs.declared.Refusal.{Refusal}
 use Rattle.refusals.specs.Refusals.{number_of}
-use Rattle.sheet.specs.YearSheet.{sheet_year, refused13, refused14, refused19, Past13, SheetPassed}
+use Rattle.sheet.specs.YearSheet.{sheet_year, refused11, refused13, refused14, refused19, Past13, SheetPassed}
 use Rattle.sheet.specs.Objections.{Faulted}
 use Rattle.account_steps.specs.declared.Account.{Account}
-use Rattle.call_rules.specs.Rules.{refused_by}
+use Rattle.call_rules.specs.Rules.{refused_by, test_of, without}
 use Rattle.call_rules.specs.Refusals.{year_open}
+use Rattle.call_rules.proofs.Rules.{passes}
 use Rattle.call_refusals.specs.Orders.{close_rules}
 use Rattle.call_refusals.proofs.Refused.{refuses}
 
@@ -29,10 +31,7 @@ module _ (a : Account) (s : List ℕ) (room : Bool) where
         by_tests false h false k = let none : number_of e ≡ 0 = f.number_is ∙ rw (h, k) refl in absurd (refuses e none)
 
     -- a sheet that has passed 13 and 19
-    module _ (bytes : List ℕ) (same : bytes ≡ s) (passed : SheetPassed bytes) where
-      past : Past13 s
-      past = (rw (sym same) passed.past13.0, rw (sym same) passed.past13.1)
-
+    module _ (past : Past13 s) where
       pub by-excess : refused14 a.details.class s ≡ true → refused_by (close_rules a s room) ≡ 14
       unfolding refused_by
       by-excess h = rw (is_open, past.0, past.1, h) refl
@@ -40,3 +39,10 @@ module _ (a : Account) (s : List ℕ) (room : Bool) where
       pub by-room : refused14 a.details.class s ≡ false → refused_by (close_rules a s room) ≡ cond room 0 3
       unfolding refused_by
       by-room h = rw (is_open, past.0, past.1, h) refl
+
+-- a sheet of the right form to which nothing is objected
+pub sheet_passed : (a : Account) (s : List ℕ) (room : Bool) → refused11 s ≡ false → refused_by (close_rules a s room) ≡ 0 → SheetPassed s
+unfolding test_of without
+sheet_passed a s room right none =
+    let met = λ (n : ℕ) (none-0 : without 0 (close_rules a s room) ≡ true). passes n (close_rules a s room) none-0 none in
+    record { past11 = right; past13 = (not-true (refused13 s) (met 13 refl), not-true (refused19 s) (met 19 refl)) }

@@ -47,6 +47,7 @@ impl Order {
 }
 
 // Of any bytes, since the order has it last: it is asked while a call still only reads. The tests below are `&` and `|`, as the rules are.
+// 32 bits fit a `usize`, for which std has no `From`.
 #[tactic(auto, unfolding(call_rules::specs::Refusals::has_room))]
 pub fn has_room(book: &[u8]) -> bool
     ensures { result ≡ has_room book.now }
@@ -95,7 +96,7 @@ pub fn halves_in(a: Account, year: u16, run: u8) -> Halves
     calendar::halves_paid(a.details.year, a.details.month, year, run)
 }
 
-// Whether a run of a year is due and not made.
+// Whether a run of a year is due and not made. The year is narrowed below its limit, which std's `try_from` would test again.
 fn run_due(a: Account, year: u32, run: u8) -> bool
     requires { year < 2 ^ 16 }
     ensures { result ≡ (due (halves_paid a.details.year a.details.month year run) && not (is_made (runs_in year a) run)) }
@@ -134,7 +135,7 @@ fn charge_open(a: Account) -> bool
     (a.charge.made == 0) & (a.open_year <= LAST_ACTIVATION)
 }
 
-// 4 5 3. `taken`: a user has the number.
+// 4 5 3. `taken`: a user has the number. The number 0 may be brought, and is refused: it marks nothing here.
 #[tactic(auto, unfolding(call_rules::specs::Rules::refused_by))]
 pub fn may_enrol(
     number: UserNumber,
@@ -199,7 +200,27 @@ pub fn may_advance(a: Account, year: u32, run: u8, order: Order, room: bool) -> 
     Ok(())
 }
 
-// 12 13 19 14 3
+// 12 13 19 14 3, of any bytes.
+pub fn close_objection(s: &[u8], a: Account, room: bool) -> Result<(), Refusal>
+    ensures { MatchResult result
+        (λ met. refused_by (close_rules a s.now room) ≡ 0)
+        (λ refusal. (refused_by (close_rules a s.now room) ≡ number_of refusal) × Tells s.now (number_of refusal) (position_of refusal)) }
+{
+    if !year_open(a, sheet::year(s)) {
+        return Err(Refusal::YearNotOpen);
+    }
+    sheet::first_fault(s)?;
+    if sheet::domestic_excess(a.details.class, s) {
+        return Err(Refusal::DomesticExcess);
+    }
+    if !room {
+        return Err(Refusal::BookFull);
+    }
+    Ok(())
+}
+
+// The same of a sheet of the right form, which has then passed.
+#[tactic(auto, using(crate::proofs::Closings::sheet_passed))]
 pub fn may_close<'a>(
     sheet: FormedSheet<'a>,
     a: Account,
@@ -211,15 +232,6 @@ pub fn may_close<'a>(
         × Tells sheet.entry.bytes.now (number_of refusal) (position_of refusal)) }
 {
     let bytes = sheet.bytes;
-    if !year_open(a, sheet::year(bytes)) {
-        return Err(Refusal::YearNotOpen);
-    }
-    let passed = sheet.passed()?;
-    if sheet::domestic_excess(a.details.class, bytes) {
-        return Err(Refusal::DomesticExcess);
-    }
-    if !room {
-        return Err(Refusal::BookFull);
-    }
-    Ok(passed)
+    close_objection(bytes, a, room)?;
+    Ok(PassedSheet { bytes })
 }

@@ -12,9 +12,6 @@ use Rattle.chains.proofs.Walks.{Ahead, begins, entry_whole, ahead-next, next-fal
 some : (P : ℕ → Type 0) (at : ℕ) → On P at → at ≢ 0 → P at
 some P at on more = ⊎_elim (λ (e : at ≡ 0). absurd (more e)) (λ (p : P at). p) on
 
-standing : (P : ℕ → Type 0) (at : ℕ) → P at → On P at
-standing P at p = inr p
-
 module _ (b : List ℕ) (long : length_fits b ≡ true) (good : sound b ≡ true) where
   pub first_is_entry : (i : ℕ) → is_user b i ≡ true → first_entry_of b i ≢ 0 → is_entry b (first_entry_of b i) ≡ true
   first_is_entry i user more = some (λ e. is_entry b e ≡ true) (first_entry_of b i) (begins b i long good user).on more

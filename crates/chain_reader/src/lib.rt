@@ -69,6 +69,7 @@ impl<'a> Iterator for Entries<'a> {
     #[tactic(auto, using(crate::proofs::Ahead::entry_less, crate::proofs::Ahead::entry_leads), unfolding(book_rules::specs::Book::next_of))]
     fn next(&mut self) -> Option<Entry> {
         let at = self.at;
+        // A rule of the book: zero ends a chain.
         if at.0 == 0 {
             return None;
         }
@@ -112,6 +113,7 @@ impl<'a> Iterator for Users<'a> {
     #[tactic(auto, using(crate::proofs::Ahead::user_less, crate::proofs::Ahead::user_leads), unfolding(book_rules::specs::Book::next_of))]
     fn next(&mut self) -> Option<User<'a>> {
         let index = self.at;
+        // A rule of the book: zero ends a chain.
         if index.0 == 0 {
             return None;
         }

@@ -20,7 +20,8 @@ fn owned(book: &[u8], index: RecordIndex) -> bool
     is_entry(book, index) & check_rules::owner_fits(book, index)
 }
 
-// "no user with a smaller index has its number". Where that is not known, the users before are asked one by one.
+// "no user with a smaller index has its number". Where that is not known, the users before are asked one by one: `known` is a fact of
+// the user and no step to run.
 fn is_new(book: &[u8], user: RecordIndex, known: bool) -> bool
     requires { known ≡ true → number_is_new book.now user.0 ≡ true }
     ensures { result ≡ number_is_new book.now user.0 }
@@ -33,7 +34,8 @@ fn is_new(book: &[u8], user: RecordIndex, known: bool) -> bool
 // so far, first the smallest that breaks a rule by itself, or u. The entries of a user are left at the first that is faulty, or not
 // before `bad`; the users are left at one that is faulty, or at `bad`: whatever stands before it was looked at, since the owner of
 // an entry stands before the entry. Each record is looked at once: the entries of a user are linked beforehand, and its number is
-// new where a table of the numbers of all users before it takes it in. An entry has no number.
+// new where a table of the numbers of all users before it takes it in. An entry has no number. The loop goes by index, at which the
+// arrays are asked; one widens to `usize` by `as`: std has no `From` for it. They are arrays, since the library has no heap.
 #[tactic(auto, using(check_pass::proofs::Counted::counted))]
 fn faulty_record(book: HeadedBook<'_>, broken: Option<RecordIndex>) -> Option<RecordIndex>
     requires { BrokenFirst book.used.bytes.now broken }

@@ -45,6 +45,8 @@ fn place_after(places: usize, at: usize) -> usize
     if at + 1 < places { at + 1 } else { 0 }
 }
 
+// A table is an array, since the library has no heap. 0 is an empty place: an `Option` a place doubles the 8 KB that the check of a
+// large book clears. A number and a place widen to `usize` by `as`: std has no `From` for it.
 // Adds a number that the table does not hold. The answer is false where it holds it, or where all places that are tried are taken.
 pub fn insert(table: &mut [u32], number: UserNumber) -> bool
     requires table_size { 0 < length table.old }

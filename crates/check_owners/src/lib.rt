@@ -11,7 +11,7 @@ use book_layout::place;
 use book_view::UsedBook;
 use units::{MOST_RECORDS, RecordIndex};
 
-// The first entry of each owner, and of each entry the next one that has the same owner.
+// The first entry of each owner, and of each entry the next one that has the same owner: arrays, since the library has no heap.
 #[derive(Clone, Copy)]
 pub struct Entries {
     pub first: [Option<RecordIndex>; MOST_RECORDS],
@@ -19,7 +19,8 @@ pub struct Entries {
 }
 
 // The records but the head are passed from the last one down, and each is read once. An entry whose owner is no record of the book
-// stands in no list.
+// stands in no list. The loop goes by index, which the lists hold; one widens to `usize` by `as`: std has no `From` for it. That u is
+// within the arrays is asked here, and does not stand in `UsedBook`: the rules are asked of books of any length.
 pub fn by_owner(book: UsedBook<'_>) -> Entries
     requires { used book.bytes.now ≤ most_records }
     ensures { Linked book.entry.bytes.now result }

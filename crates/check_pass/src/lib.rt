@@ -1,5 +1,7 @@
 // One pass over the records of a book, from the last one down (document 01, "Book"). It tests each record's own rules, tells
 // whether the chains lead to every record, and finds the user with a number on its way.
+// An index of 0 leads nowhere, and is asked as the number that the rules name: an `Option` made from it would be taken apart at once.
+// An index widens to `usize` by `as`: std has no `From` for it.
 #![tactic(auto)]
 
 ghost use Rattle.std.specs.Prelude.{◌≡◌, true, false, ◌≤◌, ◌<◌, MatchOption};
@@ -79,7 +81,8 @@ enum Kept<'a> {
 }
 
 // The record at an index, none where it breaks a rule by itself or its owner is not before it. Where the chains are followed each
-// record comes here, so that a call would cost.
+// record comes here, so that a call would cost. That the index is below u is asked and no type: a book and an index in one struct
+// would be put together for this call alone.
 #[inline(always)]
 fn kept_at<'a>(book: UsedBook<'a>, index: RecordIndex) -> Option<Kept<'a>>
     requires { index.0 < used book.bytes.now }
@@ -120,7 +123,7 @@ fn last_met(
 
 // From the last record down as the chains lead, to the user that is looked for. They are left at the first record that breaks a rule
 // or to which they do not lead, or at the head where the users' chain does not end. What is due is kept of each user of which an
-// entry was met, and all the numbers that were seen.
+// entry was met, and all the numbers that were seen. The loop goes by index, at which the tables are asked.
 fn follow_chains(
     book: HeadedBook<'_>,
     wanted: UserNumber,
@@ -163,7 +166,8 @@ fn follow_chains(
     }
 }
 
-// The smallest record that breaks a rule by itself, of those up to the one where the chains were left.
+// The smallest record that breaks a rule by itself, of those up to the one where the chains were left. `find` over the range would
+// take a closure that asks of its index what `kept_at` asks, which the loop has from its bounds.
 #[cold]
 #[inline(never)]
 fn first_broken(book: UsedBook<'_>, left: RecordIndex) -> Option<RecordIndex>
@@ -179,7 +183,8 @@ fn first_broken(book: UsedBook<'_>, left: RecordIndex) -> Option<RecordIndex>
     None
 }
 
-// With tables for so many records, and for the numbers of their users: a small book pays for small ones alone.
+// With tables for so many records, and for the numbers of their users: a small book pays for small ones alone. They are arrays, since
+// the library has no heap; that u is within them is asked here, where their size is known.
 #[inline(never)]
 fn with_tables<const RECORDS: usize, const NUMBERS: usize>(
     book: HeadedBook<'_>,

@@ -13,7 +13,8 @@ use book_layout::{field, place};
 use book_view::UsedBook;
 use units::{MOST_RECORDS, RecordIndex};
 
-// Counts a pointer at the record that it leads to. One that leads past the records of any book is not counted.
+// Counts a pointer at the record that it leads to. One that leads past the records of any book is not counted. The counts are an
+// array, since the library has no heap; an index widens to `usize` by `as`: std has no `From` for it.
 fn count(counts: &mut [u16; MOST_RECORDS], pointer: RecordIndex)
     requires counts_length { length counts.old ≡ most_records }
     requires counts_room { (m : ℕ) → m < most_records → get_or counts.old m 0 < 65535 }
@@ -26,6 +27,8 @@ fn count(counts: &mut [u16; MOST_RECORDS], pointer: RecordIndex)
 }
 
 // A null pointer counts for the head, which nothing looks at. Each record is read once; a record of no known kind points nowhere.
+// That u is within the array is asked here, and does not stand in `UsedBook`: the rules are asked of books of any length. The loop
+// goes by index: it is what the invariant counts to, and records by an iterator would have to bring it along.
 pub fn counts(book: UsedBook<'_>) -> [u16; MOST_RECORDS]
     requires { used book.bytes.now ≤ most_records }
     ensures { (m : ℕ) → 1 ≤ m → m < most_records → get_or result m 0 ≡ pointers_to book.entry.bytes.now m }

@@ -1,4 +1,5 @@
 // The rules of document 01, "Book", on where the links of a record lead. Any bytes are a book here.
+// A link of 0 leads nowhere, and is asked as the number that the rules name: an `Option` made from it would be taken apart at once.
 #![tactic(auto)]
 
 ghost use Rattle.std.specs.Prelude.{◌≡◌, true, ◌&&◌, ◌<◌, eqb};
@@ -132,7 +133,8 @@ fn entry_links_fit(book: UsedBook<'_>, index: RecordIndex) -> bool
 
 // FAULTS
 
-// Whether a user's number is new comes from the caller, who knows it of all users.
+// Whether a user's number is new comes from the caller, who knows it of all users: `new` is a fact of the record and no step to run.
+// That the index is below u is asked and no type: a book and an index in one struct would be put together for this call alone.
 #[tactic(auto, unfolding(book_rules::specs::Book::links_fit, book_rules::specs::Book::kind_at))]
 fn links_fit(book: UsedBook<'_>, index: RecordIndex, new: bool) -> bool
     requires new_number { kind_at book.bytes.now index.0 ≡ user_kind → new ≡ number_is_new book.bytes.now index.0 }

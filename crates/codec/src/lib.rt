@@ -183,6 +183,8 @@ impl Number for Ticks {
     ghost narrow = { Prim.search rules };
 }
 
+// A number is known by its place in a string (document 01), so that `get`, `read`, `put` and `byte_at` take the two side by side.
+
 // The number at a place where all its bytes stand in the string.
 #[tactic(auto, unfolding(crate::specs::Bytes::number, crate::specs::Bytes::part))]
 pub fn get<T: Number>(s: &[u8], at: usize) -> T

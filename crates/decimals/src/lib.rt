@@ -12,7 +12,8 @@ struct DigitRun {
     pub value: u32,
 }
 
-// Writes a number at a place of the text, and answers the place behind it.
+// Writes a number at a place of the text, and answers the place behind it. The text is lent, since the library has no heap; a digit is
+// narrowed by `as`, since it is below 10.
 fn write_number(out: &mut [u8], at: usize, n: u64) -> usize
     requires { at + length (decimal n) ≤ length out.old }
     ensures { TextPut at (decimal n) out.old out.new result }

@@ -38,6 +38,7 @@ fn read_again<R: io::Read>(from: &mut R, buffer: &mut [u8]) -> io::Result<usize>
     ensures taken { ReadConsumes (R.remaining from.old) (R.remaining from.new) result buffer.new }
     ensures retried { IfErr result (λ e. error_kind e ≢ ErrorKind.Interrupted) }
 {
+    // A count of retries, which stands for no index: a proved loop has to end.
     for _ in 0..u64::MAX {
         match from.read(buffer) {
             Ok(count) => return Ok(count),
@@ -236,6 +237,7 @@ impl<R: io::Read> Lines<R> {
         requires none { Unfed (held_bytes self.old) }
         ensures { FindsNext R.remaining self.old result self.new }
     {
+        // A count of reads, which stands for no index: a proved loop has to end.
         for _ in 0..u64::MAX {
             if self.refill()? == 0 {
                 return Ok(Some(Line::Half));

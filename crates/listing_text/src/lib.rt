@@ -50,6 +50,21 @@ mod tests {
         assert_eq!(rt; listing(rt.alloc(), &book)?.as_str(), "refused 2\n");
         let _ = check_book::fresh(&mut book);
         assert_eq!(rt; listing(rt.alloc(), &book)?.as_str(), "");
+        // The user 7, of class 2, plant 1 and 3 kW, from January 2013.
+        book[0] = 2;
+        book[4] = 1;
+        book[84] = 1;
+        book[85] = 2;
+        book[86] = 1;
+        book[88] = 7;
+        book[96] = 0xb8;
+        book[97] = 0x0b;
+        book[100] = 0xdd;
+        book[101] = 0x07;
+        book[102] = 1;
+        book[104] = 0xdd;
+        book[105] = 0x07;
+        assert_eq!(rt; listing(rt.alloc(), &book)?.as_str(), "7 2013 0\n");
         Ok(())
     }
 }

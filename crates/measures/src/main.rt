@@ -38,6 +38,7 @@ fn say_refused(out: &mut Printer, refusal: Refusal) -> Result<(), Failure> {
             "line {month}: number {} is above {MAX_KWH} kWh",
             u64::from(place) + 1
         )),
+        // `as`: std has no `From` of 32 bits to a length.
         Refusal::WrongLine(line) if MONTHS < line as usize => out.line(format_args!(
             "line {line}: the file goes on behind its twelfth line"
         )),

@@ -40,6 +40,7 @@ fn say_table(out: &mut Printer, book: &[u8], s: &[u8]) -> Result<(), Failure> {
     } else {
         out.line(format_args!("month{:>11}", "single"))?;
     }
+    // The numbers of the months, which the call takes: no slice holds them.
     for month in 1..=12 {
         let first = least(book, s, month, 1);
         if by_bands {

@@ -168,6 +168,7 @@ fn words(rest: &[u8]) -> Option<(Hex<'_>, Hex<'_>)>
 fn new(rest: &[u8]) -> Option<Request<Hex<'_>>>
     ensures { asked result ≡ new_request rest.now }
 {
+    // `as` both ways: std has no `From` between a length and 64 bits.
     let [length] = arguments(rest, [LONGEST_BOOK as u64])?;
     Some(Request::New(length as usize))
 }

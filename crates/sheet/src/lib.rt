@@ -22,7 +22,7 @@ pub const HEADER: usize = 32;
 
 pub const MONTHS: usize = 12;
 
-// A month's numbers that have a limit; the one after them is zero.
+// A month's numbers that have a limit; the one after them is zero. Loops go over months and places by number, since these are read at.
 const NUMBERS: u8 = 23;
 
 // The bytes of a sheet, whatever stands in them.
@@ -78,6 +78,7 @@ pub fn year(s: &[u8]) -> u16
     codec::read(s, 4)
 }
 
+// 0 single, 1 by bands, as a number: 11 judges it on any bytes.
 pub fn withdrawn_reading(s: &[u8]) -> u8
     ensures { result ≡ withdrawn_reading s.now }
 {
@@ -234,7 +235,7 @@ fn some_wrong(s: &[u8]) -> bool
 }
 
 // 13 or 19 by the earliest number at fault. Only a month at fault is searched.
-fn first_fault(s: &[u8]) -> Result<(), Refusal>
+pub fn first_fault(s: &[u8]) -> Result<(), Refusal>
     ensures { MatchResult result (λ nothing. Past13 s.now) (λ e. Faulted s.now e) }
 {
     if !some_wrong(s) {

@@ -7,12 +7,12 @@ ghost use Rattle.codec.specs.Bytes.{stored};
 ghost use Rattle.sheet.specs.YearSheet.{sheet_length};
 ghost use Rattle.refusals.specs.Refusals.{refusal_in};
 ghost use Rattle.sheet_archive.specs.Tables.{header_length, header, number_in};
-ghost use Rattle.sheet_archive.specs.Archive.{sheet_columns, sheet_months};
+ghost use Rattle.sheet_archive.specs.Archive.{sheet_columns, sheet_months, archive_of, sheet_of};
 ghost use Rattle.sheet_archive.specs.Archive.{sizes_fit, size_answer, archive_after, restored_after};
 ghost use Rattle.sheet_archive.specs.InnerSteps.{column_written, next_four, four_stored, Restored};
 
 use refusals::Refusal;
-use sheet::{HEADER, LENGTH, MONTHS};
+use sheet::{HEADER, LENGTH, MONTHS, Sheet};
 
 // A month's numbers, the last one too.
 const COLUMNS: usize = 24;
@@ -33,9 +33,8 @@ fn place_in(places: usize, line: usize, place: usize) -> usize
 }
 
 #[tactic(auto, unfolding(crate::specs::Tables::number_in))]
-fn number_in(places: usize, table: &[u8], line: usize, place: usize) -> u32
-    requires whole_table { length table.now ≡ sheet_length }
-    requires within_table { header_length + 4 * (places * line + place) + 4 ≤ sheet_length }
+fn number_in(places: usize, table: &Sheet, line: usize, place: usize) -> u32
+    requires { header_length + 4 * (places * line + place) + 4 ≤ sheet_length }
     ensures { result ≡ number_in places table.now line place }
 {
     codec::get(table, place_in(places, line, place))
@@ -43,9 +42,8 @@ fn number_in(places: usize, table: &[u8], line: usize, place: usize) -> u32
 
 // "The header goes first." A buffer that is written is a slice with its length in a clause: std's `try_from` of a `&mut [T]` does not tell
 // what the slice holds afterwards.
-fn copy_header(from: &[u8], to: &mut [u8])
-    requires whole_source { length from.now ≡ sheet_length }
-    requires whole_destination { length to.old ≡ sheet_length }
+fn copy_header(from: &Sheet, to: &mut [u8])
+    requires { length to.old ≡ sheet_length }
     ensures { to.new ≡ stored 0 (header from.now) to.old }
 {
     to[..HEADER].copy_from_slice(&from[..HEADER]);
@@ -53,11 +51,11 @@ fn copy_header(from: &[u8], to: &mut [u8])
 
 // A column of the sheet goes to its line of the archive: "each number after the first of its column replaced by its
 // difference from the one before".
-fn archive_column(sheet: &[u8], archive: &mut [u8], column: usize)
-    requires whole_archive { (length sheet.now ≡ sheet_length) × (length archive.old ≡ sheet_length) }
-    requires column_bound { column < sheet_columns }
+fn archive_column(sheet: &Sheet, archive: &mut [u8], column: usize)
+    requires { (length archive.old ≡ sheet_length) × (column < sheet_columns) }
     ensures { archive.new ≡ column_written sheet.now column archive.old }
 {
+    // By number, here and below: a column's number is read at the month, and put at it.
     let mut last = number_in(COLUMNS, sheet, 0, column);
     codec::put(archive, place_in(MONTHS, column, 0), last);
     for month in 1..MONTHS {
@@ -69,9 +67,8 @@ fn archive_column(sheet: &[u8], archive: &mut [u8], column: usize)
 }
 
 // The numbers of a month in four columns that stand side by side, each the one before it in its column with the archive's difference.
-fn next_four(archive: &[u8], last: [u32; 4], column: usize, month: usize) -> [u32; 4]
-    requires whole_archive { length archive.now ≡ sheet_length }
-    requires column_bound { (column + 4 ≤ sheet_columns) × (month < sheet_months) }
+fn next_four(archive: &Sheet, last: [u32; 4], column: usize, month: usize) -> [u32; 4]
+    requires { (column + 4 ≤ sheet_columns) × (month < sheet_months) }
     ensures { result ≡ next_four archive.now last column month }
 {
     [
@@ -93,8 +90,8 @@ fn store_four(sheet: &mut [u8], column: usize, month: usize, numbers: [u32; 4])
     codec::put(sheet, place_in(COLUMNS, month, column + 3), numbers[3]);
 }
 
-fn restore_four(archive: &[u8], sheet: &mut [u8], column: usize)
-    requires archive_column { (length archive.now ≡ sheet_length) × (column + 4 ≤ sheet_columns) }
+fn restore_four(archive: &Sheet, sheet: &mut [u8], column: usize)
+    requires four_columns { column + 4 ≤ sheet_columns }
     requires restored { Restored archive.now sheet.old column 0 0 }
     ensures { Restored archive.now sheet.new (column + 4) 0 0 }
 {
@@ -106,6 +103,26 @@ fn restore_four(archive: &[u8], sheet: &mut [u8], column: usize)
     }
 }
 
+fn write_columns(sheet: &Sheet, archive: &mut [u8])
+    requires { length archive.old ≡ sheet_length }
+    ensures { archive.new ≡ archive_of sheet_columns sheet_months sheet.now }
+{
+    copy_header(sheet, archive);
+    for column in 0..COLUMNS {
+        archive_column(sheet, archive, column);
+    }
+}
+
+fn write_months(archive: &Sheet, sheet: &mut [u8])
+    requires { length sheet.old ≡ sheet_length }
+    ensures { sheet.new ≡ sheet_of sheet_columns sheet_months archive.now }
+{
+    copy_header(archive, sheet);
+    for four in 0..COLUMNS / 4 {
+        restore_four(archive, sheet, 4 * four);
+    }
+}
+
 // Writes the archive of a sheet. Where either is not of a sheet's length it refuses, and leaves the archive as it was.
 pub fn archive(sheet: &[u8], archive: &mut [u8]) -> Result<(), Refusal>
     ensures size_answer { refusal_in result ≡ size_answer sheet.now archive.old }
@@ -114,10 +131,8 @@ pub fn archive(sheet: &[u8], archive: &mut [u8]) -> Result<(), Refusal>
     if !sizes_fit(sheet.len(), archive.len()) {
         return Err(Refusal::BufferLength);
     }
-    copy_header(sheet, archive);
-    for column in 0..COLUMNS {
-        archive_column(sheet, archive, column);
-    }
+    let source = <&Sheet>::try_from(sheet).unwrap();
+    write_columns(source, archive);
     Ok(())
 }
 
@@ -129,9 +144,7 @@ pub fn restore(archive: &[u8], sheet: &mut [u8]) -> Result<(), Refusal>
     if !sizes_fit(archive.len(), sheet.len()) {
         return Err(Refusal::BufferLength);
     }
-    copy_header(archive, sheet);
-    for four in 0..COLUMNS / 4 {
-        restore_four(archive, sheet, 4 * four);
-    }
+    let source = <&Sheet>::try_from(archive).unwrap();
+    write_months(source, sheet);
     Ok(())
 }

@@ -67,6 +67,7 @@ fn raised_month(
 {
     let mut readings = [Kwh(0); 3];
     let mut passed = rests;
+    // By number, here and below: a reading is read at its month and band, and put at them.
     for band in 0..3 {
         let place = INJECTED + band as u8;
         let raw = sheet::number(sheet, month, place);

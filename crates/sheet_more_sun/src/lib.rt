@@ -72,6 +72,7 @@ pub fn least_addition(
 {
     let bytes = sheet.bytes;
     let price = price_of(sheet, details, month, band);
+    // Below 12 and 3: `try_from` would bring an error that cannot come.
     let field = Kwh(sheet::number(bytes, month as u8, 3 + band as u8));
     let cost = sheet_prices::cost(sheet);
     let value = sheet_prices::value(sheet, details.island == 1, details.plant == 1);

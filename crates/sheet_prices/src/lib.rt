@@ -59,10 +59,10 @@ impl Reading {
     }
 }
 
-fn energy_row(s: &[u8], reading: Reading, month: u8) -> [Kwh; 3]
-    ensures { result ≡ energy_row s.now (first_place reading) month }
+fn energy_row(s: &[u8], place: u8, month: u8) -> [Kwh; 3]
+    requires { place < 22 }
+    ensures { result ≡ energy_row s.now place month }
 {
-    let place = reading.first_place();
     [
         Kwh(sheet::number(s, month, place)),
         Kwh(sheet::number(s, month, place + 1)),
@@ -70,13 +70,15 @@ fn energy_row(s: &[u8], reading: Reading, month: u8) -> [Kwh; 3]
     ]
 }
 
-// The energies of a reading, by month and band, of any bytes.
-fn energy_rows(s: &[u8], reading: Reading) -> [[Kwh; 3]; 12]
-    ensures { EnergyRows (energy_row s.now (first_place reading)) result }
+// The energies of the year, by month and band, from a place of the month on: month by month, since the closure of `array::from_fn` would
+// need a clause of its own; so too the prices below.
+pub fn energy_rows(s: &[u8], place: u8) -> [[Kwh; 3]; 12]
+    requires { place < 22 }
+    ensures { EnergyRows (energy_row s.now place) result }
 {
     let mut rows = [[Kwh(0); 3]; 12];
     for month in 0..12 {
-        rows[usize::from(month)] = energy_row(s, reading, month);
+        rows[usize::from(month)] = energy_row(s, place, month);
     }
     rows
 }
@@ -87,7 +89,7 @@ impl Energies {
         ensures { EnergyRows (energy_row sheet.entry.bytes.now (first_place reading)) result.months }
     {
         let bytes = sheet.bytes;
-        let months = energy_rows(bytes, reading);
+        let months = energy_rows(bytes, reading.first_place());
         Energies { months }
     }
 }
@@ -159,7 +161,7 @@ fn price_rows(sheet: &Sheet, series: Series) -> [[Rate; 3]; 12]
 }
 
 impl Prices {
-    // The prices of a series.
+    // The prices of a series. Not one function with `Energies::of`: kWh and rates never stand in for one another.
     fn of(sheet: PassedSheet<'_>, series: Series) -> Prices
         ensures { PriceRows (prices_in sheet.entry.bytes.now series) result.months }
     {

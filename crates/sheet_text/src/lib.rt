@@ -42,6 +42,7 @@ fn line_of(text: &[u8], month: u32) -> Option<([Kwh; READINGS], &[u8])>
         return None;
     }
     let mut kwh = [Kwh(0); READINGS];
+    // By number, here and below: a number's place tells what stands behind it, and where it goes in the sheet.
     for place in 0..READINGS {
         let (number, behind) = decimals::read_field(rest, stop_at(place), TOO_MUCH)?;
         kwh[place] = Kwh(number);
@@ -78,6 +79,7 @@ pub fn measures_of(text: &[u8]) -> Result<[[Kwh; READINGS]; MONTHS], Refusal>
         rest = behind;
     }
     if !rest.is_empty() {
+        // Of a constant, where `from` is not to be had.
         return Err(Refusal::WrongLine(MONTHS as u32 + 1));
     }
     Ok(year)

@@ -5,7 +5,8 @@ use mathlib.Core.Bool.{true, false}
 use mathlib.Core.List.{List, []}
 use native.Mathlib.Omega.{arith}
 use lib.Dec.{ltb}
-use lib.ListN.{get_or}
+use lib.ListN.{get_or, take, drop}
+use Rattle.std.proofs.lemmas.List.{get_or-take, get_or-drop}
 use Rattle.units.specs.declared.Kwh.{Kwh}
 use Rattle.units.specs.Units.{kwh}
 use Rattle.units.specs.Limits.{max_kwh}
@@ -24,6 +25,12 @@ use Rattle.sheet_values.specs.YearsValues.{some_month_above, half_of}
 pub exchanged-within : (s : List ℕ) (m : ℕ) → month_exchanged s m ≤ month_withdrawn s m
 unfolding month_exchanged
 exchanged-within s m = omega arith
+
+-- a month of a stretch, as its part of the months holds it
+pub in-stretch : (months part : List Kwh) (from n i : ℕ) → part ≡ take n (drop from months) → i < n → (get_or part i (kwh 0)).0 ≡ energy_at (from + i) months
+in-stretch months part from n i e l =
+    ap (λ (p : List Kwh). (get_or p i (kwh 0)).0) e
+    ∙ ap (λ (k : Kwh). k.0) (get_or-take n (drop from months) i (kwh 0) l ∙ get_or-drop from months i (kwh 0))
 
 -- sums and tests over the arrays are those over the sheet
 sum_over_lem : (f : ℕ → ℕ) (a : List Kwh) → Months f a → (from n : ℕ) → from + n ≤ 12

@@ -1,7 +1,7 @@
 // The year's values of document 01, "Year's values": C, O, F and the halves of a sheet that has passed 11, 13 and 14.
 #![tactic(auto)]
 
-ghost use Rattle.std.specs.Prelude.{◌≡◌, [], ℕ, ◌+◌, ◌*◌, ◌≤◌, ◌<◌, min, ltb, get_or};
+ghost use Rattle.std.specs.Prelude.{◌≡◌, [], ℕ, ◌+◌, ◌*◌, ◌≤◌, ◌<◌, min, ltb, get_or, take, drop, length};
 ghost use Rattle.units.specs.Units.{kwh};
 ghost use Rattle.units.specs.Limits.{max_kwh, max_price, max_tier_rate, max_flat_rate};
 ghost use Rattle.units.specs.Folds.{sum_below, any_below};
@@ -96,6 +96,7 @@ fn row_total(energy: [Kwh; 3]) -> Kwh
     Kwh(energy[0].0 + energy[1].0 + energy[2].0)
 }
 
+// The energy of each month: by number, since the closures of `array::from_fn` and `map` would need a clause here and below.
 fn totals_of(energies: Energies) -> [Kwh; 12]
     ensures { (m : ℕ) → m < 12 → get_or result m (kwh 0) ≡ kwh (row_total (get_or energies.months m [])) }
 {
@@ -137,8 +138,8 @@ impl MonthlyKwh {
         ensures { KwhWithin (sum_below stretch.count (λ i. energy_at (stretch.from + i) self.months)) (3 * max_kwh * stretch.count) result }
     {
         let mut sum = 0;
-        for i in 0..stretch.count {
-            sum += self.at(stretch.month(i)).0;
+        for kwh in stretch.of(&self.months) {
+            sum += kwh.0;
         }
         Kwh(sum)
     }
@@ -148,14 +149,23 @@ impl MonthlyKwh {
         ensures { result ≡ any_below stretch.count (λ i. ltb monthly_threshold (energy_at (stretch.from + i) self.months)) }
     {
         let mut above = false;
-        for i in 0..stretch.count {
-            above = above | (MONTHLY_THRESHOLD < self.at(stretch.month(i)).0);
+        for kwh in stretch.of(&self.months) {
+            above = above | (MONTHLY_THRESHOLD < kwh.0);
         }
         above
     }
 }
 
 impl Stretch {
+    // Its part of the months of the year.
+    fn of<'a>(self, months: &'a [Kwh; 12]) -> &'a [Kwh]
+        ensures part { result.now ≡ take self.count (drop self.from months.now) }
+        ensures long { length result.now ≡ self.count }
+    {
+        let from = usize::from(self.from);
+        &months[from..from + usize::from(self.count)]
+    }
+
     fn month(self, i: u8) -> Month
         requires { i < self.count }
         ensures { result.index ≡ self.from + i }
@@ -191,7 +201,7 @@ fn rate_at(sheet: PassedSheet<'_>, month: Month, column: Column) -> Rate
     Rate(u64::from(sheet::number(bytes, month.index, column.place)))
 }
 
-// The tier rates of a month.
+// The tier rates of a month: tier by tier, whose number is the place of its rates.
 #[tactic(auto, unfolding(crate::specs::YearsValues::month_rate))]
 fn month_rates(sheet: PassedSheet<'_>, month: Month, plant: Plant) -> [Rate; 4]
     ensures { Rates (month_rate sheet.entry.bytes.now plant.kind plant.power month.index) result }
@@ -205,7 +215,7 @@ fn month_rates(sheet: PassedSheet<'_>, month: Month, plant: Plant) -> [Rate; 4]
     rates
 }
 
-// A rate of the sheet, summed over a stretch of months.
+// A rate of the sheet, summed over a stretch of months: by number, since a rate is read at its month; so too the months' parts below.
 fn rate_over(sheet: PassedSheet<'_>, column: Column, stretch: Stretch) -> Rate
     ensures { RateWithin (sum_below stretch.count (λ i. word sheet.entry.bytes.now (stretch.from + i) column.place))
         (max_price * stretch.count) result }
@@ -225,7 +235,8 @@ fn mean_over(sheet: PassedSheet<'_>, column: Column, stretch: Stretch) -> Rate
     tariff::mean_rate(rate_over(sheet, column, stretch), u64::from(stretch.count))
 }
 
-// The tier rates of the annual method, "net and system apart".
+// The tier rates of the annual method, "net and system apart". Not one function with `month_rates`: a closure that reads a rate would need
+// clauses that it may be called, and of what it gives.
 #[tactic(auto, unfolding(crate::specs::YearsValues::annual_rate))]
 fn annual_rates(sheet: PassedSheet<'_>, stretch: Stretch, plant: Plant) -> [Rate; 4]
     ensures { Rates (annual_rate sheet.entry.bytes.now plant.kind plant.power stretch.from stretch.count) result }

@@ -25,7 +25,7 @@ impl Power {
     }
 }
 
-// A row: its powers and its €/MWh.
+// A row: its powers and its €/MWh. A tuple: with named fields the layout breaks each of the 52 rows over four lines.
 #[derive(Clone, Copy)]
 struct Row(Power, u16);
 

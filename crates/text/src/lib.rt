@@ -39,9 +39,10 @@ pub fn first_number(text: &[u8]) -> Option<(u64, &[u8])>
     Some((number_of(digits)?, rest))
 }
 
-/// One blank, and the number after it.
+/// One blank and the decimal number after it, and the text after that; none where either is missing, and where the number is 2^64 or
+/// more.
 #[tactic(auto, unfolding(crate::specs::Text::field))]
-fn field(text: &[u8]) -> Option<(u64, &[u8])>
+pub fn field(text: &[u8]) -> Option<(u64, &[u8])>
     ensures { MatchOption result (field text.now ≡ None) (λ r. field text.now ≡ Some (r.0, r.1.now)) }
 {
     first_number(text.strip_prefix(b" ")?)

@@ -43,6 +43,7 @@ const MAX_TIER_RATE: u64 = 2 * MAX_PRICE;
 // Of kWh: of a half year, and of a year.
 pub const MAX_HALF_KWH: u32 = 18 * MAX_KWH;
 
+// By `as`: a call has no place in a constant.
 const MAX_YEAR_KWH: u64 = 36 * (MAX_KWH as u64);
 
 // In ticks: C, O, a liquidation, an advance; F; a contribution; the advances of a half; a year's charge.

@@ -18,13 +18,6 @@ use Rattle.call_close.proofs.Closing.{unformed, close-order, close-past-6, year-
 use Rattle.call_close.proofs.close.Goals as goal
 use Rattle.call_close.proofs.close.Goals.{After-account-account}
 
--- the user that the book shows
-named : (c : goal.After-account-account) → Named c.args.book.now (sheet_user c.args.sheet.now) c.in_ok-user.user
-named c =
-    let look = c.in_ok-_book.ensures in
-    let k = found-named c.args.book.now _ look.1.0 _ look.1.1 _ c.in_ok-user.ensures.ok_part in
-    subst (λ (x : UserNumber). Named c.args.book.now x.0 c.in_ok-user.user) c.user.ensures k
-
 pub returns-in_err-_book-clause-reply : goal.returns-in_err-_book-clause-reply
 returns-in_err-_book-clause-reply c =
     let h = damaged c.args.book.now (calls.close c.args.sheet.now) 0 _ c.in_err-_book.ensures in
@@ -66,6 +59,13 @@ returns-in_err-user-clause-position c =
     let is = told-unknown _ _ gone.value gone.ok_part in
     let h = told-nowhere c.args.sheet.now UnknownUser refl in
     search rules
+
+-- the user that the book shows
+named : (c : goal.After-account-account) → Named c.args.book.now (sheet_user c.args.sheet.now) c.in_ok-user.user
+named c =
+    let look = c.in_ok-_book.ensures in
+    let k = found-named c.args.book.now _ look.1.0 _ look.1.1 _ c.in_ok-user.ensures.ok_part in
+    subst (λ (x : UserNumber). Named c.args.book.now x.0 c.in_ok-user.user) c.user.ensures k
 
 -- what the sheet's rules and the account's answer, of the sheet as it was given
 by-rules : {s t : List ℕ} → t ≡ s → (a : Account) (room : Bool) (e : Refusal)

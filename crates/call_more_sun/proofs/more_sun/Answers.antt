@@ -15,13 +15,6 @@ use Rattle.call_more_sun.proofs.Fields.{has, field-stands}
 use Rattle.call_more_sun.proofs.more_sun.Goals as goal
 use Rattle.call_more_sun.proofs.more_sun.Goals.{After-passed, After-has_field}
 
--- the user that the book shows
-named : (c : goal.After-passed) → Named c.args.book.now (sheet_user c.args.sheet.now) c.in_ok-user.user
-named c =
-    let look = c.in_ok-_book.ensures in
-    let k = found-named c.args.book.now _ look.1.0 _ look.1.1 _ c.in_ok-user.ensures.ok_part in
-    subst (λ (x : UserNumber). Named c.args.book.now x.0 c.in_ok-user.user) c.user.ensures k
-
 pub returns-in_err-_book-clause-reply : goal.returns-in_err-_book-clause-reply
 returns-in_err-_book-clause-reply c =
     let a = c.args in
@@ -63,6 +56,13 @@ returns-in_err-user-clause-position c =
     let is = told-unknown _ _ gone.value gone.ok_part in
     let h = told-nowhere c.args.sheet.now UnknownUser refl in
     search rules
+
+-- the user that the book shows
+named : (c : goal.After-passed) → Named c.args.book.now (sheet_user c.args.sheet.now) c.in_ok-user.user
+named c =
+    let look = c.in_ok-_book.ensures in
+    let k = found-named c.args.book.now _ look.1.0 _ look.1.1 _ c.in_ok-user.ensures.ok_part in
+    subst (λ (x : UserNumber). Named c.args.book.now x.0 c.in_ok-user.user) c.user.ensures k
 
 pub returns-in_err-passed-clause-reply : goal.returns-in_err-passed-clause-reply
 returns-in_err-passed-clause-reply c =

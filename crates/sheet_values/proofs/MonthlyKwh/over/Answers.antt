@@ -1,26 +1,30 @@
 -- `over` is held to `sum_below`: a running sum.
-use Prim.Native.Nat.{◌+◌}
-use mathlib.Core.Path.{◌≡◌, sym}
+use Prim.Native.Nat.{◌+◌, ◌<◌}
+use mathlib.Core.Path.{sym}
 use native.Mathlib.Omega.{arith}
 use Rattle.units.proofs.Folds.{sum-zero, sum-next}
 use Rattle.sheet_prices.specs.InnerArrays.{energy_at}
+use Rattle.sheet_values.proofs.SheetEnergies.{in-stretch}
 use Rattle.std.proofs.Common.{rules}
 use Rattle.sheet_values.proofs.MonthlyKwh.over.Goals as goal
 
-pub loop-i-init : goal.loop-i-init
-loop-i-init c = record {
+pub loop-kwh-init : goal.loop-kwh-init
+loop-kwh-init c = record {
   within = search rules;
   bounded = search rules;
   sums = sym (sum-zero (λ j. energy_at (c.args.stretch.from + j) c.args.self.months));
 }
 
-pub loop-i-preserved : goal.loop-i-preserved
-loop-i-preserved c =
-    let l = c.loop-i in
+pub loop-kwh-preserved : goal.loop-kwh-preserved
+loop-kwh-preserved c =
+    let l = c.loop-kwh in
     let a = c.args in
-    let is : c.at-sum.result.0 ≡ energy_at (a.stretch.from + l.i) a.self.months = search rules in
+    let months = c.of-kwh-items in
+    let index : l.kwh-index < a.stretch.count = omega (arith, c.loop-kwh-test.true, months.ensures.long) in
+    let here = in-stretch a.self.months months.result.now a.stretch.from a.stretch.count l.kwh-index months.ensures.part index in
+    let most = a.self.within (a.stretch.from + l.kwh-index) (omega (arith, index, a.stretch.of_year)) in
     record {
-      within = search rules;
-      bounded = omega arith;
-      sums = sum-next l.i (λ j. energy_at (a.stretch.from + j) a.self.months) l.invariant.sums is;
+      within = omega (arith, index);
+      bounded = omega (arith, here, most, l.invariant.bounded);
+      sums = sum-next l.kwh-index (λ j. energy_at (a.stretch.from + j) a.self.months) l.invariant.sums here;
     }

@@ -2,7 +2,7 @@
 use Rattle.std.proofs.Common.{◌≡◌, ℕ, ◌-◌, ◌*◌, ◌≤◌, List, length}
 use Rattle.sheet.specs.YearSheet.{sheet_length}
 use Rattle.sheet_archive.specs.InnerSteps.{Restored}
-use Rattle.sheet_archive.proofs.restore.Given as goal
+use Rattle.sheet_archive.proofs.write_months.Given as goal
 
 pub record FoursRestored (archive before sheet : List ℕ) (four : ℕ) : Type 0 where
   pub within : four ≤ 6
