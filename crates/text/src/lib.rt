@@ -174,3 +174,23 @@ fn spell<W: fmt::Write>(bytes: &[u8], f: &mut fmt::Formatter<W>) -> fmt::Result
     }
     Ok(())
 }
+
+#[cfg(test)]
+mod tests {
+    use super::*;
+    use std::test::Fail;
+
+    // `bytes` may be out of memory, so no clause says that it answers.
+    #[test]
+    fn digits_are_read_and_printed(rt: HostRuntime) -> Result<(), Fail> {
+        let Some(hex) = Hex::new(b"00ff1a") else {
+            assert!(rt; false, "they spell no bytes");
+            return Ok(());
+        };
+        let bytes = hex.bytes(rt.alloc())?;
+        assert_eq!(rt; bytes.as_slice(), b"\x00\xff\x1a".as_slice());
+        let digits = format!(in rt.alloc(); "{}", InHexadecimal(&bytes))?;
+        assert_eq!(rt; digits.as_bytes(), b"00ff1a".as_slice());
+        Ok(())
+    }
+}
