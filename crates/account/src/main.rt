@@ -154,9 +154,8 @@ fn say_totals(out: &mut Printer, sums: Sums) -> Result<(), Failure> {
 // was paid out; the two open years too.
 
 fn say_payment_headings(out: &mut Printer) -> Result<(), Failure> {
-    out.line("")?;
     out.line(format_args!(
-        "{:<16}{:>19}{:>19}{:>19}{:>19}",
+        "\n{:<16}{:>19}{:>19}{:>19}{:>19}",
         "year", "charge", "advances", "withheld", "net paid",
     ))
 }
@@ -243,8 +242,7 @@ fn say_account(out: &mut Printer, user: User<'_>) -> Result<(), Failure> {
     let sums = statements::statement_of(user);
     say_totals(out, sums)?;
     say_charges(out, user)?;
-    out.line("")?;
-    out.line(format_args!("open year {}", sums.open_year))?;
+    out.line(format_args!("\nopen year {}", sums.open_year))?;
     say_rest(out, sums)
 }
 
@@ -271,9 +269,10 @@ fn run(rt: &HostRuntime) -> Result<(), Failure> {
     let number = output::only_argument(rt, &mut word)
         .and_then(number_of)
         .ok_or(Failure::Use)?;
-    let mut book = Vec::new(rt.alloc());
-    input::read_book_into(&mut rt.stdin(), &mut book).map_err(Failure::Input)?;
-    answer(&mut Printer::new(rt.alloc(), rt.stdout()), &book, number)
+    let mut book = input::book_buffer();
+    let length = input::read_book(&mut rt.stdin(), &mut book).map_err(Failure::Input)?;
+    let out = &mut Printer::new(rt.alloc(), rt.stdout());
+    answer(out, &book[..length], number)
 }
 
 fn main(rt: HostRuntime) {

@@ -6,7 +6,7 @@ ghost use Rattle.book_records.specs.Records.{head_image, user_image, advance_ima
 
 use account_steps::{Account, Balance, Charge, ClosingSums};
 use book_layout::kind::Kind;
-use book_layout::{Record, place};
+use book_layout::{Record, field, place};
 use codec::{get, put};
 use sheet_values::Details;
 use units::{RECORD_LENGTH, RecordIndex, Ticks};
@@ -134,6 +134,55 @@ pub fn read_closing(r: &Record) -> ClosingRecord
         sums: read_sums(r),
         owner: get(r, place::OWNER),
         withheld: get(r, place::WITHHELD),
+    }
+}
+
+// READING, of any bytes: a field past the end is 0.
+
+/// The advance that any bytes say: a field, or a part of one, that they end before is read as 0. What holds 80 bytes and more is read
+/// as its first 80 bytes are.
+#[tactic(auto, unfolding(crate::specs::Records::advance_in, book_layout::specs::Fields::get))]
+pub fn advance_of(r: &[u8]) -> AdvanceRecord
+    ensures { result ≡ advance_in r.now }
+{
+    AdvanceRecord {
+        next: field(r, place::NEXT),
+        run: field(r, place::RUN),
+        year: field(r, place::YEAR),
+        ticks: field(r, place::TICKS),
+        owner: field(r, place::OWNER),
+        booked: field(r, place::BOOKED),
+        withheld: field(r, place::WITHHELD),
+    }
+}
+
+#[tactic(auto, unfolding(crate::specs::Records::closing_in, book_layout::specs::Fields::get))]
+fn sums_of(r: &[u8]) -> ClosingSums
+    ensures { result ≡ (closing_in r.now).sums }
+{
+    ClosingSums {
+        value: field(r, place::VALUE),
+        cost: field(r, place::COST),
+        flat_rate: field(r, place::FLAT_RATE),
+        contribution: field(r, place::CONTRIBUTION),
+        liquidation: field(r, place::LIQUIDATION),
+        lapsed: field(r, place::LAPSED),
+        balance: Balance(field::<u64>(r, place::BALANCE).cast_signed()),
+    }
+}
+
+/// The closing that any bytes say, as `advance_of` reads an advance.
+#[tactic(auto, unfolding(crate::specs::Records::closing_in, book_layout::specs::Fields::get))]
+pub fn closing_of(r: &[u8]) -> ClosingRecord
+    ensures { result ≡ closing_in r.now }
+{
+    ClosingRecord {
+        next: field(r, place::NEXT),
+        option: field(r, place::CLOSING_OPTION),
+        year: field(r, place::YEAR),
+        sums: sums_of(r),
+        owner: field(r, place::OWNER),
+        withheld: field(r, place::WITHHELD),
     }
 }
 

@@ -345,12 +345,19 @@ pub fn entry_record_fits(r: &Record, owner: &[u8]) -> bool
     }
 }
 
-/// Whether a record is an entry.
+/// Whether the number of a kind is that of an entry.
 #[tactic(auto, unfolding(crate::specs::Book::entry_kind))]
+pub fn is_entry_kind(kind: u8) -> bool
+    ensures { result ≡ entry_kind kind }
+{
+    (kind == u8::from(Kind::Advance)) | (kind == u8::from(Kind::Closing))
+}
+
+/// Whether a record is an entry.
 pub fn is_entry_record(r: &[u8]) -> bool
     ensures { result ≡ entry_kind (get kind_field r.now) }
 {
-    Kind::Advance.is_of(r) | Kind::Closing.is_of(r)
+    is_entry_kind(field(r, place::KIND))
 }
 
 // THE ORDER OF A CHAIN

@@ -229,6 +229,18 @@ pub fn put<T: Number>(s: &mut [u8], at: usize, n: T)
     n.save(&mut s[at..at + T::WIDTH]);
 }
 
+// The lowest `width` bytes of a number go to its place, where the width is known only when the program runs: beyond eight bytes, zeros.
+pub fn put_bytes(s: &mut [u8], at: usize, width: usize, n: u64)
+    requires { at + width ≤ length s.old }
+    ensures { s.new ≡ stored at (bytes_of width n) s.old }
+{
+    let mut rest = n;
+    for k in 0..width {
+        s[at + k] = (rest % 256) as u8;
+        rest = rest / 256;
+    }
+}
+
 // A stretch of bytes is zero. Every byte is looked at: `all`, which stops at the first that is not, took twenty times as long.
 pub fn zeros(s: &[u8], from: usize, count: usize) -> bool
     requires { from + count < 2 ^ 40 }

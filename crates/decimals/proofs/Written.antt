@@ -4,12 +4,13 @@ use Prim.Native.Nat.{ℕ, zero, suc, ◌+◌, ◌*◌, ◌/◌, ◌%◌, ◌^◌
 use mathlib.Core.Path.{◌≡◌, sym, ap, ◌∙◌}
 use mathlib.Core.Bool.{true, false, cond}
 use mathlib.Core.List.{List, [], ◌∷◌, ◌++◌}
-use native.Mathlib.Nat.{pow-suc, one-le-pow}
+use native.Mathlib.Nat.{pow-suc, one-le-pow, zero-add}
 use native.Mathlib.Decide.{dec_lt}
 use native.Mathlib.Omega.{arith}
 use lib.Dec.{ltb}
 use borrow.Author.Tests.{lt-ltb, le-ltb}
-use lib.ListN.{length, set, length-append}
+use lib.ListN.{length, take, set, length-append}
+use lib.Seq.{take_at}
 use Rattle.codec.specs.Bytes.{stored}
 use Rattle.codec.proofs.Stores.{length-stored}
 use Rattle.codec.proofs.Pieces.{stored_next}
@@ -103,6 +104,11 @@ module _ (at n : ℕ) (s : List ℕ) (room : at + length (decimal n) ≤ length 
 
   pub last_written : set (stored at (front n) s) (at + length (front n)) (48 + n % 10) ≡ stored at (decimal n) s
   last_written = stored_next at (48 + n % 10) (front n) s front-inside ∙ ap (λ (bs : List ℕ). stored at bs s) (sym (decimal-last n))
+
+-- a number that was written at the front of a text stands there
+pub number-front : (n count : ℕ) (s out : List ℕ) → count ≡ 0 + length (decimal n) → out ≡ stored 0 (decimal n) s → take count out ≡ decimal n
+unfolding stored
+number-front n count s out c e = rw e (take_at (decimal n) _ count (sym (c ∙ zero-add (length (decimal n)))))
 
 pub field-written : (at n stop : ℕ) (s : List ℕ) → at + length (field n stop) ≤ length s
     → set (stored at (decimal n) s) (at + length (decimal n)) stop ≡ stored at (field n stop) s

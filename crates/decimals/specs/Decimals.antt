@@ -1,5 +1,5 @@
 -- Decimal numbers as text. A text is a list of bytes in ASCII; a byte past its end reads as 0, which is no digit.
-use Rattle.std.specs.Prelude.{ℕ, zero, suc, ◌+◌, ◌-◌, ◌*◌, ◌/◌, ◌%◌, ◌≤◌, min, ◌≡◌, Bool, true, cond, not, ◌&&◌, ◌||◌}
+use Rattle.std.specs.Prelude.{ℕ, zero, suc, ◌+◌, ◌-◌, ◌*◌, ◌/◌, ◌%◌, ◌≤◌, min, ◌≡◌, Bool, true, false, cond, not, ◌&&◌, ◌||◌}
 use Rattle.std.specs.Prelude.{List, [], ◌∷◌, ◌++◌, leb, ltb, length}
 use Rattle.std.specs.Prelude.{eqb, get_or, drop}
 use Rattle.decimals.specs.declared.DigitRun.{DigitRun}
@@ -49,7 +49,7 @@ unfoldable pub behind : List ℕ → List ℕ
 behind t = drop (suc (digits t)) t
 
 -- What is read at the front of a text: how many digits, and their number, `most` where it is larger; and of a field that stands there
--- the number and what is behind it.
+-- the number and what is behind it; where none stands there, the same of the digits at the front and the byte that follows them.
 pub record RunRead (t : List ℕ) (most : ℕ) (r : DigitRun) : Type 0 where
   pub count : r.count ≡ digits t
   pub within : r.count ≤ length t
@@ -57,5 +57,10 @@ pub record RunRead (t : List ℕ) (most : ℕ) (r : DigitRun) : Type 0 where
 
 pub record FieldRead (t : List ℕ) (stop most n : ℕ) (after : List ℕ) : Type 0 where
   pub stands : begins_field stop t ≡ true
+  pub value : n ≡ min (value t) most
+  pub rest : after ≡ behind t
+
+pub record FieldMissing (t : List ℕ) (stop most n : ℕ) (after : List ℕ) : Type 0 where
+  pub missing : begins_field stop t ≡ false
   pub value : n ≡ min (value t) most
   pub rest : after ≡ behind t

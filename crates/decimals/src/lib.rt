@@ -1,8 +1,8 @@
 // Decimal numbers as text, written and read: for the library and for programs. Every string of bytes is an ordinary input.
 #![tactic(auto)]
 
-ghost use Rattle.std.specs.Prelude.{◌≡◌, false, ◌+◌, ◌*◌, ◌≤◌, min, length, MatchOption};
-ghost use Rattle.decimals.specs.Decimals.{decimal, field, is_digit, begins_field, RunRead, FieldRead};
+ghost use Rattle.std.specs.Prelude.{◌≡◌, ◌+◌, ◌*◌, ◌≤◌, min, length, MatchResult};
+ghost use Rattle.decimals.specs.Decimals.{decimal, field, is_digit, RunRead, FieldRead, FieldMissing};
 ghost use Rattle.decimals.specs.InnerWritten.{TextPut};
 
 // The digits at the front of a text: how many, and their number as far as it counts.
@@ -14,7 +14,7 @@ struct DigitRun {
 
 // Writes a number at a place of the text, and answers the place behind it. The text is lent, since the library has no heap; a digit is
 // narrowed by `as`, since it is below 10.
-fn write_number(out: &mut [u8], at: usize, n: u64) -> usize
+pub fn write_number(out: &mut [u8], at: usize, n: u64) -> usize
     requires { at + length (decimal n) ≤ length out.old }
     ensures { TextPut at (decimal n) out.old out.new result }
 {
@@ -70,17 +70,19 @@ fn read_run(s: &[u8], most: u32) -> DigitRun
 }
 
 // A number at the front of a text, without a needless zero before it and with the byte `stop` behind it: the number, `most` where it is
-// larger, and the text behind that byte.
-pub fn read_field(s: &[u8], stop: u8, most: u32) -> Option<(u32, &[u8])>
-    ensures { MatchOption result (begins_field stop s.now ≡ false) (λ r. FieldRead s.now stop most r.0 r.1.now) }
+// larger, and the text behind that byte. Where none stands there, the error has what the digits at the front write, 0 where there are
+// none, and the text behind the byte that follows them.
+pub fn read_field(s: &[u8], stop: u8, most: u32) -> Result<(u32, &[u8]), (u32, &[u8])>
+    ensures { MatchResult result (λ r. FieldRead s.now stop most r.0 r.1.now) (λ r. FieldMissing s.now stop most r.0 r.1.now) }
 {
     let run = read_run(s, most);
     let count = run.count;
     let plain = (0 < count) & ((count == 1) | !(codec::byte_at(s, 0) == b'0'));
+    let end = (count + 1).min(s.len());
+    let read = (run.value, &s[end..]);
     if plain & (codec::byte_at(s, count) == stop) {
-        let end = (count + 1).min(s.len());
-        Some((run.value, &s[end..]))
+        Ok(read)
     } else {
-        None
+        Err(read)
     }
 }

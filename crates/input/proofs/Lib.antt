@@ -1,4 +1,5 @@
 pub mod FeedLemmas
 pub mod Full
-pub mod NextFound
+pub mod LentFound
+pub mod LinesFound
 pub mod PassedOver

@@ -7,10 +7,11 @@ use Rattle.std.specs.Io.KnownBytes.{Consumes, IsAtEnd}
 use Rattle.std.specs.IoError.{error_kind}
 use Rattle.std.specs.declared.io.Error.{Error}
 use Rattle.std.specs.declared.io.ErrorKind.TheVariants.{Interrupted}
-use Rattle.input.specs.declared.Line.{Line}
-use Rattle.input.specs.declared.Line.TheVariants.{Long, Half}
+use Rattle.input.specs.declared.Held.{Held}
+use Rattle.input.specs.declared.Found.{Found}
+use Rattle.input.specs.declared.Found.TheVariants.{Long, Half}
 use Rattle.input.specs.Input.{Unfed, FirstFeed}
-use Rattle.input.specs.Lines.{Finds}
+use Rattle.input.specs.LentLines.{nothing_held, HeldWithin, lent_bytes, LentFinds}
 use Rattle.input.proofs.FeedLemmas.{at_feed}
 
 -- no line feed is among the bytes that were held and those that the reader gave since, of which the last are held now
@@ -22,16 +23,22 @@ pub record PassedOver (held : List ℕ) (before after : Option (List ℕ)) (now 
   pub parts : held ++ given ≡ lost ++ now
 
 -- it cannot be read on
-pub passed_given_up : (room : ℕ) (held : List ℕ) (left after : Option (List ℕ)) (now : List ℕ) (e : Error) → PassedOver held left after now → Unfed held
-    → error_kind e ≢ Interrupted → Finds room held left (Err e) now after
-passed_given_up room held left after now e p none retried =
+pub passed_given_up : (held : List ℕ) (left after : Option (List ℕ)) (bytes : List ℕ) (places : Held) (now : List ℕ) (e : Error)
+    → PassedOver held left after now → now ≡ lent_bytes bytes places → HeldWithin bytes places → Unfed held → error_kind e ≢ Interrupted
+    → LentFinds held left (Err e) bytes places after
+passed_given_up held left after bytes places now e p is within none retried =
     let front = ap (take (length p.lost)) p.parts ∙ take_at p.lost now (length p.lost) refl in
     record {
       given = p.given;
       taken = p.taken;
-      parts = (p.lost, subst Unfed front (All-take (λ b. b ≢ 10) (length p.lost) (held ++ p.given) p.unfed), p.parts);
+      within = within;
+      parts = (
+        p.lost,
+        subst Unfed front (All-take (λ b. b ≢ 10) (length p.lost) (held ++ p.given) p.unfed),
+        p.parts ∙ ap (λ (l : List ℕ). p.lost ++ l) is,
+      );
       ended = tt;
-      failed = record { retried = retried; late = λ other. none };
+      failed = record { retried = retried; late = none };
     }
 
 -- what was passed over, and behind it what was read at once
@@ -57,49 +64,54 @@ module _ (held : List ℕ) (left between after : Option (List ℕ)) (now : List 
         parts = sym joined;
       }
 
-  -- a line ends in it
-  pub passed_line : (room at : ℕ) (rest : List ℕ) → room ≤ length held → FirstFeed piece at → rest ≡ drop (at + 1) piece
-      → Finds room held left (Ok (Some Long)) rest after
-  passed_line room at rest fits f is =
-      let line = (held ++ p.given) ++ take at piece in
-      let behind = append_assoc (held ++ p.given) (take at piece) (10 ∷ drop (at + 1) piece) in
-      record {
-        given = all;
-        taken = all_taken;
-        parts = (
-          line,
-          All-append (λ b. b ≢ 10) (held ++ p.given) (take at piece) p.unfed f.before,
-          omega (arith, fits, length-append (held ++ p.given) (take at piece), length-append held p.given),
-          sym joined ∙ ap (λ (l : List ℕ). (held ++ p.given) ++ l) (at_feed piece at f) ∙ sym behind ∙ ap (λ (l : List ℕ). line ++ 10 ∷ l) (sym is),
-        );
-        ended = tt;
-        failed = tt;
-      }
+  module _ (bytes : List ℕ) (places : Held) (within : HeldWithin bytes places) where
+    -- a line ends in it
+    pub passed_line : (at : ℕ) → length bytes ≤ length held → FirstFeed piece at → lent_bytes bytes places ≡ drop (at + 1) piece
+        → LentFinds held left (Ok (Some Long)) bytes places after
+    passed_line at fits f is =
+        let line = (held ++ p.given) ++ take at piece in
+        let behind = append_assoc (held ++ p.given) (take at piece) (10 ∷ drop (at + 1) piece) in
+        record {
+          given = all;
+          taken = all_taken;
+          within = within;
+          parts = (
+            line,
+            All-append (λ b. b ≢ 10) (held ++ p.given) (take at piece) p.unfed f.before,
+            omega (arith, fits, length-append (held ++ p.given) (take at piece), length-append held p.given),
+            sym joined ∙ ap (λ (l : List ℕ). (held ++ p.given) ++ l) (at_feed piece at f) ∙ sym behind ∙ ap (λ (l : List ℕ). line ++ 10 ∷ l) (sym is),
+          );
+          ended = tt;
+          failed = tt;
+        }
 
-  -- the input ended
-  pub passed_end : (room : ℕ) (rest : List ℕ) → 0 < length held → rest ≡ [] → piece ≡ [] → IsAtEnd after → Finds room held left (Ok (Some Half)) rest after
-  passed_end room rest some is nothing end =
-      record {
-        given = all;
-        taken = all_taken;
-        parts = (
-          subst Unfed (sym (append-nil (held ++ p.given)) ∙ ap (λ (l : List ℕ). (held ++ p.given) ++ l) (sym nothing) ∙ joined) p.unfed,
-          omega (arith, some, length-append held all),
-          is,
-        );
-        ended = end;
-        failed = tt;
-      }
+    -- the input ended
+    pub passed_end : length bytes ≤ length held → places ≡ nothing_held → piece ≡ [] → (0 < length bytes → IsAtEnd after)
+        → LentFinds held left (Ok (Some Half)) bytes places after
+    passed_end fits is nothing end =
+        record {
+          given = all;
+          taken = all_taken;
+          within = within;
+          parts = (
+            subst Unfed (sym (append-nil (held ++ p.given)) ∙ ap (λ (l : List ℕ). (held ++ p.given) ++ l) (sym nothing) ∙ joined) p.unfed,
+            λ some. omega (arith, some, fits, length-append held all),
+            is,
+          );
+          ended = end;
+          failed = tt;
+        }
 
-  -- what was read at once is held where it fails
-  pub passed_failed : (room : ℕ) (rest : List ℕ) (r : Result (Option Line) Error) → IsErrAnd r (λ e. error_kind e ≢ Interrupted) → Unfed held → rest ≡ piece
-      → Finds room held left r rest after
-  passed_failed room rest (Ok found) retried none same = absurd retried
-  passed_failed room rest (Err e) retried none same =
-      record {
-        given = all;
-        taken = all_taken;
-        parts = (held ++ p.given, p.unfed, sym joined ∙ ap (λ (l : List ℕ). (held ++ p.given) ++ l) (sym same));
-        ended = tt;
-        failed = record { retried = retried; late = λ other. none };
-      }
+    -- what was read at once is held where it fails
+    pub passed_failed : (r : Result (Option Found) Error) → IsErrAnd r (λ e. error_kind e ≢ Interrupted) → Unfed held → lent_bytes bytes places ≡ piece
+        → LentFinds held left r bytes places after
+    passed_failed (Ok found) retried none same = absurd retried
+    passed_failed (Err e) retried none same =
+        record {
+          given = all;
+          taken = all_taken;
+          within = within;
+          parts = (held ++ p.given, p.unfed, sym joined ∙ ap (λ (l : List ℕ). (held ++ p.given) ++ l) (sym same));
+          ended = tt;
+          failed = record { retried = retried; late = none };
+        }

@@ -5,13 +5,14 @@ use Rattle.std.specs.IoError.{error_kind}
 use Rattle.std.specs.declared.io.Error.{Error}
 use Rattle.std.specs.declared.io.ErrorKind.TheVariants.{Interrupted, OutOfMemory}
 use Rattle.input.specs.Input.{Unfed}
+use Rattle.input.specs.LentLines.{lent_bytes}
 use Rattle.input.specs.declared.Line.{Line}
 use Rattle.input.specs.declared.Line.TheVariants.{Whole, Long, Half}
 use Rattle.input.specs.declared.Lines.{Lines}
 
 -- the bytes that were read and are not handed out yet
 abbrev pub held_bytes : {R : Type 0} → Lines R → List ℕ
-held_bytes lines = lines.held.items
+held_bytes lines = lent_bytes lines.bytes.items lines.held
 
 -- more bytes are not held at once
 abbrev pub lines_room : {R : Type 0} → Lines R → ℕ

@@ -7,10 +7,10 @@ use Rattle.account_steps.specs.Closing.{credit_after}
 use Rattle.account_steps.specs.Account.{account_closed}
 use Rattle.decimals.specs.Decimals.{decimal_of, line_feed}
 use Rattle.listing_text.specs.Listing.{blank}
-use Rattle.listing_text.proofs.Lines.{account_line}
+use Rattle.listing_text.specs.InnerWritten.{field, account_line}
 
 pub user-7 : (a : Account) (v : YearValues) → a.number.0 ≡ 7 → a.option ≡ 0 → a.open_year ≡ 2014 → a.credit.0 ≡ 0
     → v.value.0 ≡ 10 → v.cost.0 ≡ 4
     → account_line (account_closed v a) ≡ 55 ∷ blank ∷ 50 ∷ 48 ∷ 49 ∷ 53 ∷ blank ∷ 54 ∷ line_feed ∷ []
-unfolding decimal_of account_closed credit_after
+unfolding account_line field decimal_of account_closed credit_after
 user-7 a v number option year credit value cost = rw (number, option, year, credit, value, cost)

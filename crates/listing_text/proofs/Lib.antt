@@ -1,2 +1,5 @@
 pub mod Lines
+pub mod Fields
+pub mod Walk
+pub mod Texts
 pub mod Example

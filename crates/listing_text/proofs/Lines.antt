@@ -27,11 +27,11 @@ printed_is : (n : ℕ) → n < 2 ^ 64 → printed n ≡ decimal n
 printed_is n small = sym (decimal_from_appends decimal_of last_digit most_digits n small (length-decimal-le most_digits n (omega arith) (omega arith) small))
 
 -- the line of an account
-abbrev pub account_line : Account → List ℕ
-account_line a = decimal a.number.0 ++ (blank ∷ (decimal a.open_year ++ (blank ∷ (decimal a.credit.0 ++ (line_feed ∷ [])))))
+abbrev pub line_text : Account → List ℕ
+line_text a = decimal a.number.0 ++ (blank ∷ (decimal a.open_year ++ (blank ∷ (decimal a.credit.0 ++ (line_feed ∷ [])))))
 
 pub account_printed : (a : Account) → a.number.0 < 2 ^ 64 → a.open_year < 2 ^ 64 → a.credit.0 < 2 ^ 64
-    → printed a.number.0 ++ (32 ∷ (printed a.open_year ++ (32 ∷ (printed a.credit.0 ++ (10 ∷ []))))) ≡ account_line a
+    → printed a.number.0 ++ (32 ∷ (printed a.open_year ++ (32 ∷ (printed a.credit.0 ++ (10 ∷ []))))) ≡ line_text a
 account_printed a number year credit = rw (printed_is a.number.0 number, printed_is a.open_year year, printed_is a.credit.0 credit)
 
 -- what is written, and the lines of the users from an index on
@@ -48,14 +48,14 @@ ends b text at s end =
     sym (append-nil text) ∙ ap (λ is. text ++ user_lines b is) (sym (ap (chain_from (next_of b)) end ∙ chain-none (next_of b))) ∙ s
 
 module _ (b : List ℕ) (long : length_fits b ≡ true) (good : sound b ≡ true) (at : ℕ) (user : is_user b at ≡ true) (more : at ≢ 0) where
-  line_here : user_lines b (chain_from (next_of b) at) ≡ account_line (account_at b at) ++ user_lines b (chain_from (next_of b) (next_of b at))
+  line_here : user_lines b (chain_from (next_of b) at) ≡ line_text (account_at b at) ++ user_lines b (chain_from (next_of b) (next_of b at))
   unfolding user_lines user_line
   line_here = ap (user_lines b) (walk-chain (λ i. is_user b i ≡ true) (next_of b) (users-fall b (sound-faultless b long good)) at (inr user) more)
 
-  pub goes_on : (text after : List ℕ) (a : Account) → Listing b text at → a ≡ account_at b at → after ≡ text ++ account_line a → Listing b after (next_of b at)
+  pub goes_on : (text after : List ℕ) (a : Account) → Listing b text at → a ≡ account_at b at → after ≡ text ++ line_text a → Listing b after (next_of b at)
   goes_on text after a s read w =
-      ap (λ l. l ++ user_lines b (chain_from (next_of b) (next_of b at))) (w ∙ ap (λ x. text ++ account_line x) read)
-      ∙ append_assoc text (account_line (account_at b at)) (user_lines b (chain_from (next_of b) (next_of b at)))
+      ap (λ l. l ++ user_lines b (chain_from (next_of b) (next_of b at))) (w ∙ ap (λ x. text ++ line_text x) read)
+      ∙ append_assoc text (line_text (account_at b at)) (user_lines b (chain_from (next_of b) (next_of b at)))
       ∙ ap (λ l. text ++ l) (sym line_here)
       ∙ s
 

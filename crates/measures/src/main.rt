@@ -63,9 +63,9 @@ fn run(rt: &HostRuntime) -> Result<(), Failure> {
     if output::has_argument(rt, 1) {
         return Err(Failure::Use);
     }
-    let mut file = Vec::new(rt.alloc());
-    input::read_book_into(&mut rt.stdin(), &mut file).map_err(Failure::Input)?;
-    check(&mut Printer::new(rt.alloc(), rt.stdout()), &file)
+    let mut file = input::book_buffer();
+    let length = input::read_book(&mut rt.stdin(), &mut file).map_err(Failure::Input)?;
+    check(&mut Printer::new(rt.alloc(), rt.stdout()), &file[..length])
 }
 
 fn main(rt: HostRuntime) {

@@ -78,11 +78,12 @@ fn answer(out: &mut Printer, book: &[u8], s: &[u8]) -> Result<(), Failure> {
 fn run(rt: &HostRuntime) -> Result<(), Failure> {
     let mut path = [0u8; PATH];
     let path = output::only_argument(rt, &mut path).ok_or(Failure::Use)?;
-    let mut s = Vec::new(rt.alloc());
-    input::read_file_into(rt, path, SHEET, &mut s).map_err(Failure::Sheet)?;
-    let mut book = Vec::new(rt.alloc());
-    input::read_book_into(&mut rt.stdin(), &mut book).map_err(Failure::Input)?;
-    answer(&mut Printer::new(rt.alloc(), rt.stdout()), &book, &s)
+    let mut s = [0u8; SHEET];
+    let sheet = input::read_file(rt, path, &mut s).map_err(Failure::Sheet)?;
+    let mut book = input::book_buffer();
+    let length = input::read_book(&mut rt.stdin(), &mut book).map_err(Failure::Input)?;
+    let out = &mut Printer::new(rt.alloc(), rt.stdout());
+    answer(out, &book[..length], &s[..sheet])
 }
 
 fn main(rt: HostRuntime) {

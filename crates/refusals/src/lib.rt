@@ -17,7 +17,7 @@ pub struct Position {
     pub place: u32,
 }
 
-const NOWHERE: Position = Position { month: 0, place: 0 };
+pub const NOWHERE: Position = Position { month: 0, place: 0 };
 
 impl Position {
     // The position of a number by its month and its place in the month, both counted from 0, as a program counts them.

@@ -13,6 +13,7 @@ use sheet_values::Details;
 use statements::Sums;
 use std::alloc::Global;
 use std::fmt::Display;
+use std::io;
 use text::{Hex, InHexadecimal};
 use units::{Kwh, Rate, UserNumber, WideKwh};
 
@@ -155,8 +156,13 @@ fn raise(out: &mut Printer, alloc: Global, sheet: Hex<'_>, factor: u32) -> Resul
     }
 }
 
-fn list(out: &mut Printer, alloc: Global, book: &[u8]) -> Result<(), Failure> {
-    out.bytes(listing_text::listing(alloc, book)?.as_bytes())
+// The buffer has room for every listing.
+fn list(out: &mut Printer, book: &[u8]) -> Result<(), Failure> {
+    let mut lines = listing_text::buffer();
+    match listing_text::listing_of(book, &mut lines) {
+        Some(length) => out.bytes(&lines[..length]),
+        None => Ok(()),
+    }
 }
 
 // Makes a call, on the book or on sheets, and prints its answer.
@@ -270,30 +276,37 @@ fn call(
             )
         }
         Request::Dump => out.line(InHexadecimal(book)),
-        Request::List => list(out, alloc, book),
+        Request::List => list(out, book),
     }
 }
 
-// Answers what stands in the place of a line, and says whether to look for the next. Only a whole line makes a call.
-fn answer(out: &mut Printer, alloc: Global, line: Line, book: &mut Vec<u8>) -> Result<bool, Failure>
+// Answers what stands in the place of a line, and says whether to look for the next. Only a whole line makes a call. Where the
+// input cannot be read no further line is looked for: the program ends, and tells why.
+fn answer(
+    out: &mut Printer,
+    alloc: Global,
+    line: io::Result<Line>,
+    book: &mut Vec<u8>,
+) -> Result<bool, Failure>
     ensures { LineAnswered line book.old.items book.new.items result }
 {
     match line {
-        Line::Whole(line) => {
+        Ok(Line::Whole(line)) => {
             match replay_script::request_of(&line) {
                 Some(request) => call(out, alloc, request, book)?,
                 None => say_error(out)?,
             }
             Ok(true)
         }
-        Line::Long => {
+        Ok(Line::Long) => {
             say_error(out)?;
             Ok(true)
         }
-        Line::Half => {
+        Ok(Line::Half) => {
             say_error(out)?;
             Ok(false)
         }
+        Err(error) => Err(Failure::Input(error)),
     }
 }
 
@@ -305,12 +318,7 @@ fn run(rt: &HostRuntime) -> Result<(), Failure> {
     let mut out = Printer::new(rt.alloc(), rt.stdout());
     let mut book = Vec::new(rt.alloc());
     for line in Lines::new(rt.alloc(), rt.stdin()).take(usize::MAX) {
-        if !answer(
-            &mut out,
-            rt.alloc(),
-            line.map_err(Failure::Input)?,
-            &mut book,
-        )? {
+        if !answer(&mut out, rt.alloc(), line, &mut book)? {
             return Ok(());
         }
     }

@@ -11,7 +11,7 @@ ghost use Rattle.sheet_losses.specs.Losses.{answer_of, raised_after};
 ghost use Rattle.sheet_losses.specs.InnerSteps.{in_band, readings_in, RestsTo, MonthRaised, MonthAbove, YearRaised, YearAbove};
 
 use refusals::{Position, Refusal};
-use sheet::{HEADER, MONTHS};
+use sheet::{HEADER, MONTHS, Sheet};
 use units::{Kwh, MAX_KWH, WideKwh};
 
 // The place of a month's injected F1, counted from 0.
@@ -56,7 +56,7 @@ fn raised(reading: u32, factor: Factor, rest: u32) -> (WideKwh, u32)
 // "The rest of the division by 1,000 passes to the same band of the next month." A month's raised readings with the rests that pass on,
 // up to a reading above the limit.
 fn raised_month(
-    sheet: &[u8],
+    sheet: &Sheet,
     factor: Factor,
     rests: [u32; 3],
     month: u8,
@@ -82,7 +82,7 @@ fn raised_month(
 }
 
 // The year, month by month, and December's rests.
-fn raised_year(sheet: &[u8], factor: Factor) -> Result<([[Kwh; 3]; 12], [u32; 3]), Refusal>
+fn raised_year(sheet: &Sheet, factor: Factor) -> Result<([[Kwh; 3]; 12], [u32; 3]), Refusal>
     ensures { MatchResult result (λ r. YearRaised factor.thousandths sheet.now r.0 r.1)
         (λ e. YearAbove factor.thousandths sheet.now e) }
 {
@@ -127,7 +127,9 @@ pub fn raise(sheet: &mut [u8], factor: u32) -> Result<[u32; 3], Refusal>
         return Err(Refusal::SheetForm);
     }
     let factor = Factor::new(factor)?;
-    let (months, rests) = raised_year(sheet, factor)?;
+    // What is read is known to be whole, so that no number looks for the sheet's end.
+    let whole = <&Sheet>::try_from(&*sheet).unwrap();
+    let (months, rests) = raised_year(whole, factor)?;
     write_year(sheet, months);
     Ok(rests)
 }

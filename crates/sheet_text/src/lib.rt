@@ -12,11 +12,14 @@ ghost use Rattle.sheet_text.specs.InnerSteps.{kwh_of, kwh_of_year, stop_at, numb
 ghost use Rattle.sheet_text.specs.InnerSteps.{LineRead, FirstAbove, YearRead, TextRefused, MonthOf, SheetAbove, YearPut};
 
 use refusals::{Position, Refusal};
-use sheet::{HEADER, LENGTH, MONTHS};
+use sheet::{HEADER, LENGTH, MONTHS, Sheet};
 use units::{Kwh, MAX_KWH};
 
 // A month's kWh: three withdrawn, three injected.
 pub const READINGS: usize = 6;
+
+// The kWh of a year.
+pub const YEAR_READINGS: usize = READINGS * MONTHS;
 
 // What the lines of every sheet fit into.
 const TEXT_ROOM: usize = 675;
@@ -37,14 +40,18 @@ fn line_of(text: &[u8], month: u32) -> Option<([Kwh; READINGS], &[u8])>
     requires { month ≤ months }
     ensures { MatchOption result (begins_line month text.now ≡ false) (λ r. LineRead month text.now r.0 r.1.now) }
 {
-    let (front, mut rest) = decimals::read_field(text, b';', TOO_MUCH)?;
+    let Ok((front, mut rest)) = decimals::read_field(text, b';', TOO_MUCH) else {
+        return None;
+    };
     if front != month {
         return None;
     }
     let mut kwh = [Kwh(0); READINGS];
     // By number, here and below: a number's place tells what stands behind it, and where it goes in the sheet.
     for place in 0..READINGS {
-        let (number, behind) = decimals::read_field(rest, stop_at(place), TOO_MUCH)?;
+        let Ok((number, behind)) = decimals::read_field(rest, stop_at(place), TOO_MUCH) else {
+            return None;
+        };
         kwh[place] = Kwh(number);
         rest = behind;
     }
@@ -119,7 +126,7 @@ pub fn read_measures(sheet: &mut [u8], text: &[u8]) -> Result<(), Refusal>
 }
 
 // The kWh of a month of a sheet.
-fn month_of(sheet: &[u8], month: u8) -> [Kwh; READINGS]
+fn month_of(sheet: &Sheet, month: u8) -> [Kwh; READINGS]
     ensures { MonthOf sheet.now month result }
 {
     let mut kwh = [Kwh(0); READINGS];
@@ -130,7 +137,7 @@ fn month_of(sheet: &[u8], month: u8) -> [Kwh; READINGS]
 }
 
 // Where the first kWh of a sheet above its limit stands.
-fn position_above(sheet: &[u8]) -> Option<Position>
+fn position_above(sheet: &Sheet) -> Option<Position>
     ensures { MatchOption result (sheet_above sheet.now ≡ false) (λ position. SheetAbove sheet.now position) }
 {
     for month in 0..12 {
@@ -163,7 +170,7 @@ fn write_line(out: &mut [u8], at: usize, month: u8, kwh: [Kwh; READINGS]) -> usi
     write_numbers(out, end, kwh)
 }
 
-fn write_lines(sheet: &[u8], out: &mut [u8]) -> usize
+fn write_lines(sheet: &Sheet, out: &mut [u8]) -> usize
     requires { (buffers_fit sheet.now out.old ≡ true) × (sheet_above sheet.now ≡ false) }
     ensures { YearPut sheet.now out.old out.new result }
 {
@@ -183,9 +190,11 @@ pub fn write_measures(sheet: &[u8], text: &mut [u8]) -> Result<u32, Refusal>
     if (sheet.len() != LENGTH) | (text.len() != TEXT_ROOM) {
         return Err(Refusal::SheetForm);
     }
-    if let Some(position) = position_above(sheet) {
+    // What is read is known to be whole, so that no number looks for the sheet's end.
+    let whole = <&Sheet>::try_from(sheet).unwrap();
+    if let Some(position) = position_above(whole) {
         return Err(Refusal::AboveLimit(position));
     }
     // At most 675: `try_from` would bring an error that cannot come.
-    Ok(write_lines(sheet, text) as u32)
+    Ok(write_lines(whole, text) as u32)
 }

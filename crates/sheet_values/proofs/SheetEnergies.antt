@@ -67,6 +67,7 @@ pub flat-monthly : (s : List ℕ) (from n class plant power x : ℕ) → monthly
 unfolding flat_rate_over
 flat-monthly s from n class plant power x t q = rw t q
 
+-- a stretch is rated as a whole: the annual F, which is F where the method is not the monthly one
 pub flat-annually : (s : List ℕ) (from n class plant power x : ℕ) → monthly_method class (some_month_above s from n) ≡ false
     → x ≡ annual_flat_rate s from n class plant power → x ≡ flat_rate_over s from n class plant power
 unfolding flat_rate_over
@@ -77,13 +78,15 @@ pub flat-annual : (s : List ℕ) (w i : List Kwh) (from n class plant power x : 
     → total ≡ kwh (sum_below n (λ k. energy_at (from + k) w)) → injected ≡ kwh (sum_below n (λ k. energy_at (from + k) i))
     → shared ≡ kwh (min total.0 injected.0)
     → x ≡ flat_rate_of (annual_tiers class total.0 shared.0) (annual_rate s plant power from n)
-    → x ≡ annual_flat_rate s from n class plant power
+    → (x ≡ annual_flat_rate s from n class plant power)
+    × (monthly_method class (some_month_above s from n) ≡ false → x ≡ flat_rate_over s from n class plant power)
 unfolding annual_flat_rate exchanged_over withdrawn_over injected_over
 flat-annual s w i from n class plant power x total injected shared l hw hi et ei es q =
     let total-is : total.0 ≡ sum_below n (λ k. month_withdrawn s (from + k)) = ap (λ (e : Kwh). e.0) et ∙ sum_over_lem (month_withdrawn s) w hw from n l in
     let injected-is : injected.0 ≡ sum_below n (λ k. month_injected s (from + k)) = ap (λ (e : Kwh). e.0) ei ∙ sum_over_lem (month_injected s) i hi from n l in
     let shared-is = ap (λ (e : Kwh). e.0) es ∙ ap₂ min total-is injected-is in
-    q ∙ ap₂ (λ (a b : ℕ). flat_rate_of (annual_tiers class a b) (annual_rate s plant power from n)) total-is shared-is
+    let annual = q ∙ ap₂ (λ (a b : ℕ). flat_rate_of (annual_tiers class a b) (annual_rate s plant power from n)) total-is shared-is in
+    (annual, λ t. flat-annually s from n class plant power x t annual)
 
 -- the exchanged energy of a half year
 pub exchanged-capped : (s : List ℕ) → SheetPassed s → (m : ℕ) → m < 12 → month_exchanged s m ≤ 3 * max_kwh

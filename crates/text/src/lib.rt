@@ -2,9 +2,10 @@
 // an ordinary input. What is read stands at the front, and what stands after it is handed out with it.
 #![tactic(auto)]
 
-ghost use Rattle.std.specs.Prelude.{◌≡◌, true, false, ◌/◌, ◌<◌, ◌≤◌, length, None, Some, MatchOption, IfOk};
+ghost use Rattle.std.specs.Prelude.{◌≡◌, true, false, ◌++◌, ◌*◌, ◌/◌, ◌<◌, ◌≤◌, length, take, drop, None, Some, MatchOption, IfOk};
 ghost use Rattle.std.specs.Fmt.{digit_glyph, WritesOnOk};
 ghost use Rattle.std.specs.List.{list_all};
+ghost use Rattle.std.specs.Str.{IsUtf8};
 ghost use Rattle.std.specs.Str.Parse.{AllDigits};
 ghost use Rattle.text.specs.Text.{digits, number_of, first_number, field, fields, word_length, first_word, after_word};
 ghost use Rattle.text.specs.Text.{is_hex_digit, is_hex, hex_of};
@@ -141,16 +142,53 @@ impl<'a> Hex<'a> {
     }
 
     /// The bytes that they spell.
-    #[tactic(auto, using(crate::proofs::Spellings::pair_by_pair), unfolding(crate::specs::Text::hex_of))]
+    #[tactic(auto, using(crate::proofs::Spellings::whole))]
     pub fn bytes(self, alloc: Global) -> Result<Vec<u8>, AllocError>
         ensures { IfOk result (λ v. hex_of v.items ≡ self.entry.digits.now) }
     {
-        let mut bytes = Vec::with_capacity(alloc, self.count())?;
-        for pair in self.digits.chunks_exact(2) {
-            bytes.push(16 * digit_value(pair[0]) + digit_value(pair[1]))?;
-        }
+        let mut bytes = vec![in alloc; 0; self.count()]?;
+        self.copy_to(bytes.as_mut_slice());
         Ok(bytes)
     }
+
+    /// The bytes that they spell, put at the front of `out`, which stays as it is behind them; and how many they are.
+    #[tactic(auto, using(crate::proofs::Spellings::byte_by_byte))]
+    pub fn copy_to(self, out: &mut [u8]) -> usize
+        requires { length self.digits.now / 2 ≤ length out.old }
+        ensures bytes { hex_of (take result out.new) ≡ self.entry.digits.now }
+        ensures rest { drop result out.new ≡ drop result out.old }
+        ensures count { result ≡ length self.entry.digits.now / 2 }
+        ensures room { length out.new ≡ length out.old }
+    {
+        let count = self.count();
+        for k in 0..count {
+            out[k] = 16 * digit_value(self.digits[2 * k]) + digit_value(self.digits[2 * k + 1]);
+        }
+        count
+    }
+}
+
+/// The digit of a number below 16, in lower case.
+fn digit_of(n: u8) -> u8
+    requires { n < 16 }
+    ensures { result ≡ digit_glyph false n }
+{
+    if n < 10 { b'0' + n } else { b'a' + (n - 10) }
+}
+
+/// Bytes in hexadecimal, in lower case, two digits for each, put at the front of `out`, which stays as it is behind them; and how many
+/// digits they are.
+pub fn hex_to(bytes: &[u8], out: &mut [u8]) -> usize
+    requires { 2 * length bytes.now ≤ length out.old }
+    ensures digits { out.new ≡ hex_of bytes.now ++ drop (2 * length bytes.now) out.old }
+    ensures count { result ≡ 2 * length bytes.now }
+    ensures text { IsUtf8 (hex_of bytes.now) }
+{
+    for k in 0..bytes.len() {
+        out[2 * k] = digit_of(bytes[k] / 16);
+        out[2 * k + 1] = digit_of(bytes[k] % 16);
+    }
+    2 * bytes.len()
 }
 
 /// Bytes that print in hexadecimal, in lower case: two digits for each, the upper half first.
@@ -165,12 +203,22 @@ impl fmt::Display for InHexadecimal<'_> {
     }
 }
 
-#[tactic(auto, unfolding(crate::specs::Text::hex_of))]
+/// Digits as text.
+fn text_of(digits: &[u8]) -> &str
+    requires { IsUtf8 digits.now }
+    ensures { result.now ≡ digits.now }
+{
+    str::from_utf8(digits).unwrap()
+}
+
+// So many digits at once, and not a byte at a time: the formatter's call costs far more than the digits.
 fn spell<W: fmt::Write>(bytes: &[u8], f: &mut fmt::Formatter<W>) -> fmt::Result
     ensures { WritesOnOk W.write_str_gives f.old result (hex_of bytes.now) f.new }
 {
-    for byte in bytes {
-        write!(f, "{byte:02x}")?;
+    let mut digits = [0u8; 512];
+    for part in bytes.chunks(256) {
+        let count = hex_to(part, &mut digits);
+        f.write_str(text_of(&digits[..count]))?;
     }
     Ok(())
 }

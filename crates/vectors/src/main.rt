@@ -141,19 +141,23 @@ fn answer_verdict(out: &mut Printer, alloc: Global, line: &[u8]) -> Result<(), F
 // `listings`: the listings of books, a line each in hexadecimal, `-` for no bytes. For each it prints what the listing program
 // prints, then a line `end`.
 
-fn say_listing(out: &mut Printer, alloc: Global, book: &[u8]) -> Result<(), Failure> {
-    out.bytes(listing_text::listing(alloc, book)?.as_bytes())?;
+// The buffer has room for every listing.
+fn say_listing(out: &mut Printer, book: &[u8]) -> Result<(), Failure> {
+    let mut lines = listing_text::buffer();
+    if let Some(length) = listing_text::listing_of(book, &mut lines) {
+        out.bytes(&lines[..length])?;
+    }
     out.line("end")
 }
 
 fn answer_listing(out: &mut Printer, alloc: Global, line: &[u8]) -> Result<(), Failure> {
     if line == b"-".as_slice() {
-        return say_listing(out, alloc, b"");
+        return say_listing(out, b"");
     }
     let Some(book) = bytes_of(line, BOOK) else {
         return say_error(out);
     };
-    say_listing(out, alloc, &book.bytes(alloc)?)
+    say_listing(out, &book.bytes(alloc)?)
 }
 
 fn answer(

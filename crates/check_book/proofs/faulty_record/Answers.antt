@@ -18,6 +18,28 @@ use Rattle.check_book.proofs.faulty_record.Goals.{then-is_user+else-not-good_rec
 use Rattle.check_book.proofs.faulty_record.Goals.{else-users-test, then-users-test+then-i-bad}
 use Rattle.check_book.proofs.faulty_record.Goals.{then-users-test+else-i-bad+then-is_user+then-not-good_record, then-users-test+else-i-bad+else-is_user+then-not-owned}
 
+-- by the way that the users were left; said first, so that a search that is left too soon is refused here
+pub returns : goal.returns
+returns c =
+    let b = c.args.book.used.bytes.now in
+    let i = c.users.i in
+    let s = c.users.invariant in
+    let to = s.is.to in
+    let before = s.before in
+    let records = c.used-records.ensures in
+    let end : RecordsJudged b c.users-test.bad = elim c.users-test.branch [
+      | else-users-test w ↦ rw w.bad-is (judged b c.users.bad i (omega arith) (omega (arith, w.users-test.false)) s.is s.homes)
+      | then-users-test+then-i-bad w ↦ rw w.bad-is (judged b c.users.bad i (omega arith) (omega (arith, w.if-i-bad.true)) s.is s.homes)
+      | then-users-test+else-i-bad+then-is_user+then-not-good_record w ↦
+          let at : i < used b = omega (arith, w.users-test.true) in
+          rw w.bad-is (judged b i i (omega arith) (omega arith) (bad-here b i s.from at (sym w.good_record.ensures ∙ w.if-not-good_record.true)) (homes-sooner b c.users.bad i i before s.homes))
+      | then-users-test+else-i-bad+else-is_user+then-not-owned w ↦
+          let at : i < used b = omega (arith, w.users-test.true) in
+          let stray = stray-bad b i s.from at (sym w.is_user.ensures ∙ w.if-is_user.false) (sym w.owned.ensures ∙ w.if-not-owned.true) in
+          rw w.bad-is (judged b i i (omega arith) (omega arith) (bad-here b i s.from at stray) (homes-sooner b c.users.bad i i before s.homes))
+    ] in
+    rw c.then_some.ensures (searched b c.users-test.bad records end)
+
 -- where no record breaks a rule by itself, the search goes to the end
 unwrapped : (n : ℕ) (o : Option RecordIndex) → (unwrap_or o (record_index n)).0 ≡ index_or n o
 unwrapped n None = refl
@@ -114,25 +136,3 @@ users-preserved c =
       | else-is_user+else-not-owned w ↦
           rw (w.seen-is, w.all_seen-is, w.bad-is) (other-turn b s (user ∙ w.if-is_user.false) (sym w.owned.ensures ∙ w.if-not-owned.false) below)
     ]
-
--- by the way that the users were left
-pub returns : goal.returns
-returns c =
-    let b = c.args.book.used.bytes.now in
-    let i = c.users.i in
-    let s = c.users.invariant in
-    let to = s.is.to in
-    let before = s.before in
-    let records = c.used-records.ensures in
-    let end : RecordsJudged b c.users-test.bad = elim c.users-test.branch [
-      | else-users-test w ↦ rw w.bad-is (judged b c.users.bad i (omega arith) (omega (arith, w.users-test.false)) s.is s.homes)
-      | then-users-test+then-i-bad w ↦ rw w.bad-is (judged b c.users.bad i (omega arith) (omega (arith, w.if-i-bad.true)) s.is s.homes)
-      | then-users-test+else-i-bad+then-is_user+then-not-good_record w ↦
-          let at : i < used b = omega (arith, w.users-test.true) in
-          rw w.bad-is (judged b i i (omega arith) (omega arith) (bad-here b i s.from at (sym w.good_record.ensures ∙ w.if-not-good_record.true)) (homes-sooner b c.users.bad i i before s.homes))
-      | then-users-test+else-i-bad+else-is_user+then-not-owned w ↦
-          let at : i < used b = omega (arith, w.users-test.true) in
-          let stray = stray-bad b i s.from at (sym w.is_user.ensures ∙ w.if-is_user.false) (sym w.owned.ensures ∙ w.if-not-owned.true) in
-          rw w.bad-is (judged b i i (omega arith) (omega arith) (bad-here b i s.from at stray) (homes-sooner b c.users.bad i i before s.homes))
-    ] in
-    rw c.then_some.ensures (searched b c.users-test.bad records end)

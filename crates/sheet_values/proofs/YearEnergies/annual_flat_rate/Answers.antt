@@ -31,8 +31,8 @@ returns c =
     let parts = flat-rate-of-parts c.annual_rates.result (annual_tiers a.class w.0 e.0) (annual_rate s a.plant.kind a.plant.power a.stretch.from a.stretch.count)
     c.annual_tiers-energies.ensures.tiers c.annual_rates.ensures in
     record {
-      is = flat-annual s a.self.withdrawn.months a.self.injected.months a.stretch.from a.stretch.count a.class a.plant.kind a.plant.power
+      is = (flat-annual s a.self.withdrawn.months a.self.injected.months a.stretch.from a.stretch.count a.class a.plant.kind a.plant.power
           c.flat_rate_of.result.0 w i e a.stretch.of_year a.self.withdrawn_are a.self.injected_are c.over-withdrawn.ensures.is c.over.ensures.is
-          (ap kwh smaller) (f.is ∙ parts);
+          (ap kwh smaller) (f.is ∙ parts)).0;
       most = omega (arith, f.most, c.annual_tiers-energies.ensures.whole, smaller, c.over-withdrawn.ensures.most, a.stretch.of_year);
     }

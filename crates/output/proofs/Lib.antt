@@ -1,0 +1,3 @@
+pub mod Joins
+pub mod Digits
+pub mod Short
