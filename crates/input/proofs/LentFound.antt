@@ -4,7 +4,6 @@ use Rattle.std.proofs.Common.{Bool, true, false, cond, eqb, length, get_or, take
 use Rattle.std.proofs.lemmas.List.{nil_from_length, drop-take, drop-drop, drop_at, get_or-drop, get_or-take}
 use Rattle.std.proofs.lemmas.Slice.{between_is}
 use Rattle.std.proofs.lemmas.Bool.{eqb-true, eqb-false}
-use Rattle.std.proofs.lemmas.List.Elements.{All-nil}
 use Rattle.std.proofs.KnownBytes.{Consumes-nil, Consumes-trans, starts_with_rest}
 use Rattle.std.specs.Prelude.{slice_range}
 use borrow.Rule.Slice.PartMut.{put_mid}
@@ -17,7 +16,7 @@ use Rattle.input.specs.declared.Held.{Held}
 use Rattle.input.specs.declared.Found.{Found}
 use Rattle.input.specs.declared.Found.TheVariants as found
 use Rattle.input.specs.Input.{Unfed, FirstFeed}
-use Rattle.input.specs.LentLines.{nothing_held, HeldWithin, lent_bytes, LineStands, LentParts, LentEndsAt, LentFailsAt, LentFinds}
+use Rattle.input.specs.LentLines.{nothing_held, HeldWithin, lent_bytes, LineStands, FeedBefore, LentParts, LentEndsAt, LentFailsAt, LentFinds}
 use Rattle.input.proofs.FeedLemmas.{at_feed}
 
 -- the bytes up to a place
@@ -51,6 +50,13 @@ behind_is filled count bytes read size =
 -- what stands behind a line feed at the front
 pub behind_feed : (bytes : List ℕ) (at n : ℕ) → slice_range bytes (at + 1) n ≡ drop (at + 1) (take n bytes)
 behind_feed bytes at n = between_is bytes (at + 1) n
+
+-- what stands behind a line feed at the front comes right behind it
+pub feed_before : (n at : ℕ) (bytes : List ℕ) → n ≤ length bytes → FirstFeed (take n bytes) at
+    → FeedBefore bytes (record { next = at + 1; filled = n })
+feed_before n at bytes size f =
+    let inside : at < n = omega (arith, f.within, length-take-le n bytes size) in
+    (at, refl, sym (get_or-take n bytes at 0 inside) ∙ f.feed)
 
 -- a line ends at the first line feed
 pub line_stands : (all bytes : List ℕ) (from at to : ℕ) (held : Held) → all ≡ slice_range bytes from held.filled → held.filled ≤ length bytes
@@ -120,9 +126,9 @@ module _ (held now : List ℕ) (left between : Option (List ℕ)) (appends : Sta
 
   -- nothing is lost of what was read before a failure
   pub failed_at : (r : Result (Option Found) Error) (bytes : List ℕ) (places : Held) (e : Error) → r ≡ Err e → HeldWithin bytes places
-      → now ≡ lent_bytes bytes places → error_kind e ≢ Interrupted → Unfed held → LentFinds held left r bytes places between
-  failed_at r bytes places e is within same retried late =
-      rw is (found_in (Err e) bytes places within ([], All-nil (λ b. b ≢ 10), same) tt (record { retried = retried; late = late }))
+      → Unfed now → now ≡ lent_bytes bytes places → error_kind e ≢ Interrupted → Unfed held → LentFinds held left r bytes places between
+  failed_at r bytes places e is within unfed same retried late =
+      rw is (found_in (Err e) bytes places within (unfed, ([], same)) tt (record { retried = retried; late = late }))
 
   -- the input ended
   pub found_last : (end_found : Option Found) (n : ℕ) (bytes : List ℕ) (places : Held) → end_found ≡ cond (eqb n 0) None (Some found.Half) → n ≡ length now
@@ -154,3 +160,18 @@ module _ (held now : List ℕ) (left between : Option (List ℕ)) (appends : Sta
       late : (s : Result (Option Found) Error) → IfErr s (LentFailsAt now) → IfErr s (LentFailsAt held)
       late (Ok x) p = tt
       late (Err e) p = record { retried = p.retried; late = unfed }
+
+-- after a failure nothing is held, where what was is let go
+pub let_go : (held : List ℕ) (left after : Option (List ℕ)) (bytes : List ℕ) (places now : Held) (r : Result (Option Found) Error) (e : Error)
+    → r ≡ Err e → LentFinds held left r bytes places after → now ≡ nothing_held → LentFinds held left (Err e) bytes now after
+let_go held left after bytes places now r e is finds none =
+    let f = subst (λ (x : Result (Option Found) Error). LentFinds held left x bytes places after) is finds in
+    rw none
+    (record {
+      given = f.given;
+      taken = f.taken;
+      within = record { next = omega arith; filled = omega arith };
+      parts = (f.parts.0, (held ++ f.given, sym (append-nil (held ++ f.given))));
+      ended = tt;
+      failed = f.failed;
+    })

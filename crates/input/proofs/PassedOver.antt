@@ -1,7 +1,7 @@
 -- What was passed over of a line that is too long.
 use Rattle.std.proofs.Common.{◌≡◌, ◌≢◌, ℕ, ◌+◌, ◌<◌, ◌≤◌, List, [], ◌∷◌, ◌++◌, Option, Some, Result, Ok}
-use Rattle.std.proofs.Common.{Err, IsErrAnd, length, take, drop, refl, sym, ap, subst, ◌∙◌, arith, append_assoc, append-nil, length-append, take_at}
-use Rattle.std.proofs.lemmas.List.Elements.{All-append, All-take}
+use Rattle.std.proofs.Common.{Err, IsErrAnd, length, take, drop, sym, ap, subst, ◌∙◌, arith, append_assoc, append-nil, length-append}
+use Rattle.std.proofs.lemmas.List.Elements.{All-append}
 use Rattle.std.proofs.KnownBytes.{Consumes-trans}
 use Rattle.std.specs.Io.KnownBytes.{Consumes, IsAtEnd}
 use Rattle.std.specs.IoError.{error_kind}
@@ -11,7 +11,7 @@ use Rattle.input.specs.declared.Held.{Held}
 use Rattle.input.specs.declared.Found.{Found}
 use Rattle.input.specs.declared.Found.TheVariants.{Long, Half}
 use Rattle.input.specs.Input.{Unfed, FirstFeed}
-use Rattle.input.specs.LentLines.{nothing_held, HeldWithin, lent_bytes, LentFinds}
+use Rattle.input.specs.LentLines.{nothing_held, HeldWithin, lent_bytes, FeedBefore, LentFinds}
 use Rattle.input.proofs.FeedLemmas.{at_feed}
 
 -- no line feed is among the bytes that were held and those that the reader gave since, of which the last are held now
@@ -27,16 +27,11 @@ pub passed_given_up : (held : List ℕ) (left after : Option (List ℕ)) (bytes 
     → PassedOver held left after now → now ≡ lent_bytes bytes places → HeldWithin bytes places → Unfed held → error_kind e ≢ Interrupted
     → LentFinds held left (Err e) bytes places after
 passed_given_up held left after bytes places now e p is within none retried =
-    let front = ap (take (length p.lost)) p.parts ∙ take_at p.lost now (length p.lost) refl in
     record {
       given = p.given;
       taken = p.taken;
       within = within;
-      parts = (
-        p.lost,
-        subst Unfed front (All-take (λ b. b ≢ 10) (length p.lost) (held ++ p.given) p.unfed),
-        p.parts ∙ ap (λ (l : List ℕ). p.lost ++ l) is,
-      );
+      parts = (p.unfed, (p.lost, p.parts ∙ ap (λ (l : List ℕ). p.lost ++ l) is));
       ended = tt;
       failed = record { retried = retried; late = none };
     }
@@ -53,6 +48,10 @@ module _ (held : List ℕ) (left between after : Option (List ℕ)) (now : List 
   joined : (held ++ p.given) ++ piece ≡ held ++ all
   joined = append_assoc held p.given piece
 
+  -- nothing was read
+  still : piece ≡ [] → Unfed (held ++ all)
+  still nothing = subst Unfed (sym (append-nil (held ++ p.given)) ∙ ap (λ (l : List ℕ). (held ++ p.given) ++ l) (sym nothing) ∙ joined) p.unfed
+
   -- nothing of it ends a line
   pub passed_more : Unfed piece → PassedOver held left after piece
   passed_more unfed =
@@ -67,8 +66,8 @@ module _ (held : List ℕ) (left between after : Option (List ℕ)) (now : List 
   module _ (bytes : List ℕ) (places : Held) (within : HeldWithin bytes places) where
     -- a line ends in it
     pub passed_line : (at : ℕ) → length bytes ≤ length held → FirstFeed piece at → lent_bytes bytes places ≡ drop (at + 1) piece
-        → LentFinds held left (Ok (Some Long)) bytes places after
-    passed_line at fits f is =
+        → FeedBefore bytes places → LentFinds held left (Ok (Some Long)) bytes places after
+    passed_line at fits f is before =
         let line = (held ++ p.given) ++ take at piece in
         let behind = append_assoc (held ++ p.given) (take at piece) (10 ∷ drop (at + 1) piece) in
         record {
@@ -80,6 +79,7 @@ module _ (held : List ℕ) (left between after : Option (List ℕ)) (now : List 
             All-append (λ b. b ≢ 10) (held ++ p.given) (take at piece) p.unfed f.before,
             omega (arith, fits, length-append (held ++ p.given) (take at piece), length-append held p.given),
             sym joined ∙ ap (λ (l : List ℕ). (held ++ p.given) ++ l) (at_feed piece at f) ∙ sym behind ∙ ap (λ (l : List ℕ). line ++ 10 ∷ l) (sym is),
+            before,
           );
           ended = tt;
           failed = tt;
@@ -94,7 +94,7 @@ module _ (held : List ℕ) (left between after : Option (List ℕ)) (now : List 
           taken = all_taken;
           within = within;
           parts = (
-            subst Unfed (sym (append-nil (held ++ p.given)) ∙ ap (λ (l : List ℕ). (held ++ p.given) ++ l) (sym nothing) ∙ joined) p.unfed,
+            still nothing,
             λ some. omega (arith, some, fits, length-append held all),
             is,
           );
@@ -102,16 +102,16 @@ module _ (held : List ℕ) (left between after : Option (List ℕ)) (now : List 
           failed = tt;
         }
 
-    -- what was read at once is held where it fails
-    pub passed_failed : (r : Result (Option Found) Error) → IsErrAnd r (λ e. error_kind e ≢ Interrupted) → Unfed held → lent_bytes bytes places ≡ piece
-        → LentFinds held left r bytes places after
-    passed_failed (Ok found) retried none same = absurd retried
-    passed_failed (Err e) retried none same =
+    -- the read fails
+    pub passed_failed : (r : Result (Option Found) Error) → IsErrAnd r (λ e. error_kind e ≢ Interrupted) → Unfed held → piece ≡ []
+        → lent_bytes bytes places ≡ piece → LentFinds held left r bytes places after
+    passed_failed (Ok found) retried none nothing same = absurd retried
+    passed_failed (Err e) retried none nothing same =
         record {
           given = all;
           taken = all_taken;
           within = within;
-          parts = (held ++ p.given, p.unfed, sym joined ∙ ap (λ (l : List ℕ). (held ++ p.given) ++ l) (sym same));
+          parts = (still nothing, (held ++ p.given, sym joined ∙ ap (λ (l : List ℕ). (held ++ p.given) ++ l) (sym same)));
           ended = tt;
           failed = record { retried = retried; late = none };
         }

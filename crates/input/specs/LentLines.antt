@@ -32,16 +32,26 @@ pub record LineStands (all bytes : List ℕ) (from to : ℕ) (held : Held) : Typ
   pub stands : all ≡ slice_range bytes from held.filled
   pub parts : all ≡ slice_range bytes from to ++ 10 ∷ lent_bytes bytes held
 
+-- a whole line lies within the lent bytes
+abbrev pub FoundWithin : List ℕ → Found → Type 0
+FoundWithin bytes (found.Whole from to) = (from ≤ to) × (to ≤ length bytes)
+FoundWithin bytes found.Long = ⊤
+FoundWithin bytes found.Half = ⊤
+
+-- what is held comes right behind a line feed, which stands in the lent bytes still
+abbrev pub FeedBefore : List ℕ → Held → Type 0
+FeedBefore bytes held = (to : ℕ) × (held.next ≡ to + 1) × (get_or bytes to 0 ≡ 10)
+
 -- How bytes fall into what is found in front and what stays held. A whole line stands in the lent bytes. A line that is too long
--- for them is passed over with its line feed. A line that did not end is all that there is. Before a failure no line feed is
--- passed over.
+-- for them is passed over with its line feed. A line that did not end is all that there is. Before a failure there is no line
+-- feed, and what is held is the last of it.
 abbrev pub LentParts : List ℕ → Result (Option Found) Error → List ℕ → Held → Type 0
 LentParts all (Ok (Some (found.Whole from to))) bytes held = LineStands all bytes from to held
 LentParts all (Ok (Some found.Long)) bytes held =
-    (line : List ℕ) × Unfed line × (length bytes ≤ length line) × (all ≡ line ++ 10 ∷ lent_bytes bytes held)
+    (line : List ℕ) × Unfed line × (length bytes ≤ length line) × (all ≡ line ++ 10 ∷ lent_bytes bytes held) × FeedBefore bytes held
 LentParts all (Ok (Some found.Half)) bytes held = Unfed all × (0 < length bytes → 0 < length all) × (held ≡ nothing_held)
 LentParts all (Ok None) bytes held = (all ≡ []) × (held ≡ nothing_held)
-LentParts all (Err e) bytes held = (lost : List ℕ) × Unfed lost × (all ≡ lost ++ lent_bytes bytes held)
+LentParts all (Err e) bytes held = Unfed all × ((lost : List ℕ) × (all ≡ lost ++ lent_bytes bytes held))
 
 -- what ends at the end of the input, of which no known byte is left; where no byte is lent that is not known
 abbrev pub LentEndsAt : ℕ → Result (Option Found) Error → Option (List ℕ) → Type 0

@@ -3,12 +3,12 @@
 #![tactic(auto)]
 
 ghost use Rattle.std.specs.Prelude.{◌≡◌, ◌≢◌, ◌≤◌, ◌<◌, ◌+◌, max, ◌==◌, if◌then◌else◌, [], length, take, slice_range, vec_len};
-ghost use Rattle.std.specs.Prelude.{None, Some, MatchOption, IfOk, OnOk, IfErr, OnErr};
+ghost use Rattle.std.specs.Prelude.{None, Some, MatchOption, IfSome, IfOk, OnOk, IfErr, OnErr};
 ghost use Rattle.std.specs.Io.{ReadsAtMost, StartsWith, appended_bytes};
 ghost use Rattle.std.specs.Io.KnownBytes.{ReadConsumes, Consumes, IsAtEnd};
 ghost use Rattle.std.specs.IoError.{error_kind};
 ghost use Rattle.input.specs.Input.{room_for_lines, room_for_book, Unfed, FirstFeed, AllTaken};
-ghost use Rattle.input.specs.LentLines.{nothing_held, HeldWithin, LentFinds};
+ghost use Rattle.input.specs.LentLines.{nothing_held, HeldWithin, FoundWithin, LentFinds};
 
 use book_rules::LONGEST;
 use std::alloc::Global;
@@ -284,10 +284,8 @@ fn read_line<R: io::Read>(
     pass_over(from, bytes, held)
 }
 
-/// The next line in lent bytes, or `None` at the end of the input; needs no memory. More is read only where no line ends in what
-/// is held, which then moves to the front, so whoever types a line gets its answer before typing the next. After a failure the
-/// next call goes on with the bytes that are held.
-pub fn next_line<R: io::Read>(
+// The next line in lent bytes. What is held of a line when a read fails stays held.
+fn find_line<R: io::Read>(
     from: &mut R,
     bytes: &mut [u8],
     held: &mut Held,
@@ -310,6 +308,29 @@ pub fn next_line<R: io::Read>(
         filled: filled - next,
     };
     read_line(from, bytes, held)
+}
+
+/// The next line in lent bytes, or `None` at the end of the input; needs no memory. More is read only where no line ends in what
+/// is held, which then moves to the front, so whoever types a line gets its answer before typing the next. What is read of a line
+/// when a read fails is let go.
+pub fn next_line<R: io::Read>(
+    from: &mut R,
+    bytes: &mut [u8],
+    held: &mut Held,
+) -> io::Result<Option<Found>>
+    requires { HeldWithin bytes.old held.old }
+    ensures finds { LentFinds (slice_range bytes.old held.old.next held.old.filled) (R.remaining from.old) result bytes.new held.new
+        (R.remaining from.new) }
+    ensures within { IfOk result (λ found. IfSome found (FoundWithin bytes.new)) }
+    ensures let_go { OnErr result (held.new ≡ nothing_held) }
+{
+    match find_line(from, bytes, held) {
+        Ok(found) => Ok(found),
+        Err(error) => {
+            *held = start();
+            Err(error)
+        }
+    }
 }
 
 /// The lines of a reader. At most `room` bytes are held of it at once.
@@ -371,7 +392,7 @@ impl<R: io::Read> Lines<R> {
         ensures { FindsNext R.remaining self.old result self.new }
     {
         self.make_room()?;
-        match next_line(&mut self.from, &mut self.bytes, &mut self.held)? {
+        match find_line(&mut self.from, &mut self.bytes, &mut self.held)? {
             Some(Found::Whole { from, to }) => Ok(Some(Line::Whole(self.hand_out(from, to)?))),
             Some(Found::Long) => Ok(Some(Line::Long)),
             Some(Found::Half) => Ok(Some(Line::Half)),
@@ -573,7 +594,7 @@ mod tests {
     }
 
     #[test]
-    fn what_is_held_in_lent_bytes_outlives_a_failure(rt: HostRuntime) -> Result<(), Fail> {
+    fn what_is_held_in_lent_bytes_is_let_go_after_a_failure(rt: HostRuntime) -> Result<(), Fail> {
         let mut from = give(b"a\nbc", 3, true);
         let mut bytes = [0u8; 8];
         let mut held = start();
@@ -584,8 +605,7 @@ mod tests {
             return Ok(());
         };
         assert_eq!(rt; error.raw_os_error(), Some(5));
-        assert_eq!(rt; held, Held { next: 0, filled: 2 });
-        assert_eq!(rt; &bytes[..2], b"bc".as_slice());
+        assert_eq!(rt; held, start());
         Ok(())
     }
 

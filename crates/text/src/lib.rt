@@ -2,7 +2,8 @@
 // an ordinary input. What is read stands at the front, and what stands after it is handed out with it.
 #![tactic(auto)]
 
-ghost use Rattle.std.specs.Prelude.{◌≡◌, true, false, ◌++◌, ◌*◌, ◌/◌, ◌<◌, ◌≤◌, length, take, drop, None, Some, MatchOption, IfOk};
+ghost use Rattle.std.specs.Prelude.{◌≡◌, true, false, ◌++◌, ◌*◌, ◌/◌, ◌<◌, ◌≤◌, length, take, drop};
+ghost use Rattle.std.specs.Prelude.{None, Some, MatchOption, IfSome, IfNone, IfOk};
 ghost use Rattle.std.specs.Fmt.{digit_glyph, WritesOnOk};
 ghost use Rattle.std.specs.List.{list_all};
 ghost use Rattle.std.specs.Str.{IsUtf8};
@@ -22,12 +23,21 @@ fn digits(text: &[u8]) -> usize
 }
 
 /// The number that digits write; none where they are none, and where it is 2^64 or more.
-#[tactic(auto, using(crate::proofs::Numbers::digits_are_text), unfolding(crate::specs::Text::number_of))]
+// Not `parse`, which takes text: whether digits are text is looked at anew, which costs more than to read them.
 fn number_of(digits: &[u8]) -> Option<u64>
     requires { AllDigits 10 digits.now }
     ensures { result ≡ number_of digits.now }
 {
-    str::from_utf8(digits).ok()?.parse().ok()
+    if digits.is_empty() {
+        return None;
+    }
+    let mut value: u64 = 0;
+    for digit in digits {
+        value = value
+            .checked_mul(10)?
+            .checked_add(u64::from(*digit - b'0'))?;
+    }
+    Some(value)
 }
 
 /// The decimal number that a text begins with, and the text after it; none where no digit stands there, and where it is 2^64 or
@@ -165,6 +175,21 @@ impl<'a> Hex<'a> {
             out[k] = 16 * digit_value(self.digits[2 * k]) + digit_value(self.digits[2 * k + 1]);
         }
         count
+    }
+
+    /// The same where they have room there; else `None`, and `out` stays as it was.
+    pub fn try_copy_to(self, out: &mut [u8]) -> Option<usize>
+        ensures none { IfNone result ((length out.old < length self.entry.digits.now / 2) × (out.new ≡ out.old)) }
+        ensures bytes { IfSome result (λ n. hex_of (take n out.new) ≡ self.entry.digits.now) }
+        ensures rest { IfSome result (λ n. drop n out.new ≡ drop n out.old) }
+        ensures count { IfSome result (λ n. n ≡ length self.entry.digits.now / 2) }
+        ensures within { IfSome result (λ n. n ≤ length out.new) }
+        ensures room { length out.new ≡ length out.old }
+    {
+        if out.len() < self.count() {
+            return None;
+        }
+        Some(self.copy_to(out))
     }
 }
 

@@ -2,12 +2,13 @@
 // `listings`. A line that does not ask it is answered `error`.
 #![tactic(auto)]
 
-use input::{Line, Lines};
+ghost use Rattle.std.specs.Prelude.{◌≤◌, length, IfSome};
+
+use input::Found;
 use output::{Failure, Printer};
 use refusals::Refusal;
 use sheet::FormedSheet;
 use sheet_values::{Details, YearValues};
-use std::alloc::Global;
 use tariff::UNITS_PER_EURO_MWH;
 use text::Hex;
 
@@ -20,6 +21,9 @@ const WORD: usize = 16;
 const SHEET: usize = 4096;
 
 const BOOK: usize = 65_536;
+
+// Room for what a line spells: no other is taken while lines are answered.
+type Room = [u8; BOOK];
 
 // What the lines ask.
 #[derive(Clone, Copy, Debug, PartialEq, Eq)]
@@ -41,16 +45,11 @@ fn question_of(word: &[u8]) -> Option<Question> {
 }
 
 fn say_error(out: &mut Printer) -> Result<(), Failure> {
-    out.line("error")
+    out.bytes(b"error\n")
 }
 
 fn say_refused(out: &mut Printer, refusal: Refusal) -> Result<(), Failure> {
     out.line(format_args!("refused {}", refusal.number()))
-}
-
-// The bytes that a line spells to its end, at most so many.
-fn bytes_of(line: &[u8], most: usize) -> Option<Hex<'_>> {
-    Hex::new(line).filter(|bytes| bytes.count() <= most)
 }
 
 // `values`: the year's values of sheets, a line each: class, plant, power, island and the sheet in hexadecimal. For each it prints C,
@@ -59,7 +58,7 @@ fn bytes_of(line: &[u8], most: usize) -> Option<Hex<'_>> {
 fn sheet_of(line: &[u8]) -> Option<(Details, Hex<'_>)> {
     let (class, rest) = text::first_number(line)?;
     let ([plant, power, island], rest) = text::fields::<3>(rest)?;
-    let sheet = bytes_of(rest.strip_prefix(b" ")?, SHEET)?;
+    let sheet = Hex::new(rest.strip_prefix(b" ")?)?;
     let details = Details {
         class: u8::try_from(class).unwrap_or(0),
         plant: u8::try_from(plant).unwrap_or(0),
@@ -80,11 +79,14 @@ fn values_of(sheet: &[u8], details: Details) -> Result<YearValues, Refusal> {
     Ok(YearValues::of(sheet, details))
 }
 
-fn answer_values(out: &mut Printer, alloc: Global, line: &[u8]) -> Result<(), Failure> {
+fn answer_values(out: &mut Printer, room: &mut Room, line: &[u8]) -> Result<(), Failure> {
     let Some((details, sheet)) = sheet_of(line) else {
         return say_error(out);
     };
-    match values_of(&sheet.bytes(alloc)?, details) {
+    let Some(count) = sheet.try_copy_to(&mut room[..SHEET]) else {
+        return say_error(out);
+    };
+    match values_of(&room[..count], details) {
         Ok(values) => {
             let YearValues {
                 value,
@@ -124,14 +126,21 @@ fn answer_table1(out: &mut Printer, line: &[u8]) -> Result<(), Failure> {
     out.line(format_args!("{kind} {power} {euro}"))
 }
 
+// Puts the book that a line spells at the front of the room, and answers its length.
+fn book_of(line: &[u8], room: &mut Room) -> Option<usize>
+    ensures { IfSome result (λ count. count ≤ length room.new) }
+{
+    Hex::new(line)?.try_copy_to(room)
+}
+
 // `verdicts`: the check of books, a line each in hexadecimal. For each it prints `sound`, `faulty` with the index of the record
 // named, or `refused 1` where no book has the length.
 
-fn answer_verdict(out: &mut Printer, alloc: Global, line: &[u8]) -> Result<(), Failure> {
-    let Some(book) = bytes_of(line, BOOK) else {
+fn answer_verdict(out: &mut Printer, room: &mut Room, line: &[u8]) -> Result<(), Failure> {
+    let Some(count) = book_of(line, room) else {
         return say_error(out);
     };
-    match check_book::check(&book.bytes(alloc)?) {
+    match check_book::check(&room[..count]) {
         Ok(_) => out.line("sound"),
         Err(Refusal::FaultyRecord(index)) => out.line(format_args!("faulty {}", index.0)),
         Err(refusal) => say_refused(out, refusal),
@@ -150,42 +159,49 @@ fn say_listing(out: &mut Printer, book: &[u8]) -> Result<(), Failure> {
     out.line("end")
 }
 
-fn answer_listing(out: &mut Printer, alloc: Global, line: &[u8]) -> Result<(), Failure> {
+fn answer_listing(out: &mut Printer, room: &mut Room, line: &[u8]) -> Result<(), Failure> {
     if line == b"-".as_slice() {
         return say_listing(out, b"");
     }
-    let Some(book) = bytes_of(line, BOOK) else {
+    let Some(count) = book_of(line, room) else {
         return say_error(out);
     };
-    say_listing(out, &book.bytes(alloc)?)
+    say_listing(out, &room[..count])
 }
 
 fn answer(
     out: &mut Printer,
-    alloc: Global,
+    room: &mut Room,
     question: Question,
     line: &[u8],
 ) -> Result<(), Failure> {
     match question {
-        Question::Values => answer_values(out, alloc, line),
+        Question::Values => answer_values(out, room, line),
         Question::Table1 => answer_table1(out, line),
-        Question::Verdicts => answer_verdict(out, alloc, line),
-        Question::Listings => answer_listing(out, alloc, line),
+        Question::Verdicts => answer_verdict(out, room, line),
+        Question::Listings => answer_listing(out, room, line),
     }
 }
 
-// A proved loop has to end: no input has as many lines as are taken.
 fn run(rt: &HostRuntime) -> Result<(), Failure> {
     let mut word = [0u8; WORD];
     let question = output::only_argument(rt, &mut word)
         .and_then(question_of)
         .ok_or(Failure::Use)?;
     let mut out = Printer::new(rt.alloc(), rt.stdout());
-    for line in Lines::new(rt.alloc(), rt.stdin()).take(usize::MAX) {
-        match line.map_err(Failure::Input)? {
-            Line::Whole(line) => answer(&mut out, rt.alloc(), question, &line)?,
-            Line::Long => say_error(&mut out)?,
-            Line::Half => return say_error(&mut out),
+    let mut input = rt.stdin();
+    let mut room = [0; BOOK];
+    let mut lent = input::line_buffer();
+    let mut held = input::start();
+    // A proved loop has to end: no input has as many lines as are counted.
+    for _ in 0..u64::MAX {
+        match input::next_line(&mut input, &mut lent, &mut held).map_err(Failure::Input)? {
+            Some(Found::Whole { from, to }) => {
+                answer(&mut out, &mut room, question, &lent[from..to])?;
+            }
+            Some(Found::Long) => say_error(&mut out)?,
+            Some(Found::Half) => return say_error(&mut out),
+            None => return Ok(()),
         }
     }
     Ok(())

@@ -2,7 +2,7 @@
 use Rattle.std.proofs.Common.{rules, ◌≡◌, [], refl, sym, subst, arith, append-nil, length-take-le}
 use Rattle.std.proofs.KnownBytes.{Consumes-nil}
 use Rattle.input.specs.Input.{Unfed}
-use Rattle.input.proofs.LentFound.{front_is, front_held, none_in_front, nothing_front, behind_feed}
+use Rattle.input.proofs.LentFound.{front_is, front_held, none_in_front, nothing_front, behind_feed, feed_before}
 use Rattle.input.proofs.PassedOver.{passed_more, passed_line, passed_end, passed_failed, passed_given_up}
 use Rattle.input.proofs.pass_over.Goals as goal
 
@@ -20,7 +20,7 @@ pub returns-in_err-read_behind : goal.returns-in_err-read_behind
 returns-in_err-read_behind g c =
     let step = c.read_behind.ensures in
     passed_failed _ _ _ _ _ c.loop.invariant.passed _ step.taken _ _ (record { next = omega arith; filled = step.within }) _ (search rules)
-    c.requires.none (front_is _ _)
+    c.requires.none (nothing_front _ _ c.in_err-read_behind.ensures.failed) (front_is _ _)
 
 pub returns-then-branch-eq0 : goal.returns-then-branch-eq0
 returns-then-branch-eq0 g c =
@@ -38,6 +38,7 @@ returns-in-Some g c =
     let long = length-take-le c.read_behind.new.filled c.read_behind.new.bytes step.within in
     passed_line _ _ _ _ _ c.loop.invariant.passed _ step.taken _ _ (record { next = omega (arith, feed.within, long); filled = step.within })
     at (omega (arith, step.same, c.loop.invariant.room)) feed (behind_feed _ at _)
+    (feed_before c.read_behind.new.filled at c.read_behind.new.bytes step.within feed)
 
 pub loop-preserved : goal.loop-preserved
 loop-preserved g c =

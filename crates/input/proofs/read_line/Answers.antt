@@ -10,8 +10,12 @@ returns-in_err-read_behind g c =
     let before = c.loop-held.invariant in
     let step = c.in_err-read_behind.ensures in
     let is : c.from_residual.result ≡ Err c.in_err-read_behind.field-0.0 = search rules in
+    let now = length-take-le c.read_behind.new.filled c.read_behind.new.bytes step.within in
+    let held = length-take-le c.loop-held.held.filled c.loop-held.bytes before.within in
     failed_at _ _ _ _ (starts_with_trans _ _ _ step.appends before.appends) (Consumes-more _ _ _ _ _ _ before.appends step.appends before.taken step.taken)
-    _ _ _ _ is (record { next = omega (arith, before.next); filled = step.within }) (sym (front_held _ _ before.next)) step.retried c.requires.none
+    _ _ _ _ is (record { next = omega (arith, before.next); filled = step.within })
+    (unfed_still _ _ (omega (arith, now, held, step.failed)) step.appends before.none)
+    (sym (front_held _ _ before.next)) step.retried c.requires.none
 
 pub returns-then-branch-eq0 : goal.returns-then-branch-eq0
 returns-then-branch-eq0 g c =
