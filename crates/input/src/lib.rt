@@ -26,6 +26,9 @@ pub const BOOK: usize = LONGEST + 1;
 // What is read at once.
 const PIECE: usize = 65_536;
 
+// What is read at once where there is no memory for more.
+const SMALL_PIECE: usize = 8192;
+
 // A proved loop has to end: the reads are counted to a number that no input needs, and this is the failure behind it.
 fn gave_up() -> io::Error
     ensures { error_kind result ≡ ErrorKind.TimedOut }
@@ -68,7 +71,8 @@ fn read_behind<R: io::Read>(from: &mut R, bytes: &mut [u8], filled: &mut usize) 
     Ok(count)
 }
 
-// One read behind what is held. Room is made first, so that no byte is lost where there is no memory.
+// One read behind what is held. Room is made first, so that no byte is lost where there is no memory, and where there is little,
+// less is read at once.
 fn read_piece<R: io::Read>(from: &mut R, most: usize, held: &mut Vec<u8>) -> io::Result<usize>
     ensures appends { StartsWith held.new.items held.old.items }
     ensures taken { Consumes (R.remaining from.old) (R.remaining from.new) (appended_bytes held.old.items held.new.items) }
@@ -78,8 +82,11 @@ fn read_piece<R: io::Read>(from: &mut R, most: usize, held: &mut Vec<u8>) -> io:
     ensures retried { IfErr result (λ e. error_kind e ≢ ErrorKind.Interrupted) }
 {
     let mut piece = [0u8; PIECE];
-    let room = most.min(PIECE);
-    held.reserve(room)?;
+    let mut room = most.min(PIECE);
+    if held.reserve(room).is_err() {
+        room = room.min(SMALL_PIECE);
+        held.reserve(room)?;
+    }
     let count = read_again(from, &mut piece[..room])?;
     held.extend_from_slice(&piece[..count]).unwrap();
     Ok(count)
